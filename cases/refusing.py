@@ -41,6 +41,31 @@ create n1 ev C
 open n1 ps A |1 register:x1 |2 leave:x1
 close f1
 """
+# Lines that are refused for their settings or skipped, whatever memory there is; and some that make what they need.
+NEEDING_NONE = b"""\
+node
+create n1 ps A nodes=16777216
+create n1 ev A nodes=16777216
+create n1 rr A nodes=16777216
+create n1 ps A overflow=0 buffer=1 history=2
+loan p1 1
+loan_uninit p1 1
+put p1 1
+receive s1
+create n1 ps A
+publisher f1
+subscriber f1
+put p1 1
+create n1 ps B nodes=16777216 @a=b
+create n1 ps B overflow=0 buffer=1 history=2
+loan p2 1
+loan_uninit p2 1
+receive s2
+leave p1
+loan p1 1
+leave s1
+receive s1
+"""
 REFUSER = r"""
 #define _GNU_SOURCE
 #include <fcntl.h>
@@ -225,7 +250,7 @@ def run(program, library, folder, script, each, words=(), most=1 << 40):
 
 
 def outcomes(program, library, script):
-    """Yields for each request of a row its number, the verb of its line, and what came of the run in which it is refused."""
+    """Yields for each request of a row the place of its line, its verb, and what came of the run in which it is refused."""
     row = Row(script)
     with tempfile.TemporaryDirectory(prefix="iox-check-") as name:
         folder = Path(name)
@@ -242,7 +267,7 @@ def outcomes(program, library, script):
             what = row.judge(at, os.waitstatus_to_exitcode(ended), got, said)
             if what is None:
                 raise Differs(f"request {number} refused, at line {at + 1}, {line!r}: status {ended}, {said!r}, {got}")
-            yield number, line.split()[0], what
+            yield at, line.split()[0], what
 
 
 @case_of_program
@@ -256,6 +281,18 @@ def each_request_of_a_row_for_memory_that_is_refused_is_told_or_ends_the_run():
     met = [(it, "refused") for it in ("create", "open", "open_or_create", "foreign", "publisher", "subscriber")]
     met += [("publisher", "unconnected"), ("subscriber", "unconnected"), ("node", "ended"), ("receive", "ended")]
     expect([it for it in met if not seen[it]], [])
+
+
+@case_of_program
+def what_is_told_without_memory_comes_before_want_of_it():
+    wanted = Wanted()
+    program = wanted.proved if wanted.proved.exists() else wanted.unproved
+    with tempfile.TemporaryDirectory(prefix="iox-check-") as folder:
+        met = {(at, what) for at, _, what in outcomes(program, refuser_in(folder), NEEDING_NONE)}
+    told = [at for at, it in enumerate(replies(NEEDING_NONE)) if it == "skip" or it.startswith("err")]
+    expect((len(told), [at for at in told if (at, "refused") in met]), (15, []))
+    # One line further it is found wanting.
+    expect((NEEDING_NONE.splitlines().index(b"create n1 ps A"), "refused") in met, True)
 
 
 def refusals_in(tests, library, name):

@@ -50,9 +50,9 @@ PASSED_ON = {"".join(word.capitalize() for word in it.name.removeprefix("iox_").
 
 
 def without_way(path):
-    """Returns a path to a definition by its own crate, where another crate hands the definitions of that crate on."""
+    """Returns a path to a definition by its own crate, where others hand the definitions of that crate on."""
     way = re.fullmatch(r"Rattle\.\w+\.specs\.(\w+)(\.\w.*)", path)
-    return f"Rattle.{PASSED_ON[way[1]]}.specs{way[2]}" if way and way[1] in PASSED_ON else path
+    return without_way(f"Rattle.{PASSED_ON[way[1]]}.specs{way[2]}") if way and way[1] in PASSED_ON else path
 
 
 class Uses:

@@ -4,7 +4,7 @@ use Rattle.std.proofs.Common.{OnErr, IfErr, is_err, ◌++◌, ◌∙◌, length,
 use Rattle.std.proofs.lemmas.List.{append-nil}
 use Rattle.std.specs.Io.KnownBytes.{Appends, Consumes}
 use Rattle.std.proofs.KnownBytes.{Consumes-whole}
-use Rattle.iox_conversation.specs.Lines.{heard}
+use Rattle.iox_conversation.proofs.Shorthands.{heard}
 use Rattle.iox_conversation.specs.Conversation.{Served, SessionState, Advances, StopsShort, Ends, IsConversation, Converses, AreBegun}
 use Rattle.iox_conversation.specs.Conversation.{IsDue, BreaksOff, WritesABeginning}
 use Rattle.iox_conversation.specs.declared.error.ServeError.{ServeError}

@@ -1,3 +1,4 @@
+pub mod Shorthands
 pub mod Rest
 pub mod LineLemmas
 pub mod WholeLineLemmas

@@ -6,8 +6,8 @@ use Rattle.std.proofs.lemmas.List.{append-nil, take_all, take_min}
 use Rattle.std.proofs.Math.Nat.{min_comm}
 use Rattle.std.proofs.Math.Seq.{take-append-add}
 use Rattle.std.proofs.lemmas.Grind.{common_steps}
+use Rattle.iox_conversation.proofs.Shorthands.{heard, lines_of, onto_first}
 use Rattle.iox_conversation.proofs.Rest.{take-rest}
-use Rattle.iox_conversation.specs.Lines.{onto_first, lines_of, heard}
 
 -- no byte of it is a newline
 abbrev pub is_unbroken : List ℕ → Bool

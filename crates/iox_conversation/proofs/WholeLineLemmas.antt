@@ -1,8 +1,9 @@
 -- What is heard of lines that were read whole.
 use Rattle.std.proofs.Common.{◌≡◌, ℕ, ◌==◌, Bool, true, false, List, [], ◌∷◌, ◌++◌, ◌∙◌, map, take, refl, sym, ap, arith, if◌then◌else◌}
 use Rattle.std.proofs.lemmas.Grind.{common_steps}
+use Rattle.iox_conversation.proofs.Shorthands.{before_first_of, ended_lines_of, heard, lines_of, onto_first}
 use Rattle.iox_conversation.proofs.LineLemmas.{is_unbroken, heard-whole}
-use Rattle.iox_conversation.specs.Lines.{onto_first, before_first_of, lines_of, heard, ended_lines_of, heard_whole}
+use Rattle.iox_conversation.specs.Lines.{heard_whole}
 
 -- a byte before some lines is one before the first of them, or before the first of the others
 onto-more : (b : ℕ) (lines others : List (List ℕ)) → (more : List (List ℕ))

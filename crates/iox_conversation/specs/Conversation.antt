@@ -3,7 +3,7 @@
 use Rattle.std.specs.Prelude.{◌≡◌, ◌⊎◌, ℕ, ◌+◌, ◌^◌, ◌<◌, ◌≤◌, ◌==◌, Bool, true, false, not, List, [], ◌∷◌, ◌++◌, Option, length}
 use Rattle.std.specs.List.{list_all}
 use Rattle.std.specs.Io.KnownBytes.{Consumes, Appends, IsAtEnd}
-use Rattle.iox_conversation.specs.Lines.{heard, heard_whole}
+use Rattle.iox_conversation.specs.Lines.{heard_whole}
 use Rattle.iox_conversation.specs.declared.error.ServeError.{ServeError}
 use Rattle.iox_conversation.specs.declared.error.ServeError.TheVariants.{ReadFault, WriteFault, OutOfMemory}
 
@@ -16,7 +16,7 @@ Served {M} answers old (line ∷ lines) out new =
 
 -- the output answers each line of the input, from here on
 abbrev pub IsConversation : {M : Type 0} → (M → List ℕ → List ℕ → M → Type 0) → M → List ℕ → List ℕ → Type 0
-IsConversation {M} answers start input out = (final : M) × Served answers start (heard input) out final
+IsConversation {M} answers start input out = (final : M) × Served answers start (heard_whole true input) out final
 
 -- a conversation under way: who answers, and what was heard of the line that isn't whole yet
 pub record SessionState (M : Type 0) : Type 0 where
@@ -28,7 +28,7 @@ pub record Advances {M : Type 0} (answers : M → List ℕ → List ℕ → M �
     → ℕ) (old : SessionState M) (bytes out : List ℕ) (new : SessionState M) : Type 0 where
   pub done : List (List ℕ)
   pub served : Served answers old.machine done out new.machine
-  pub lines : (rest : List ℕ) → heard (old.line ++ (bytes ++ rest)) ≡ done ++ heard (new.line ++ rest)
+  pub lines : (rest : List ℕ) → heard_whole true (old.line ++ (bytes ++ rest)) ≡ done ++ heard_whole true (new.line ++ rest)
   pub counts : used new.machine ≤ used old.machine + length bytes
 
 -- Those bytes answer each line that is whole by the first of these, and the others end a line.
@@ -45,7 +45,7 @@ pub record StopsShort {M : Type 0} (answers : M → List ℕ → List ℕ → M 
 -- these bytes came last, and those answer each line
 pub record Ends {M : Type 0} (answers : M → List ℕ → List ℕ → M → Type 0) (old : SessionState M) (bytes out : List ℕ) : Type 0 where
   pub final : M
-  pub served : Served answers old.machine (heard (old.line ++ bytes)) out final
+  pub served : Served answers old.machine (heard_whole true (old.line ++ bytes)) out final
 
 -- A conversation from here to the end of the input: what was left, of 2^36 bytes at most, was read to its end, and what was written answers
 -- it.

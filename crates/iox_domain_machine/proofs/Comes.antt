@@ -66,10 +66,11 @@ use Rattle.iox_domain_machine.proofs.TableEnds.{at_end}
 use Rattle.iox_domain_machine.proofs.UpdateLists.{mapped_at}
 use Rattle.iox_domain_machine.proofs.UpdateMachine.{connects, only_boxes}
 use Rattle.iox_domain_machine.proofs.UpdatingSubscriber.{IsReady, update_stands}
+use Rattle.iox_machine.proofs.Shorthands.{registered}
 use Rattle.iox_machine.specs.Choices.{Choices}
 use Rattle.iox_machine.specs.Arriving.{SubscriberArrives}
 use Rattle.iox_machine.specs.Arriving as machine
-use Rattle.iox_machine.specs.PortList.{PortList, registered, those}
+use Rattle.iox_machine.specs.PortList.{PortList, those}
 use Rattle.iox_machine.specs.Service.{Service, Subscriber, connect, with_mailbox}
 use Rattle.iox_machine.specs.Service as service_of
 use Rattle.iox_machine.specs.State.{State, Factory, is_service_of}

@@ -41,7 +41,7 @@ use Rattle.iox_domain_machine.proofs.FollowStands.{none_pass}
 use Rattle.iox_domain_machine.proofs.Found.{same_some, never_some, never_true, same_everywhere}
 use Rattle.iox_domain_machine.proofs.ReleasePort.{differ}
 use Rattle.iox_domain_machine.proofs.TableEnds.{at_end}
-use Rattle.iox_machine.specs.PortList.{registered}
+use Rattle.iox_machine.proofs.Shorthands.{registered}
 use Rattle.iox_machine.specs.Service.{Publisher, Service}
 use Rattle.iox_machine.specs.Table.{at}
 

@@ -29,8 +29,8 @@ use Rattle.iox_domain_machine.proofs.ComesNames.{another_name, came_earlier, kep
 use Rattle.iox_domain_machine.proofs.ComesTables.{at_end_other, each_fails, often_came}
 use Rattle.iox_domain_machine.proofs.Found.{same_some, never_some, never_true}
 use Rattle.iox_domain_machine.proofs.TableEnds.{at_end}
+use Rattle.iox_machine.proofs.Shorthands.{registered}
 use Rattle.iox_machine.specs.Mailbox.{Mailbox}
-use Rattle.iox_machine.specs.PortList.{registered}
 use Rattle.iox_machine.specs.Service.{Service, Subscriber}
 use Rattle.iox_machine.specs.Table.{at}
 

@@ -27,7 +27,7 @@ use Rattle.iox_domain_machine.proofs.LeavePort.{none_set}
 use Rattle.iox_domain_machine.proofs.Leaving.{gone_at}
 use Rattle.iox_domain_machine.proofs.ReleaseSettling.{subscriber_settled}
 use Rattle.iox_machine.specs.Mailbox.{Mailbox}
-use Rattle.iox_machine.specs.PortList as machine_list
+use Rattle.iox_machine.proofs.Shorthands as shorthands
 use Rattle.iox_machine.specs.Service.{Service, Subscriber}
 use Rattle.iox_machine.specs.Service as machine
 use Rattle.iox_machine.specs.Table.{at, changed}
@@ -117,7 +117,7 @@ module _ {T U : Type 0} (names : Naming) (lent : List (ℕ × LentSlot)) (held :
 
   abbrev pub service_after : Service T
   service_after = machine.with_subscriber name left_subscriber
-      (record service { subscriber_list = machine_list.left name service.subscriber_list })
+      (record service { subscriber_list = shorthands.left name service.subscriber_list })
 
   now_left : subscriber_of number new.subscribers ≡ Some left_port
   now_left = same_set (at_number number) old.subscribers left_port port there
@@ -152,9 +152,9 @@ module _ {T U : Type 0} (names : Naming) (lent : List (ℕ × LentSlot)) (held :
       ap (λ b. if b then (if is_listed port.place old.subscriber_list then roll else old.subscriber_list) else old.subscriber_list) may
       ∙ ap (λ member. if is_some member then roll else old.subscriber_list) at_place.1
 
-  same_list : machine_list.left name service.subscriber_list ≡ list_as namer roll
+  same_list : shorthands.left name service.subscriber_list ≡ list_as namer roll
   same_list =
-      ap (machine_list.left name) stands.subscriber_list
+      ap (shorthands.left name) stands.subscriber_list
       ∙ ap (λ (all : List (Option ℕ)). record { places = all; changes = old.subscriber_list.changes + 1 })
       (gone_at namer name port.place places
       (λ place one is same.

@@ -40,7 +40,7 @@ use Rattle.iox_domain_machine.proofs.LeavePort.{HasParted, parts, none_set, left
 use Rattle.iox_domain_machine.proofs.LeaveSamples.{samples_alike}
 use Rattle.iox_domain_machine.proofs.Settling.{settled_stands}
 use Rattle.iox_machine.specs.Choices.{Choices}
-use Rattle.iox_machine.specs.PortList as machine_list
+use Rattle.iox_machine.proofs.Shorthands as shorthands
 use Rattle.iox_machine.specs.PortList.{unless}
 use Rattle.iox_machine.specs.Ports.{publisher_in}
 use Rattle.iox_machine.specs.Replies.{IsSkipped}
@@ -135,9 +135,9 @@ module _ {T U : Type 0} (names : Naming) (lent : List (ℕ × LentSlot)) (held :
   is_port : (other : ℕ) (found : PublisherPort T U) → other ≡ number → port_of other old.publishers ≡ Some found → found ≡ port
   is_port other found same is = same_some found port (sym is ∙ ap (λ n. port_of n old.publishers) same ∙ there)
 
-  same_list : machine_list.left name service.publisher_list ≡ list_as namer roll
+  same_list : shorthands.left name service.publisher_list ≡ list_as namer roll
   same_list =
-      ap (machine_list.left name) stands.publisher_list
+      ap (shorthands.left name) stands.publisher_list
       ∙ ap (λ (all : List (Option ℕ)). record { places = all; changes = old.publisher_list.changes + 1 })
       (gone_at namer name port.place places
       (λ place one is same.
@@ -192,7 +192,7 @@ module _ {T U : Type 0} (names : Naming) (lent : List (ℕ × LentSlot)) (held :
 
   abbrev service_after : Service T
   service_after = machine.with_publisher name gone_publisher
-      (record service { publisher_list = machine_list.left name service.publisher_list })
+      (record service { publisher_list = shorthands.left name service.publisher_list })
 
   given_stands : StandsFor names lent held buffer (record new { publisher_list = roll }) service_after
   given_stands =
@@ -204,7 +204,7 @@ module _ {T U : Type 0} (names : Naming) (lent : List (ℕ × LentSlot)) (held :
       (left_boxes port after parted silent (names.message number) (names.reader number) names.subscriber
       (service.mailboxes name) service.subscribers was.3)
       (λ other off. refl) (λ one other. refl) (λ other. refl) stands.once_subscribers
-      roll (machine_list.left name service.publisher_list) same_list
+      roll (shorthands.left name service.publisher_list) same_list
       (λ other found is. listed other found (cases_eq other number) is)
       (λ place member is. present place member (cases_eq place port.place) is)
       (λ other found is. keyed other found (cases_eq other number) is) loans_after samples_after
@@ -228,7 +228,7 @@ module _ {T U : Type 0} (types : MessageTypeDetails) (choices : Choices T) (buff
   Does one before answered later = MatchOption one.blocked
       ((answered ≡ reply.Done)
       × (later ≡ machine.with_publisher its_name (record one { stands = false })
-      (record before { publisher_list = machine_list.left its_name before.publisher_list })))
+      (record before { publisher_list = shorthands.left its_name before.publisher_list })))
       (λ send. IsSkipped before answered later)
 
   abbrev Result : Bool → ServicePorts T U → Type 0

@@ -29,7 +29,7 @@ use Rattle.iox_domain_machine.proofs.LeaveDetaching.{left_all_stands}
 use Rattle.iox_domain_machine.proofs.LeaveReading.{still_reads}
 use Rattle.iox_domain_machine.proofs.LeaveSubscriber.{service_after, leave_stands}
 use Rattle.iox_machine.specs.Choices.{Choices}
-use Rattle.iox_machine.specs.PortList as machine_list
+use Rattle.iox_machine.proofs.Shorthands as shorthands
 use Rattle.iox_machine.specs.Ports.{subscriber_in}
 use Rattle.iox_machine.specs.Service.{Service, Subscriber}
 use Rattle.iox_machine.specs.Service as machine
@@ -56,7 +56,7 @@ module _ {T U : Type 0} (types : MessageTypeDetails) (choices : Choices T) (buff
   Does one before answered later =
       (answered ≡ reply.Done)
       × (later ≡ machine.with_subscriber name (record one { stands = false })
-      (record before { subscriber_list = machine_list.left name before.subscriber_list }))
+      (record before { subscriber_list = shorthands.left name before.subscriber_list }))
 
   abbrev Result : Bool → ServicePorts T U → Type 0
   Result answer new = Matches T U choices types buffer (command.Leave (number_of.Subscriber name)) (done_or_skipped answer) state

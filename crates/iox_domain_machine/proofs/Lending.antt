@@ -2,10 +2,10 @@
 use Rattle.std.proofs.Common.{◌≡◌, ◌≢◌, ◌≤◌, ◌<◌, ◌+◌, ◌*◌, ◌∷◌, [], ◌&&◌, ℕ, Bool, true, false, cond, List, length, map, nat_le, nat_lt}
 use Rattle.std.proofs.Common.{is_some, Option, None, Some, Result, Ok, Err, refl, sym, ap, subst, inl, inr, ◌∙◌, arith, if◌then◌else◌}
 use Rattle.std.proofs.Math.Logic.{⊎_elim}
-use Rattle.std.proofs.lemmas.Bool.{cases_Bool, eq-eqb, eqb-true, ne_eqb}
+use Rattle.std.proofs.lemmas.Bool.{cases_Bool, eq-eqb, eqb-true, ltb-true, ne_eqb}
 use Rattle.std.proofs.lemmas.Bool.Decides.{eqb_tells}
 use Rattle.std.proofs.lemmas.Map.Steps.{set_value_same}
-use Rattle.std.specs.Prelude.{filter, MatchBool, MatchOption, ◌==◌}
+use Rattle.std.specs.Prelude.{◌^◌, ◌==◌, filter, MatchBool, MatchOption}
 use Rattle.iox_command.specs.DomainValues.Segments.{SegmentLength}
 use Rattle.iox_command.specs.DomainValues.declared.data_segment.AllocationStrategy.{AllocationStrategy}
 use Rattle.iox_command.specs.DomainValues.declared.data_segment.AllocationStrategy.TheVariants as strategy
@@ -48,7 +48,7 @@ use Rattle.iox_domain_machine.proofs.LendingNames.{lent_at}
 use Rattle.iox_domain_machine.proofs.LendingStands.{service_after, lent_stands}
 use Rattle.iox_domain_machine.proofs.LendingTally.{Tells}
 use Rattle.iox_machine.specs.Choices.{Choices}
-use Rattle.iox_machine.specs.Lending.{how_many, is_static, loans_of, LendsLonger, loan_refusal, Lends}
+use Rattle.iox_machine.specs.Lending.{IsRoomFor, how_many, is_static, loans_of, LendsLonger, loan_refusal, Lends}
 use Rattle.iox_machine.specs.Lending as lending
 use Rattle.iox_machine.specs.Message as machine
 use Rattle.iox_machine.specs.Ports.{publisher_in, LendsLoan}
@@ -68,6 +68,17 @@ and_true false = refl
 length_mapped : {X Y : Type 0} (f : X → Y) (xs : List X) → length (map f xs) ≡ length xs
 length_mapped f [] = refl
 length_mapped f (x ∷ xs) = omega (arith, length_mapped f xs)
+
+-- a new segment has the room that the machine gives it
+room-for : (allocation : AllocationStrategy) (values room : ℕ) → SegmentLength allocation values (Some room)
+    → IsRoomFor allocation values room × (room < 2 ^ 32)
+room-for strategy.BestFit values room is = here (nat_lt values (2 ^ 32)) refl is
+  where
+    here : (b : Bool) → nat_lt values (2 ^ 32) ≡ b → Some room ≡ cond b (Some values) None → (room ≡ values) × (room < 2 ^ 32)
+    here true few e = let same = same_some room values e in (same, omega (arith, same, ltb-true values (2 ^ 32) few))
+    here false many e = absurd (never_some room (sym e))
+room-for strategy.PowerOfTwo values room is = is
+room-for strategy.Static values room is = absurd (never_some room (sym is))
 
 -- the loans of a publisher of the machine are those of a domain's
 named_by : {T : Type 0} (f : LentSlot → machine.Loan T) (name : ℕ → ℕ) (b c : Bool) (entry : ℕ × LentSlot)
@@ -373,15 +384,15 @@ module _ {T U : Type 0} (types : MessageTypeDetails) (choices : Choices T) (buff
             not_static = sym (ap (λ b. b && is_static publisher.allocation) longer) ∙ not_long
 
             length_is : (room : ℕ) → SegmentRoom port.allocation port.unit values values (Some room)
-                → SegmentLength publisher.allocation values (Some room)
+                → IsRoomFor publisher.allocation values room × (room < 2 ^ 32)
             length_is room is =
                 let times_one : values ≡ values * 1 = omega arith in
                 let opened = counts_elements.opens port.allocation 1 values room
                 (subst (λ n. SegmentRoom port.allocation 1 n values (Some room)) times_one
                 (subst (λ unit. SegmentRoom port.allocation unit values values (Some room)) was.2.unit is)) in
                 let same : opened.0 ≡ room = omega (arith, opened.2) in
-                subst (λ allocation. SegmentLength allocation values (Some room)) (sym was.2.allocation)
-                (subst (λ n. SegmentLength port.allocation values (Some n)) same opened.1)
+                subst (λ allocation. IsRoomFor allocation values room × (room < 2 ^ 32)) (sym was.2.allocation)
+                (room-for port.allocation values room (subst (λ n. SegmentLength port.allocation values (Some n)) same opened.1))
 
             in_new : (room : ℕ) → SegmentRoom port.allocation port.unit values values (Some room)
                 → port.sender.segments < port.sender.most_segments → (result : Result ℕ LoanError) (after : PublisherPort T U)

@@ -23,7 +23,7 @@ use Rattle.iox_domain_machine.specs.Publishers.{PublisherStandsFor}
 use Rattle.iox_domain_machine.proofs.Found.{never_true}
 use Rattle.iox_domain_machine.proofs.Named.{named_less, lent_used}
 use Rattle.iox_domain_machine.proofs.ReleasePort.{live_isn't_ended, live_open, less_held, used}
-use Rattle.iox_machine.specs.Mailbox as machine
+use Rattle.iox_machine.proofs.Shorthands as shorthands
 use Rattle.iox_machine.specs.Mailbox.{Mailbox}
 use Rattle.iox_machine.specs.Service.{Publisher, Subscriber}
 use Rattle.iox_machine.specs.Table.{at}
@@ -38,7 +38,7 @@ left_named f (one ∷ waiting) = refl
 
 -- the mailbox of what was taken is the mailbox that was taken of
 pub mailbox_taken : {T U : Type 0} (name : ℕ → ℕ) (connection : Connection (Message T U))
-    → mailbox_as name (taken connection) ≡ machine.taken (mailbox_as name connection)
+    → mailbox_as name (taken connection) ≡ shorthands.taken (mailbox_as name connection)
 mailbox_taken {T} name connection =
     ap (λ (borrowed : List _). record {
       limit = connection.limit;

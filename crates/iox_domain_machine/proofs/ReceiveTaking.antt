@@ -30,7 +30,7 @@ use Rattle.iox_domain_machine.proofs.Kept.{loans_kept}
 use Rattle.iox_domain_machine.proofs.ReceivePort.{mailbox_taken, port_after, boxes_after, live_still, tidy_after}
 use Rattle.iox_domain_machine.proofs.ReceiveSamples.{after_taking, holding_one_more, received_as, samples_after, taken_as}
 use Rattle.iox_domain_machine.proofs.Releasing.{box_now, others_box, other_boxes, same_boxes}
-use Rattle.iox_machine.specs.Mailbox as machine
+use Rattle.iox_machine.proofs.Shorthands as shorthands
 use Rattle.iox_machine.specs.Mailbox.{Mailbox}
 use Rattle.iox_machine.specs.Service.{Service, mailbox, with_mailbox}
 use Rattle.iox_machine.specs.Table.{at}
@@ -81,7 +81,7 @@ module _ {T U : Type 0} (names : Naming) (lent : List (ℕ × LentSlot)) (held :
   box_is = ap (λ (found : Option (Mailbox T)). unwrap_or found (record { limit = 0; waiting = []; borrowed = [] })) box_there
 
   abbrev box : Mailbox T
-  box = machine.taken (mailbox name (names.subscriber number) service)
+  box = shorthands.taken (mailbox name (names.subscriber number) service)
 
   -- the machine's service after it
   abbrev pub service_after : Service T
@@ -94,7 +94,7 @@ module _ {T U : Type 0} (names : Naming) (lent : List (ℕ × LentSlot)) (held :
       boxes_after publisher giver.index read.live some_wait (names.message giver.publisher) (names.reader giver.publisher)
       names.subscriber (service.mailboxes name) (service_after.mailboxes name) service.subscribers was.3
       (ap (service_after.mailboxes name) reads ∙ box_now name (names.subscriber number) box service
-      ∙ ap (λ (box : Mailbox T). Some (machine.taken box)) box_is
+      ∙ ap (λ (box : Mailbox T). Some (shorthands.taken box)) box_is
       ∙ ap (λ (box : Mailbox T). Some box) (sym (mailbox_taken (names.message giver.publisher) (connection_of giver.index publisher))))
       (λ other off. others_box name (names.subscriber number) box service other (λ same. off (same ∙ sym reads)))
 

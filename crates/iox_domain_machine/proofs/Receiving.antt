@@ -48,7 +48,8 @@ use Rattle.iox_domain_machine.proofs.ReceiveSamples.{after_taking, holding_one_m
 use Rattle.iox_domain_machine.proofs.ReceiveSweeping.{HasSwept, not_idle, set_again, sweep_stands, swept_to}
 use Rattle.iox_domain_machine.proofs.ReceiveTaking.{box_is, service_after, taking_hears, taking_sound, taking_stands}
 use Rattle.iox_domain_machine.proofs.Releasing.{other_boxes}
-use Rattle.iox_machine.specs.Mailbox.{has_data, is_idle, taken}
+use Rattle.iox_machine.proofs.Shorthands.{taken}
+use Rattle.iox_machine.specs.Mailbox.{has_data, is_idle}
 use Rattle.iox_machine.specs.Message.{Sample}
 use Rattle.iox_machine.specs.PortList.{those}
 use Rattle.iox_machine.specs.Receiving as machine

@@ -27,7 +27,7 @@ use Rattle.iox_domain_machine.proofs.Found.{same_some}
 use Rattle.iox_domain_machine.proofs.Named.{named_less, lent_used}
 use Rattle.iox_domain_machine.proofs.Quiet.{back_quiet}
 use Rattle.iox_domain_machine.proofs.ReleaseOthers.{in_others, removed_is, named_in_others, NamesAlone}
-use Rattle.iox_machine.specs.Mailbox as machine
+use Rattle.iox_machine.proofs.Shorthands as shorthands
 use Rattle.iox_machine.specs.Mailbox.{Mailbox}
 use Rattle.iox_machine.specs.Message as messages
 use Rattle.iox_machine.specs.Service.{Publisher, Subscriber}
@@ -273,10 +273,10 @@ module _ {T U : Type 0} (port : PublisherPort T U) (index slot : ℕ) (tidy : Is
   module _ (name reader subscriber : ℕ → ℕ) (mailboxes new_mailboxes : ℕ → Option (Mailbox T)) (subscribers : List (ℕ × Subscriber))
       (boxes : MailboxesStandFor name reader subscriber port mailboxes subscribers) (only : NamesAlone name slot was.borrowed)
       (box : Mailbox T) (box_there : mailboxes (reader index) ≡ Some box)
-      (now : new_mailboxes (reader index) ≡ Some (machine.given_back (name slot) box))
+      (now : new_mailboxes (reader index) ≡ Some (shorthands.given_back (name slot) box))
       (others : (other : ℕ) → other ≢ reader index → new_mailboxes other ≡ mailboxes other) where
     abbrev new_box : Mailbox T
-    new_box = machine.given_back (name slot) box
+    new_box = shorthands.given_back (name slot) box
 
     filtered : filter (λ (message : messages.Message T). not (message.number == name slot)) (map (message_as name) was.borrowed)
         ≡ map (message_as name) rest
@@ -306,7 +306,7 @@ module _ {T U : Type 0} (port : PublisherPort T U) (index slot : ℕ) (tidy : Is
         let live_was : is_live index port ≡ true = ap (λ i. is_live i port) (sym same) ∙ live_before i is in
         let it : box ≡ mailbox_as name was = same_some box (mailbox_as name was) (sym box_there ∙ boxes.live index live_was) in
         ap (λ i. new_mailboxes (reader i)) same ∙ now
-        ∙ ap (λ (one : Mailbox T). Some (machine.given_back (name slot) one)) it
+        ∙ ap (λ (one : Mailbox T). Some (shorthands.given_back (name slot) one)) it
         ∙ ap (λ (borrowed : List (messages.Message T)). Some (record (mailbox_as name was) { borrowed = borrowed })) filtered
         ∙ ⊎_elim
         (λ kept. ap (λ (connection : Connection (Message T U)). Some (mailbox_as name connection)) (sym (here ∙ back_is ∙ kept)))

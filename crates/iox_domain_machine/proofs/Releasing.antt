@@ -51,7 +51,7 @@ use Rattle.iox_domain_machine.proofs.ReleaseSettling.{subscriber_settled}
 use Rattle.iox_domain_machine.proofs.Removing.{placed, but, often_removed}
 use Rattle.iox_domain_machine.proofs.Settling.{both, settled_stands}
 use Rattle.iox_machine.specs.Choices.{Choices}
-use Rattle.iox_machine.specs.Mailbox as machine
+use Rattle.iox_machine.proofs.Shorthands.{given_back}
 use Rattle.iox_machine.specs.Mailbox.{Mailbox}
 use Rattle.iox_machine.specs.Message.{Sample}
 use Rattle.iox_machine.specs.Ports as ports
@@ -217,13 +217,13 @@ module _ {T U : Type 0} (names : Naming) (lent : List (ℕ × LentSlot)) (held :
     gone = sample_as names old taken
 
     abbrev given : Mailbox T
-    given = machine.given_back gone.message.number (mailbox gone.publisher gone.subscriber service)
+    given = given_back gone.message.number (mailbox gone.publisher gone.subscriber service)
 
     abbrev service_after : Service T
     service_after = with_mailbox gone.publisher gone.subscriber given (record service { samples = removed sample service.samples })
 
-    given_is : given ≡ machine.given_back (names.message taken.publisher taken.slot) has_box.0
-    given_is = ap (λ (found : Option (Mailbox T)). machine.given_back gone.message.number
+    given_is : given ≡ given_back (names.message taken.publisher taken.slot) has_box.0
+    given_is = ap (λ (found : Option (Mailbox T)). given_back gone.message.number
         (unwrap_or found (record { limit = 0; waiting = []; borrowed = [] }))) box_there
 
     boxes_now : MailboxesStandFor (names.message taken.publisher) (names.reader taken.publisher) names.subscriber back

@@ -45,6 +45,7 @@ use Rattle.iox_domain_machine.proofs.SendNames.{named_still}
 use Rattle.iox_domain_machine.proofs.SendReady.{IsReadyToSend}
 use Rattle.iox_domain_machine.proofs.Writing.{IsThere, is_there, same_values}
 use Rattle.iox_machine.specs.Mailbox.{newest}
+use Rattle.iox_machine.specs.RunLaws.{sent_as}
 use Rattle.iox_machine.specs.Message as machine
 use Rattle.iox_machine.specs.PortList.{those}
 use Rattle.iox_machine.specs.Sending.{Begins}
@@ -121,7 +122,7 @@ module _ {T U : Type 0} (choices : Choices T) (names : Naming) (lent : List (ℕ
 
   -- and that of the machine
   abbrev pub message_there : machine.Message T
-  message_there = machine.sent_as (loan_as names ports out)
+  message_there = sent_as (loan_as names ports out)
 
   abbrev before : Service T
   before = record service { loans = removed loan service.loans }

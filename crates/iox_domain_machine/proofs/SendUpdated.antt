@@ -44,6 +44,7 @@ use Rattle.iox_domain_machine.proofs.SendEnds.{set_twice}
 use Rattle.iox_domain_machine.proofs.SendFollows.{follows_lending}
 use Rattle.iox_domain_machine.proofs.SendReady.{is_ready, within_limit}
 use Rattle.iox_domain_machine.proofs.Writing.{IsThere, is_there, goes_there}
+use Rattle.iox_machine.specs.RunLaws.{sent_as}
 use Rattle.iox_machine.specs.Message as machine
 use Rattle.iox_machine.specs.PortList.{PortList}
 use Rattle.iox_machine.specs.PublisherUpdate.{UpdatesFirst}
@@ -144,7 +145,7 @@ module _ {T U : Type 0} (choices : Choices T) (names : Naming) (lent : List (ℕ
 
     same_message : message_now ≡ message
     same_message =
-        ap (λ (one : machine.Loan T). machine.sent_as one)
+        ap (λ (one : machine.Loan T). sent_as one)
         (same_some (loan_as names_now ports_now out) (loan_as names old out)
         (sym (goes_there names_now lent held buffer ports_now service_now loan out stands_now goes)
         ∙ goes_there names lent held buffer old service loan out stands goes))

@@ -53,6 +53,7 @@ use Rattle.iox_domain_machine.proofs.SendUpdated.{UpdatesAndSends, updated_goes_
 use Rattle.iox_domain_machine.proofs.Settling.{settled_stands}
 use Rattle.iox_domain_machine.proofs.Writing.{IsThere, is_there, goes_there, same_values}
 use Rattle.iox_machine.specs.Choices.{Choices}
+use Rattle.iox_machine.specs.RunLaws.{sent_as}
 use Rattle.iox_machine.specs.Message as machine
 use Rattle.iox_machine.specs.PortList.{PortList}
 use Rattle.iox_machine.specs.Ports.{SendsLoan}
@@ -128,7 +129,7 @@ module _ {T U : Type 0} (types : MessageTypeDetails) (choices : Choices T) (buff
   SendsIt standing answered after =
       MatchBool standing
       (UpdatesFirst choices name (λ failure. refusal.Send (error.ConnectionError failure))
-      (sending.Begins choices name (machine.sent_as lent_loan)) was.0
+      (sending.Begins choices name (sent_as lent_loan)) was.0
       before answered after)
       (IsRefused {T = T} (refusal.Send error.ConnectionBrokenSinceSenderNoLongerExists) before answered after)
 
@@ -149,7 +150,7 @@ module _ {T U : Type 0} (types : MessageTypeDetails) (choices : Choices T) (buff
           (goes_there names lent held buffer old service loan out stands goes)
           (subst (λ (found : Option (Publisher T)). MatchOption found (IsSkipped {T = T} service (sent_or_skipped answer) after)
           (λ publisher. MatchBool (machine.is_written lent_loan && not (is_some publisher.blocked))
-          (sending.Sends choices name (machine.sent_as lent_loan) publisher before (sent_or_skipped {T = T} answer) after)
+          (sending.Sends choices name (sent_as lent_loan) publisher before (sent_or_skipped {T = T} answer) after)
           (IsSkipped {T = T} service (sent_or_skipped answer) after))) (sym was.1)
           (subst (λ b. Does b (sent_or_skipped {T = T} answer) after) (sym is) does)),
       after_stands,

@@ -39,11 +39,12 @@ use Rattle.iox_domain_machine.proofs.UpdateMidway.{Midway, box_now, connected_at
 use Rattle.iox_domain_machine.proofs.UpdateParting.{HasPartedSo, IsFreed, parted_so, place_once, stays_midway}
 use Rattle.iox_domain_machine.proofs.UpdatePlaces.{Place, first_other, first_same, gone_other, gone_same, leaving_first, leaving_then}
 use Rattle.iox_domain_machine.proofs.UpdateReading.{HasNone, key_attached, placed_key, reads_alike}
+use Rattle.iox_machine.proofs.Shorthands.{now_at}
 use Rattle.iox_machine.specs.Mailbox.{Mailbox}
 use Rattle.iox_machine.specs.PortList.{PortList, those, unless}
 use Rattle.iox_machine.specs.PublisherUpdate.{failure_at}
 use Rattle.iox_machine.specs.Service.{Service, Subscriber}
-use Rattle.iox_machine.specs.SubscriberUpdate.{Parted, now_at, part}
+use Rattle.iox_machine.specs.SubscriberUpdate.{Parted, part}
 use Rattle.iox_machine.specs.Table.{at, contains}
 
 -- what comes of a place where a connection failed so

@@ -1,19 +1,15 @@
 -- What is borrowed, waits or is remembered stands in a slot that there is.
-use Rattle.std.proofs.Common.{arith, ℕ, zero, suc, ◌≡◌, ◌+◌, ◌<◌, ◌≤◌, ◌==◌, ◌∷◌, [], ◌++◌, List, length, get_or, option_to_list, Option}
-use Rattle.std.proofs.Common.{None, Some, position, slice_get, IfSome, rules, sym, subst}
-use Rattle.std.proofs.lemmas.Bool.{eqb-true}
-use Rattle.std.proofs.lemmas.List.Quantifiers.{position-Some}
+use Rattle.std.proofs.Common.{arith, ℕ, zero, suc, ◌≡◌, ◌+◌, ◌<◌, ◌≤◌, ◌==◌, ◌∷◌, [], ◌++◌, List, length, get_or, option_to_list}
+use Rattle.std.proofs.Common.{None, Some, Bool, true, false, cond, is_some, nat_lt, position, slice_get, rules, refl, sym, ◌∙◌}
+use Rattle.std.specs.List.{position_or_len}
+use Rattle.iox_container.specs.Unique.{is_among}
 use Rattle.iox_domain_slots.specs.Counting.{times}
 use Rattle.iox_domain_slots.specs.Uses.{Uses, Connection, held_by, held, in_use, nobody, connection_at}
 use Rattle.iox_domain_slots.proofs.Counts.{times_append, times_cons, one_same}
+use Rattle.iox_domain_slots.proofs.Borrowing.{among_counted}
 use Rattle.iox_domain_slots.proofs.Linking.{head_times}
+use Rattle.iox_domain_ports.proofs.Seen.{any_first}
 use Rattle.iox_domain_ports.specs.MessagesSending.{Store, IsSender}
-
--- who stands in a list stands there once at least
-stands_there : (xs : List ℕ) (at : ℕ) → at < length xs → 0 < times (get_or xs at 0) xs
-stands_there [] at inside = absurd (omega (arith, inside))
-stands_there (x ∷ xs) zero inside = omega (arith, times_cons x x xs, one_same x)
-stands_there (x ∷ xs) (suc at) inside = omega (arith, times_cons (get_or xs at 0) x xs, stands_there xs at (omega (arith, inside)))
 
 -- what one connection has borrowed is held
 borrowed_held : (slot index : ℕ) (connections : List (Connection ℕ))
@@ -35,17 +31,24 @@ borrowed_used slot index uses =
       times_append slot uses.history (held uses.connections),
     )
 
--- the first that is borrowed in a slot stands in a slot that there is
-pub borrowed_inside : {T U : Type 0} (store : Store T U) (uses : Uses ℕ ℕ) (slot index : ℕ) (found : Option ℕ) → IsSender store uses
-    → found ≡ position (λ other. other == slot) (connection_at index uses).borrowed → IfSome found (λ _. slot < uses.first + uses.size)
-borrowed_inside store uses slot index None sender is = tt
-borrowed_inside store uses slot index (Some at) sender is =
-    let first = position-Some (λ other. other == slot) (connection_at index uses).borrowed at 0 (sym is) in
-    let same : get_or (connection_at index uses).borrowed at 0 ≡ slot = eqb-true _ _ first.1 in
-    let there : 0 < times slot (connection_at index uses).borrowed =
-    subst (λ other. 0 < times other (connection_at index uses).borrowed) same
-    (stands_there (connection_at index uses).borrowed at first.0) in
-    sender.within slot (omega (arith, there, borrowed_used slot index uses))
+-- what is borrowed stands in a slot that there is
+pub borrowed_inside : {T U : Type 0} (store : Store T U) (uses : Uses ℕ ℕ) (slot index : ℕ) → IsSender store uses
+    → is_among slot (connection_at index uses).borrowed ≡ true → slot < uses.first + uses.size
+borrowed_inside store uses slot index sender there = sender.within slot (omega (
+  arith,
+  among_counted slot (connection_at index uses).borrowed there,
+  borrowed_used slot index uses,
+))
+
+-- whether a slot is among those of a list is told by where it is first
+pub among_first : (slot : ℕ) (xs : List ℕ) → is_among slot xs ≡ is_some (position (λ other. other == slot) xs)
+among_first slot xs =
+    sym (any_first (λ other. other) slot xs)
+    ∙ at (nat_lt (position_or_len (λ other. other == slot) xs) (length xs)) (position_or_len (λ other. other == slot) xs)
+  where
+    at : (before : Bool) (n : ℕ) → before ≡ is_some (cond before (Some n) None)
+    at true n = refl
+    at false n = refl
 
 -- what is found at a place of a list stands there once at least
 found_there : (xs : List ℕ) (at slot : ℕ) → slice_get xs at ≡ Some slot → 0 < times slot xs

@@ -33,7 +33,9 @@ pub mod First
 pub mod Sweeping
 pub mod Walking
 pub mod Serving
+pub mod Asking
 pub mod Located
 pub mod Adding
+pub mod Tallied
 pub use Rattle.iox_container.proofs as Container
 pub use Rattle.iox_domain_slots.proofs as DomainSlots

@@ -1,16 +1,20 @@
 -- The message in a slot is found where it is borrowed.
-use Rattle.std.proofs.Common.{arith, ℕ, ◌≡◌, ◌<◌, ◌==◌, ◌∷◌, [], List, length, slice_get, None, Some, position, option_map, sym, ap, ◌∙◌}
+use Rattle.std.proofs.Common.{arith, ℕ, ◌≡◌, ◌<◌, ◌==◌, ◌∷◌, [], List, length, slice_get, None, Some, position, option_map}
+use Rattle.std.proofs.Common.{sym, ap, ◌∙◌, refl}
+use Rattle.std.proofs.Common.{Bool, true, false, cond, is_some, nat_lt}
 use Rattle.std.proofs.Math.Logic.{⊎_elim}
 use Rattle.std.proofs.lemmas.Bool.{eqb-true}
 use Rattle.std.proofs.lemmas.List.Quantifiers.{position-Some}
 use Rattle.std.proofs.lemmas.Option.{slice_get_cases}
 use Rattle.std.specs.List.{find}
-use Rattle.iox_domain_slots.specs.Uses.{connection_at}
+use Rattle.iox_domain_slots.specs.Uses.{Connection, connection_at}
+use Rattle.iox_domain_slots.proofs.Loaned.{not_true}
 use Rattle.iox_domain_ports.specs.Messages.{Message}
+use Rattle.iox_domain_ports.specs.MessagesSending.{borrowed_place}
 use Rattle.iox_domain_ports.proofs.Finding.{at_place, at_none}
 use Rattle.iox_domain_ports.specs.Ports.{connection_of}
 use Rattle.iox_domain_ports.specs.declared.publisher_port.PublisherPort.{PublisherPort}
-use Rattle.iox_domain_ports.specs.Reading.{place_of, borrowed_in}
+use Rattle.iox_domain_ports.specs.Reading.{place_of, borrowed_in, given_back_at}
 
 position_within : {T U : Type 0} (slot at : ℕ) (borrowed : List (Message T U))
     → position (λ message. message.slot == slot) borrowed ≡ Some at → at < length borrowed
@@ -50,3 +54,28 @@ pub read_none : {T U X : Type 0} (part : Message T U → X) (index slot : ℕ) (
     → None ≡ option_map part (borrowed_in slot (connection_of index port))
 read_none part index slot port is = sym
     (ap (λ found. option_map part found) (at_none (λ message. message.slot == slot) (connection_of index port).borrowed is))
+
+-- a message that is borrowed has a place
+pub place_there : {T U : Type 0} (slot : ℕ) (connection : Connection (Message T U)) → is_some (place_of slot connection) ≡ true
+    → Some (borrowed_place slot connection) ≡ place_of slot connection
+place_there slot connection = at (nat_lt (borrowed_place slot connection) (length connection.borrowed)) (borrowed_place slot connection)
+  where
+    at : (before : Bool) (n : ℕ) → is_some (cond before (Some n) None) ≡ true → Some n ≡ cond before (Some n) None
+    at true n is = refl
+    at false n is = absurd (not_true is)
+
+-- and one that isn't has none
+pub no_place : {T U : Type 0} (slot : ℕ) (connection : Connection (Message T U)) → is_some (place_of slot connection) ≡ false
+    → None ≡ place_of slot connection
+no_place slot connection = at (nat_lt (borrowed_place slot connection) (length connection.borrowed)) (borrowed_place slot connection)
+  where
+    at : (before : Bool) (n : ℕ) → is_some (cond before (Some n) None) ≡ false → None ≡ cond before (Some n) None
+    at true n is = absurd (not_true (sym is))
+    at false n is = refl
+
+-- the message that is given back is the first in its slot
+pub given_there : {T U : Type 0} (index slot : ℕ) (port new : PublisherPort T U)
+    → is_some (place_of slot (connection_of index port)) ≡ true
+    → new ≡ given_back_at index (Some (borrowed_place slot (connection_of index port))) port
+    → new ≡ given_back_at index (place_of slot (connection_of index port)) port
+given_there index slot port new is made = made ∙ ap (λ at. given_back_at index at port) (place_there slot (connection_of index port) is)

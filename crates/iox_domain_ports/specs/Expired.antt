@@ -1,7 +1,7 @@
 -- What a subscriber looks for among its expired connections.
 use Rattle.std.specs.Prelude.{ℕ, Bool, List}
 use Rattle.iox_domain_ports.specs.declared.publisher_port.PublisherPort.{PublisherPort}
-use Rattle.iox_domain_ports.specs.Subscribing.{gives, is_idle}
+use Rattle.iox_domain_ports.specs.Subscribing.{is_idle}
 use Rattle.iox_domain_ports.specs.Following.{is_unborrowed}
 use Rattle.iox_domain_ports.specs.declared.expired.Sought.{Sought}
 use Rattle.iox_domain_ports.specs.declared.expired.Sought.TheVariants as sought
@@ -9,6 +9,5 @@ use Rattle.iox_domain_ports.specs.declared.subscriber_port.SubscriberPort.{Subsc
 
 -- whether the connection of a key is one that is looked for
 abbrev pub is_sought : {T U : Type 0} → Sought → SubscriberPort → List (ℕ × PublisherPort T U) → ℕ → Bool
-is_sought sought.Giving port ports key = gives port ports key
 is_sought sought.Idle port ports key = is_idle port ports key
 is_sought sought.Unborrowed port ports key = is_unborrowed port ports key

@@ -1,7 +1,7 @@
 -- One publisher with its messages.
 use Rattle.std.specs.Prelude.{false, ℕ, ◌+◌, ◌<◌, ◌≤◌, ◌≡◌, ◌==◌, Bool, List, [], ◌∷◌, length, get_or, map, Option, None, Some}
 use Rattle.std.specs.Prelude.{option_map, if◌then◌else◌, eqb, nat_lt, ◌&&◌, is_some, slice_get}
-use Rattle.std.specs.List.{All, list_any, find, position_or_len}
+use Rattle.std.specs.List.{All, list_any, find, position, position_or_len}
 use Rattle.iox_domain_slots.specs.Uses.{Uses, Connection, in_use, loaned, segment_opened}
 use Rattle.iox_domain_slots.specs.Counting.{times}
 use Rattle.iox_domain_ports.specs.Messages.{Message, Loan, new_loan, is_written}
@@ -93,6 +93,14 @@ pub record StandsAlone {T U : Type 0} (message : Message T U) (uses : Uses (Loan
 -- where in the list of loans the first that stands in this slot is; its length where none does
 abbrev pub place_in : {T U : Type 0} → ℕ → Uses (Loan T U) (Message T U) → ℕ
 place_in slot uses = position_or_len (λ loan. loan.slot == slot) uses.loans
+
+-- whether a message in this slot is borrowed of a connection
+abbrev pub has_borrowed : {T U : Type 0} → ℕ → Connection (Message T U) → Bool
+has_borrowed slot connection = is_some (position (λ message. message.slot == slot) connection.borrowed)
+
+-- where in the list of what is borrowed of a connection the oldest message in this slot is
+abbrev pub borrowed_place : {T U : Type 0} → ℕ → Connection (Message T U) → ℕ
+borrowed_place slot connection = position_or_len (λ message. message.slot == slot) connection.borrowed
 
 -- the loan that stands in this slot, if one does
 abbrev pub loan_at : {T U : Type 0} → ℕ → Uses (Loan T U) (Message T U) → Option (Loan T U)

@@ -29,6 +29,15 @@ abbrev pub is_idle_at : {T U : Type 0} → Option ℕ → SubscriberPort → Lis
 is_idle_at None port ports = false
 is_idle_at (Some key) port ports = is_idle port ports key
 
+-- none of the first so many expired connections is idle
+abbrev pub IsBusy : {T U : Type 0} → SubscriberPort → List (ℕ × PublisherPort T U) → ℕ → Type 0
+IsBusy port ports count = (place : ℕ) → place < count → is_idle_at (slice_get port.expired.items place) port ports ≡ false
+
+-- the first number that passes a test, after one more was asked
+abbrev pub first_of : Option ℕ → ℕ → Bool → Option ℕ
+first_of (Some first) key passes = Some first
+first_of None key passes = if passes then Some key else None
+
 -- the expired connection at a place of the list ends, and leaves list and map
 abbrev pub dropped_port : ℕ → Option ℕ → SubscriberPort → SubscriberPort
 dropped_port place None port = port

@@ -32,3 +32,32 @@ pub(crate) struct Seen {
     /// How many messages may be borrowed of it.
     pub most: usize,
 }
+
+/// What is asked of a connection where a subscriber receives.
+#[derive(Clone, Copy, Debug, PartialEq, Eq)]
+pub(crate) struct Asked {
+    /// Whether it is below the limit of borrows, and has data.
+    pub gives: bool,
+    /// Whether it has data.
+    pub data: bool,
+    /// Whether nothing waits there and nothing is borrowed of it.
+    pub idle: bool,
+}
+
+/// Which expired connections are met before one that gives.
+#[derive(Clone, Copy, Debug, PartialEq, Eq)]
+pub(crate) struct Met {
+    /// How many.
+    pub count: usize,
+    /// Whether one of them may be idle.
+    pub idle: bool,
+}
+
+/// What is found where all connections are gone over.
+#[derive(Clone, Copy, Debug, PartialEq, Eq)]
+pub(crate) struct Found {
+    /// The first key whose connection gives.
+    pub giver: Option<usize>,
+    /// The first key whose connection has data, where none gives.
+    pub unread: Option<usize>,
+}

@@ -9,8 +9,6 @@ use crate::subscriber_port::SubscriberPort;
 /// Which expired connection is looked for.
 #[derive(Clone, Copy, Debug, PartialEq, Eq)]
 pub(crate) enum Sought {
-    /// One that is below the limit of borrows, and has data.
-    Giving,
     /// One at which nothing waits and nothing is borrowed.
     Idle,
     /// One of which nothing is borrowed.
@@ -28,7 +26,6 @@ impl SubscriberPort {
         ensures { result ≡ is_sought sought self.now publishers.now key }
     {
         match sought {
-            Sought::Giving => self.gives(key, publishers),
             Sought::Idle => self.is_idle(key, publishers),
             Sought::Unborrowed => self.is_unborrowed(key, publishers),
         }

@@ -27,6 +27,7 @@
 //! - [`following`]: it follows one place of that list.
 //! - [`subscriber_updating`]: it follows all of them.
 //! - [`living`]: how much lives.
+//! - [`census`]: how much lives of each owner, counted as ports change.
 //! - [`subscriber_laws`]: what its steps come to, in other words.
 //!
 //! First calls, of a publisher and of a subscriber. `ServicePorts` of `iox_domain` makes them.
@@ -48,6 +49,7 @@
 #![tactic(auto)]
 
 pub mod attached;
+pub mod census;
 pub mod connecting;
 mod expired;
 pub mod following;
@@ -77,6 +79,7 @@ pub mod ties;
 pub mod writing;
 
 pub use attached::{Attached, Taken};
+pub use census::{Census, Share};
 pub use keys::Keys;
 pub use meeting::{Meeting, Sent};
 pub use messages::{Member, SenderConfig, Stage};

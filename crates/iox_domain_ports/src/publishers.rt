@@ -9,9 +9,11 @@ ghost use Rattle.iox_domain_ports.specs.Ports.{detached_at};
 ghost use Rattle.iox_domain_ports.specs.Publishers.{port_of, with_port, added, connection_in, most_borrowed_in, stands_in, changed};
 ghost use Rattle.iox_domain_ports.specs.Publishers.{ended_if_left, is_over_in, settled, released, AttachesTo};
 ghost use Rattle.iox_domain_ports.specs.Living.{living_publishers};
+ghost use Rattle.iox_domain_ports.specs.Census.{IsCensusOf, publisher_share, share_at};
 ghost use Rattle.iox_domain_ports.specs.Reading.{place_of, taken_at, given_back_at};
 
 use crate::PublisherPort;
+use crate::census::{Census, Share};
 use crate::living::{add, counted, living_of_publisher};
 use crate::reading::{borrowed_at, give_back_at, is_over, take_at, waiting_at};
 use std::alloc::{AllocError, Global};
@@ -25,15 +27,20 @@ use std::marker::Model;
 #[derive(Drop)]
 pub struct Publishers<T, U> {
     ports: BTreeMap<u64, PublisherPort<T, U>>,
+    // How much of each owner lives.
+    census: Census,
 }
 
 impl<T, U> Model for Publishers<T, U> {
     ghost use Rattle.std.specs.Prelude.{ℕ, List};
     ghost use Rattle.iox_domain_ports.specs.declared.publisher_port.PublisherPort.{PublisherPort};
+    ghost use Rattle.iox_domain_ports.specs.Census.{IsCensusOf, publisher_share};
 
     ghost Value = { List (ℕ × PublisherPort T U) };
 
     ghost view = { λ p. p.ports.entries };
+
+    ghost invariant = { λ p. IsCensusOf publisher_share p.census p.ports.entries };
 }
 
 impl<T: Copy, U: Copy> Publishers<T, U> {
@@ -47,6 +54,7 @@ impl<T: Copy, U: Copy> Publishers<T, U> {
     {
         Publishers {
             ports: BTreeMap::new(alloc),
+            census: Census::new(alloc),
         }
     }
 
@@ -62,6 +70,7 @@ impl<T: Copy, U: Copy> Publishers<T, U> {
         ensures* writes_back { sem 𝓛 (LendsPort T.row U.row self.entry number result) }
         ensures value { option_copied_mut result ≡ port_of number self.old }
     {
+        note_lent(&mut self.census, &self.ports, number);
         self.ports.get_mut(&number)
     }
 
@@ -79,7 +88,10 @@ impl<T: Copy, U: Copy> Publishers<T, U> {
         ensures ok { OnOk result (self.new ≡ added number port self.old) }
         ensures err { OnErr result (self.new ≡ self.old) }
     {
+        note_lent(&mut self.census, &self.ports, number);
+        let share = share_of(&port);
         self.ports.insert(number, port)?;
+        self.census.note(share);
         Ok(())
     }
 
@@ -173,13 +185,26 @@ impl<T: Copy, U: Copy> Publishers<T, U> {
         ensures { self.new ≡ settled number self.old }
     {
         if self.is_over(number) {
+            note_lent(&mut self.census, &self.ports, number);
             let _ = self.ports.remove(&number);
+            self.census.note(Share { owner: 0, count: 0 });
         }
     }
 
     /// How much lives of the publishers of an owner, or of all where none is named: those that exist, their loans, and the messages of
     /// sends that wait. Past 2^64 - 1 it is that.
     pub fn living(&self, owner: Option<u64>) -> u64
+        ensures { result ≡ min (living_publishers owner self.now) (2 ^ 64 - 1) }
+    {
+        let now = share_in(&self.ports, self.census.lent());
+        match self.census.told(owner, now) {
+            Some(count) => count,
+            None => self.count_living(owner),
+        }
+    }
+
+    // How much lives of an owner, or of all where none is named, counted one by one.
+    fn count_living(&self, owner: Option<u64>) -> u64
         ensures { result ≡ min (living_publishers owner self.now) (2 ^ 64 - 1) }
     {
         self.ports
@@ -235,6 +260,45 @@ impl<T: Copy, U: Copy> Publishers<T, U> {
             None => false,
         }
     }
+}
+
+// What counts of a publisher.
+fn share_of<T: Copy, U: Copy>(port: &PublisherPort<T, U>) -> Share
+    ensures { result ≡ publisher_share port.now }
+{
+    Share {
+        owner: port.owner.number,
+        count: living_of_publisher(port),
+    }
+}
+
+// What counts of the publisher of a number; nothing where there is none.
+fn share_in<T: Copy, U: Copy>(ports: &BTreeMap<u64, PublisherPort<T, U>>, number: u64) -> Share
+    ensures { result ≡ share_at publisher_share (port_of number ports.now.entries) }
+{
+    match ports.get(&number) {
+        Some(port) => share_of(port),
+        None => Share { owner: 0, count: 0 },
+    }
+}
+
+// Notes that a publisher is lent. What the one that was lent before has become is counted.
+fn note_lent<T: Copy, U: Copy>(
+    census: &mut Census,
+    ports: &BTreeMap<u64, PublisherPort<T, U>>,
+    number: u64,
+)
+    requires { IsCensusOf publisher_share census.old ports.now.entries }
+    ensures tells { IsCensusOf publisher_share census.new ports.now.entries }
+    ensures lent { census.new.lent ≡ number }
+{
+    let lent = census.lent();
+    if lent == number {
+        return;
+    }
+    let before = share_in(ports, lent);
+    let now = share_in(ports, number);
+    census.lend(before, number, now);
 }
 
 // Ends a connection of a publisher, if it left.

@@ -1,5 +1,5 @@
 //! What a subscriber does at one publisher.
-ghost use Rattle.std.specs.Prelude.{◌≡◌, ◌+◌, ◌<◌, true, length, map, is_some, option_copied, option_map, slice_get, Some, IfSome};
+ghost use Rattle.std.specs.Prelude.{◌≡◌, ◌+◌, ◌<◌, true, length, map, is_some, option_copied, option_map, slice_get, Some};
 ghost use Rattle.std.specs.List.{list_any};
 ghost use Rattle.iox_domain_slots.specs.Uses.{is_there};
 ghost use Rattle.iox_domain_ports.specs.Ports.{connection_of};
@@ -59,23 +59,21 @@ pub fn give_back_at<T: Copy, U: Copy>(
     ensures answer { result ≡ is_some (place_of slot (connection_of index port.old)) }
     ensures new { port.new ≡ given_back_at index (place_of slot (connection_of index port.old)) port.old }
 {
-    match find(port, index, slot) {
-        Some(at) => {
-            port.sender.give_back(index, at);
-            true
-        }
-        None => false,
+    if !has_at(port, index, slot) {
+        return false;
     }
+    port.sender.give_back(index, slot);
+    true
 }
 
-// Where in the list of what is borrowed of the connection of this index the first message in this slot is.
-fn find<T: Copy, U: Copy>(port: &PublisherPort<T, U>, index: usize, slot: usize) -> Option<usize>
-    ensures place { result ≡ place_of slot (connection_of index port.now) }
-    ensures inside { IfSome result (λ _. slot < port.now.sender.uses.first + port.now.sender.uses.size) }
+// Whether a message in this slot is borrowed of the connection of this index.
+fn has_at<T: Copy, U: Copy>(port: &PublisherPort<T, U>, index: usize, slot: usize) -> bool
+    ensures answer { result ≡ is_some (place_of slot (connection_of index port.now)) }
+    ensures inside { result ≡ true → slot < port.now.sender.uses.first + port.now.sender.uses.size }
 {
     match port.sender.stage(index) {
-        Stage::Vacant => None,
-        Stage::Live | Stage::Ended => port.sender.place_of_borrowed(index, slot),
+        Stage::Vacant => false,
+        Stage::Live | Stage::Ended => port.sender.has_borrowed(index, slot),
     }
 }
 
@@ -87,7 +85,9 @@ pub fn payload_at<T: Copy, U: Copy>(
 ) -> Option<&[T]>
     ensures { option_copied result ≡ option_map (λ message. message.values) (borrowed_in slot (connection_of index port.now)) }
 {
-    find(port, index, slot)?;
+    if !has_at(port, index, slot) {
+        return None;
+    }
     Some(port.sender.payload(slot))
 }
 
@@ -99,7 +99,9 @@ pub fn user_header_at<T: Copy, U: Copy>(
 ) -> Option<&U>
     ensures { option_copied result ≡ option_map (λ message. message.user_header) (borrowed_in slot (connection_of index port.now)) }
 {
-    find(port, index, slot)?;
+    if !has_at(port, index, slot) {
+        return None;
+    }
     Some(port.sender.user_header(slot))
 }
 
@@ -111,7 +113,9 @@ pub fn elements_at<T: Copy, U: Copy>(
 ) -> Option<u64>
     ensures { result ≡ option_map (λ message. message.elements) (borrowed_in slot (connection_of index port.now)) }
 {
-    find(port, index, slot)?;
+    if !has_at(port, index, slot) {
+        return None;
+    }
     Some(port.sender.elements(slot))
 }
 

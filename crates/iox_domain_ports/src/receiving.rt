@@ -1,14 +1,14 @@
 //! A subscriber receives.
-ghost use Rattle.std.specs.Prelude.{◌≡◌, ◌+◌, ◌<◌, ◌^◌, length, slice_get, IfSome, None, Some, true, false};
+ghost use Rattle.std.specs.Prelude.{◌≡◌, ◌+◌, ◌<◌, ◌^◌, ◌||◌, length, slice_get, IfSome, None, Some, true, false};
 ghost use Rattle.std.specs.Bool.{OnTrue, OnFalse};
 ghost use Rattle.iox_domain_slots.specs.Uses.{is_there};
 ghost use Rattle.iox_domain_ports.specs.Subscribing.{attached_at, connection_by, seen_of, has_data, gives, is_idle, ended_key};
 ghost use Rattle.iox_domain_ports.specs.Subscribing.{ended_ports, taken_of, taken_ports};
 ghost use Rattle.iox_domain_ports.specs.Receiving.{IsFirst, IsMet, IsGiver, IsGiverThere, is_idle_at, dropped_port, dropped_ports, swept};
 ghost use Rattle.iox_domain_ports.specs.Receiving.{given, given_ports, nothing_taken, left_at, left_all, SweepsAt, Serves, Receives};
+ghost use Rattle.iox_domain_ports.specs.Receiving.{IsBusy, first_of};
 
-use crate::attached::{Attached, Seen, Taken};
-use crate::expired::Sought;
+use crate::attached::{Asked, Attached, Found, Met, Seen, Taken};
 use crate::publishers::Publishers;
 use crate::reading::{borrowed_at, waiting_at};
 use crate::subscriber_port::SubscriberPort;
@@ -64,14 +64,6 @@ impl SubscriberPort {
         0 < self.waiting(key, publishers)
     }
 
-    // Whether the connection of a key is below the limit of borrows, and has data.
-    pub(crate) fn gives<T: Copy, U: Copy>(&self, key: usize, publishers: &Publishers<T, U>) -> bool
-        ensures { result ≡ gives self.now publishers.now key }
-    {
-        let seen = self.seen(key, publishers);
-        seen.borrowed < seen.most && 0 < seen.waiting
-    }
-
     // Whether nothing waits and nothing is borrowed at the connection of a key.
     pub(crate) fn is_idle<T: Copy, U: Copy>(
         &self,
@@ -100,16 +92,40 @@ impl SubscriberPort {
         publishers.end(attached.publisher, attached.index);
     }
 
-    // The first key whose connection gives.
-    fn first_giver<T: Copy, U: Copy>(&self, publishers: &Publishers<T, U>) -> Option<usize>
-        ensures { IsFirst (gives self.now publishers.now) result }
+    // What is asked of the connection of a key: its publisher is looked up once.
+    fn asked<T: Copy, U: Copy>(&self, key: usize, publishers: &Publishers<T, U>) -> Asked
+        ensures gives { result.gives ≡ gives self.now publishers.now key }
+        ensures data { result.data ≡ has_data self.now publishers.now key }
+        ensures idle { result.idle ≡ is_idle self.now publishers.now key }
     {
-        for key in 0..self.connections.reached() {
-            if self.gives(key, publishers) {
-                return Some(key);
-            }
+        let seen = self.seen(key, publishers);
+        Asked {
+            gives: seen.borrowed < seen.most && 0 < seen.waiting,
+            data: 0 < seen.waiting,
+            idle: seen.waiting == 0 && seen.borrowed == 0,
         }
-        None
+    }
+
+    // The first key whose connection gives, and where there is none, the first whose connection has data: each is asked once.
+    fn look_through<T: Copy, U: Copy>(&self, publishers: &Publishers<T, U>) -> Found
+        ensures giver { IsFirst (gives self.now publishers.now) result.giver }
+        ensures unread { result.giver ≡ None → IsFirst (has_data self.now publishers.now) result.unread }
+    {
+        let mut unread = None;
+        for key in 0..self.connections.reached() {
+            let asked = self.asked(key, publishers);
+            if asked.gives {
+                return Found {
+                    giver: Some(key),
+                    unread,
+                };
+            }
+            unread = first_of(unread, key, asked.data);
+        }
+        Found {
+            giver: None,
+            unread,
+        }
     }
 
     // The first key whose connection has data.
@@ -206,15 +222,38 @@ impl SubscriberPort {
         }
     }
 
-    // Whose connection gives, where so many expired ones are met before one does.
-    fn giver<T: Copy, U: Copy>(&self, met: usize, publishers: &Publishers<T, U>) -> Option<usize>
+    // Which expired connections are met before one that gives: each is asked once.
+    fn meet<T: Copy, U: Copy>(&self, publishers: &Publishers<T, U>) -> Met
+        ensures met { IsMet (gives self.now publishers.now) self.now.expired.items result.count }
+        ensures busy { result.idle ≡ false → IsBusy self.now publishers.now result.count }
+    {
+        let count = self.expired.len();
+        let mut idle = false;
+        for place in 0..count {
+            if let Some(key) = self.expired.at(place) {
+                let asked = self.asked(key, publishers);
+                if asked.gives {
+                    return Met { count: place, idle };
+                }
+                idle = one_of(idle, asked.idle);
+            }
+        }
+        Met { count, idle }
+    }
+
+    // Whose connection gives, where so many expired ones are met before one does, and if none gives, the first key that has data.
+    fn look<T: Copy, U: Copy>(&self, met: usize, publishers: &Publishers<T, U>) -> Found
         requires { IsMet (gives self.now publishers.now) self.now.expired.items met }
-        ensures giver { IsGiver (slice_get self.now.expired.items met) (gives self.now publishers.now) result }
-        ensures gives { IfSome result (λ key. gives self.now publishers.now key ≡ true) }
+        ensures giver { IsGiver (slice_get self.now.expired.items met) (gives self.now publishers.now) result.giver }
+        ensures gives { IfSome result.giver (λ key. gives self.now publishers.now key ≡ true) }
+        ensures unread { result.giver ≡ None → IsFirst (has_data self.now publishers.now) result.unread }
     {
         match self.expired.at(met) {
-            Some(key) => Some(key),
-            None => self.first_giver(publishers),
+            Some(key) => Found {
+                giver: Some(key),
+                unread: None,
+            },
+            None => self.look_through(publishers),
         }
     }
 
@@ -235,28 +274,54 @@ impl SubscriberPort {
         }
     }
 
-    // Borrows the message that comes next.
-    fn serve<T: Copy, U: Copy>(&mut self, publishers: &mut Publishers<T, U>) -> Option<Taken>
+    // Borrows the message that a giver gives, if there is one. Of so many expired connections that were met those end that are idle.
+    fn serve<T: Copy, U: Copy>(
+        &mut self,
+        met: usize,
+        giver: Option<usize>,
+        publishers: &mut Publishers<T, U>,
+    ) -> Option<Taken>
+        requires met { IsMet (gives self.old publishers.old) self.old.expired.items met }
+        requires giver { IsGiver (slice_get self.old.expired.items met) (gives self.old publishers.old) giver }
+        requires gives { IfSome giver (λ key. gives self.old publishers.old key ≡ true) }
         ensures { Serves self.old publishers.old result self.new publishers.new }
     {
-        let met = self.first_expired(Sought::Giving, publishers);
-        let giver = self.giver(met, publishers);
         let taken = self.take_of(giver, publishers);
         self.sweep(met, publishers);
         taken
     }
 
-    // Receives from the connections that there are.
+    // Receives where something may change: a message comes, or expired connections that are idle end.
+    fn receive_from<T: Copy, U: Copy>(
+        &mut self,
+        met: usize,
+        giver: Option<usize>,
+        publishers: &mut Publishers<T, U>,
+    ) -> Result<Option<Taken>, ReceiveError>
+        requires met { IsMet (gives self.old publishers.old) self.old.expired.items met }
+        requires giver { IsGiver (slice_get self.old.expired.items met) (gives self.old publishers.old) giver }
+        requires gives { IfSome giver (λ key. gives self.old publishers.old key ≡ true) }
+        ensures { Receives self.old publishers.old result self.new publishers.new }
+    {
+        match self.serve(met, giver, publishers) {
+            Some(taken) => Ok(Some(taken)),
+            None => nothing_taken(self.first_data(publishers)),
+        }
+    }
+
+    // Receives from the connections that there are. Where nothing comes, and no expired connection may be idle, each was asked once.
     pub(crate) fn receive_now<T: Copy, U: Copy>(
         &mut self,
         publishers: &mut Publishers<T, U>,
     ) -> Result<Option<Taken>, ReceiveError>
         ensures { Receives self.old publishers.old result self.new publishers.new }
     {
-        match self.serve(publishers) {
-            Some(taken) => Ok(Some(taken)),
-            None => nothing_taken(self.first_data(publishers)),
+        let met = self.meet(publishers);
+        let found = self.look(met.count, publishers);
+        if met.idle || found.giver.is_some() {
+            return self.receive_from(met.count, found.giver, publishers);
         }
+        nothing_taken(found.unread)
     }
 
     // Nobody reads at the connection of a key any longer; where its publisher left it ends.
@@ -328,4 +393,22 @@ fn nothing_taken(unread: Option<usize>) -> Result<Option<Taken>, ReceiveError>
         Some(_) => Err(ReceiveError::ExceedsMaxBorrows),
         None => Ok(None),
     }
+}
+
+// The first key that passes a test, after one more key was asked.
+fn first_of(found: Option<usize>, key: usize, passes: bool) -> Option<usize>
+    ensures { result ≡ first_of found key passes }
+{
+    match found {
+        Some(first) => Some(first),
+        None if passes => Some(key),
+        None => None,
+    }
+}
+
+// Whether one of two is so.
+fn one_of(one: bool, other: bool) -> bool
+    ensures { result ≡ (one || other) }
+{
+    one || other
 }

@@ -8,5 +8,6 @@ pub mod Offering
 pub mod AllSlots
 pub mod Publishing
 pub mod Enough
+pub mod Borrowing
 pub mod Welcoming
 pub use Rattle.iox_container.proofs as Container

@@ -18,7 +18,7 @@ use Rattle.iox_domain_slots.specs.Counting.{times}
 use Rattle.iox_domain_slots.specs.Loans.{place_in}
 use Rattle.iox_domain_slots.proofs.Counts.{one, times_cons, one_same}
 
-not_true : false ≡ true → ⊥
+pub not_true : false ≡ true → ⊥
 not_true is = absurd (grind (arith, is))
 
 -- the test says who is in a list
@@ -88,7 +88,7 @@ without_reverse k (x ∷ xs) =
     ]
 
 -- a place further on
-further_on : (x : ℕ) (xs : List ℕ) (at : ℕ) → get_or (x ∷ xs) (1 + at) 0 ≡ get_or xs at 0
+pub further_on : (x : ℕ) (xs : List ℕ) (at : ℕ) → get_or (x ∷ xs) (1 + at) 0 ≡ get_or xs at 0
 further_on x xs at = let e : 1 + at ≡ suc at = omega arith in rw e refl
 
 further_without : (x : ℕ) (xs : List ℕ) (at : ℕ) → remove (x ∷ xs) (1 + at) ≡ x ∷ remove xs at

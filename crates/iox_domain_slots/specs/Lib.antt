@@ -4,3 +4,4 @@ pub mod Counting
 pub mod Loans
 pub mod Links
 pub use Rattle.iox_container.specs as Container
+pub mod Borrowed

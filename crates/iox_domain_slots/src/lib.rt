@@ -4,8 +4,8 @@
 //!
 //! - [`slots`]: which slots are free, and how many uses the others have.
 //! - `places`: which of them are held.
-//! - [`lists`]: short lists in their order.
 //! - `loans`: which slots are lent, in their order.
+//! - `borrowed`: which slots are borrowed of a connection, in their order.
 //! - [`mailbox`]: what waits between a publisher and a subscriber.
 //! - [`link`]: a connection: its mailbox, what is borrowed of it, what came back.
 //! - [`links`]: the connections of a publisher.
@@ -20,9 +20,9 @@
 //! ```
 #![tactic(auto)]
 
+mod borrowed;
 pub mod link;
 pub mod links;
-mod lists;
 mod loans;
 pub mod mailbox;
 mod places;

@@ -1,11 +1,13 @@
 //! A connection by the slots that it holds.
-ghost use Rattle.std.specs.Prelude.{◌≡◌, ℕ, ◌+◌, ◌^◌, ◌<◌, ◌≤◌, ◌==◌, ◌&&◌, ◌++◌, ◌∷◌, [], length, drop, take, get_or, remove, nat_lt};
-ghost use Rattle.std.specs.Prelude.{not, slice_get, position, IfOk, Some, true, false};
+ghost use Rattle.std.specs.Prelude.{◌≡◌, ℕ, ◌+◌, ◌^◌, ◌<◌, ◌≤◌, ◌++◌, ◌∷◌, [], length, drop, remove};
+ghost use Rattle.std.specs.Prelude.{slice_get, IfOk, Some, true, false};
 ghost use Rattle.iox_domain_slots.specs.Uses.{accepts, offered, taken};
+ghost use Rattle.iox_domain_slots.specs.Loans.{place_in};
+ghost use Rattle.iox_container.specs.Unique.{is_among};
 ghost use Rattle.iox_domain_slots.specs.Counting.{SlotsState, times, uses_of, let_go, Moves, Covers};
 ghost use Rattle.iox_domain_slots.specs.Links.{LinkState, all_of, connection_of, room_of, IsSameLink, IsFit, put_into, put_answer};
 
-use crate::lists::take_out;
+use crate::borrowed::Borrowed;
 use crate::mailbox::{Mailbox, Put};
 use crate::slots::Slots;
 use iox_container::queue::Queue;
@@ -18,7 +20,7 @@ use std::marker::Model;
 #[derive(Drop)]
 pub struct Link {
     mailbox: Mailbox,
-    borrowed: Vec<u64>,
+    borrowed: Borrowed,
     returned: Queue<u64>,
     most_borrowed: usize,
     ended: bool,
@@ -27,7 +29,7 @@ pub struct Link {
 }
 
 impl Model for Link {
-    ghost use Rattle.std.specs.Prelude.{◌≡◌, ◌+◌, ◌<◌, ◌≤◌, length, cond, vec_capacity};
+    ghost use Rattle.std.specs.Prelude.{◌≡◌, ◌+◌, ◌<◌, ◌≤◌, length, cond};
     ghost use Rattle.iox_domain_slots.specs.Links.{LinkState, is_overflowing, waiting_in, limit_of};
 
     ghost Value = { LinkState };
@@ -45,7 +47,7 @@ impl Model for Link {
 
     // A put since the last taking back may make one slot more of the connection than wait and are borrowed at most.
     ghost invariant = { λ l. (length (waiting_in l.mailbox) ≤ limit_of l.mailbox)
-        × (length l.borrowed.items ≤ l.most_borrowed) × (l.most_borrowed ≤ vec_capacity l.borrowed)
+        × (length l.borrowed.items ≤ l.most_borrowed) × (l.most_borrowed < l.borrowed.cells)
         × (limit_of l.mailbox + l.most_borrowed < l.returned.capacity)
         × (length (waiting_in l.mailbox) + (length l.borrowed.items + length l.returned.items) ≤ limit_of l.mailbox + l.most_borrowed +
         cond l.delivered 1 0) };
@@ -143,34 +145,34 @@ impl Link {
         let Some(slot) = self.mailbox.pop() else {
             return 0;
         };
-        self.borrowed.push_reserved(slot);
+        self.borrowed.push(slot);
         slot as usize
     }
 
-    /// Gives the borrowed slot at this place of the list back, to be taken back by the publisher.
-    pub fn give_back(&mut self, at: usize)
-        requires { at < length self.old.borrowed }
+    /// Gives a borrowed slot back, to be taken back by the publisher.
+    pub fn give_back(&mut self, slot: usize)
+        requires { is_among slot self.old.borrowed ≡ true }
         ensures after { self.new ≡ record self.old {
-          borrowed = remove self.old.borrowed at;
-          returned = self.old.returned ++ get_or self.old.borrowed at 0 ∷ [];
+          borrowed = remove self.old.borrowed (place_in slot self.old.borrowed);
+          returned = self.old.returned ++ slot ∷ [];
         } }
         ensures fits { IsFit self.new }
         ensures uses { (k : ℕ) → times k (all_of self.new) ≡ times k (all_of self.old) }
     {
-        let slot = take_out(&mut self.borrowed, at);
-        let _has_room = self.returned.push(slot);
+        self.borrowed.remove(slot as u64);
+        let _has_room = self.returned.push(slot as u64);
     }
 
-    /// Takes the use of the borrowed slot at this place of the list off.
-    pub fn let_go(&mut self, at: usize, slots: &mut Slots)
-        requires within { at < length self.old.borrowed }
+    /// Takes the use of a borrowed slot off.
+    pub fn let_go(&mut self, slot: usize, slots: &mut Slots)
+        requires there { is_among slot self.old.borrowed ≡ true }
         requires covered { Covers slots.old (all_of self.old) }
-        ensures after { self.new ≡ record self.old { borrowed = remove self.old.borrowed at } }
+        ensures after { self.new ≡ record self.old { borrowed = remove self.old.borrowed (place_in slot self.old.borrowed) } }
         ensures fits { IsFit self.new }
         ensures moved { Moves slots.old (all_of self.old) slots.new (all_of self.new) }
     {
-        let slot = take_out(&mut self.borrowed, at);
-        slots.let_go(slot as usize);
+        self.borrowed.remove(slot as u64);
+        slots.let_go(slot);
     }
 
     // Loses the oldest slot that waits.
@@ -233,7 +235,7 @@ impl Link {
     {
         Ok(Link {
             mailbox: Mailbox::new(alloc, overflows, limit)?,
-            borrowed: Vec::with_capacity(alloc, most_borrowed)?,
+            borrowed: Borrowed::new(alloc, ring.saturating_mul(2))?,
             returned: Queue::new(alloc, ring)?,
             most_borrowed,
             ended: false,
@@ -263,11 +265,11 @@ impl Link {
         self.mailbox.at(at) as usize
     }
 
-    /// The slots that are borrowed.
-    pub fn borrowed(&self) -> &[u64]
-        ensures { result.now ≡ self.now.borrowed }
+    /// How many are borrowed.
+    pub fn borrowed(&self) -> usize
+        ensures { result ≡ length self.now.borrowed }
     {
-        self.borrowed.as_slice()
+        self.borrowed.len()
     }
 
     /// How many may wait.
@@ -277,11 +279,10 @@ impl Link {
         self.mailbox.capacity()
     }
 
-    /// Where in the list of borrowed slots one is first; None if it isn't borrowed.
-    pub fn place_of_borrowed(&self, slot: usize) -> Option<usize>
-        ensures { result ≡ position (λ other. other == slot) self.now.borrowed }
+    /// Whether a slot is borrowed.
+    pub fn has_borrowed(&self, slot: usize) -> bool
+        ensures { result ≡ is_among slot self.now.borrowed }
     {
-        let slot = slot as u64;
-        self.borrowed.iter().position(|other| *other == slot)
+        self.borrowed.has(slot as u64)
     }
 }

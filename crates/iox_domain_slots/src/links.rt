@@ -1,9 +1,11 @@
 //! The connections of one publisher.
-ghost use Rattle.std.specs.Prelude.{◌≡◌, ℕ, ◌+◌, ◌*◌, ◌^◌, ◌<◌, ◌≤◌, ◌==◌, ◌++◌, ◌∷◌, [], length, map, set, drop, take, get_or, remove};
-ghost use Rattle.std.specs.Prelude.{is_some, position, slice_get, IfOk, IsOk, OnErr, Some, None, true, false};
+ghost use Rattle.std.specs.Prelude.{◌≡◌, ℕ, ◌+◌, ◌*◌, ◌^◌, ◌<◌, ◌≤◌, ◌++◌, ◌∷◌, [], length, map, set, drop, take, get_or, remove};
+ghost use Rattle.std.specs.Prelude.{is_some, slice_get, IfOk, IsOk, OnErr, Some, None, true, false};
 ghost use Rattle.iox_domain_slots.specs.Uses.{nobody, placed, accepts, offered, taken, given_back, settled, ended, emptied, held};
 ghost use Rattle.iox_domain_slots.specs.Uses.{connected, how_many};
 ghost use Rattle.iox_domain_slots.specs.declared.stage.Stage.TheVariants as stage;
+ghost use Rattle.iox_domain_slots.specs.Loans.{place_in};
+ghost use Rattle.iox_container.specs.Unique.{is_among};
 ghost use Rattle.iox_domain_slots.specs.Counting.{SlotsState, times, uses_of, Moves, Covers};
 ghost use Rattle.iox_domain_slots.specs.Links.{LinksState, LinkState, seen, all_slots, all_of, connection_of, taken_back, IsGone, IsOf};
 
@@ -80,28 +82,32 @@ impl Links {
     }
 
     // Gives a borrowed slot of a connection that goes on back, to be taken back.
-    fn put_back(&mut self, index: usize, at: usize)
+    fn put_back(&mut self, index: usize, slot: usize)
         requires there { is_some (get_or self.old.links index None) ≡ true }
         requires live { (seen (get_or self.old.links index None)).stage ≡ stage.Live }
-        requires within { at < length (seen (get_or self.old.links index None)).borrowed }
+        requires borrowed { is_among slot (seen (get_or self.old.links index None)).borrowed ≡ true }
         ensures after { map seen self.new.links
-            ≡ set (map seen self.old.links) index (given_back at (seen (get_or self.old.links index None))) }
+            ≡ set (map seen self.old.links) index (given_back (place_in slot (seen (get_or self.old.links index None)).borrowed)
+            (seen (get_or self.old.links index None))) }
         ensures same { self.new ≡ record self.old { links = self.new.links } }
         ensures uses { (k : ℕ) → times k (all_slots self.new.links) ≡ times k (all_slots self.old.links) }
     {
         let Some(link) = &mut self.items[index] else {
             return;
         };
-        link.give_back(at);
+        link.give_back(slot);
     }
 
     // Takes the use of a borrowed slot of a connection that ended off.
-    fn let_go(&mut self, index: usize, at: usize, slots: &mut Slots)
+    fn let_go(&mut self, index: usize, slot: usize, slots: &mut Slots)
         requires there { is_some (get_or self.old.links index None) ≡ true }
-        requires within { at < length (seen (get_or self.old.links index None)).borrowed }
+        requires borrowed { is_among slot (seen (get_or self.old.links index None)).borrowed ≡ true }
         requires covered { Covers slots.old (all_slots self.old.links) }
         ensures after { map seen self.new.links ≡ set (map seen self.old.links) index
-            (record (seen (get_or self.old.links index None)) { borrowed = remove (seen (get_or self.old.links index None)).borrowed at }) }
+            (record (seen (get_or self.old.links index None)) {
+              borrowed = remove (seen (get_or self.old.links index None)).borrowed
+                  (place_in slot (seen (get_or self.old.links index None)).borrowed);
+            }) }
         ensures there { is_some (get_or self.new.links index None) ≡ true }
         ensures same { self.new ≡ record self.old { links = self.new.links } }
         ensures moved { Moves slots.old (all_slots self.old.links) slots.new (all_slots self.new.links) }
@@ -109,7 +115,7 @@ impl Links {
         let Some(link) = &mut self.items[index] else {
             return;
         };
-        link.let_go(at, slots);
+        link.let_go(slot, slots);
     }
 
     // Whether the connection ended.
@@ -159,24 +165,25 @@ impl Links {
         let Some(link) = &self.items[index] else {
             return false;
         };
-        link.is_ended() && link.borrowed().is_empty()
+        link.is_ended() && link.borrowed() == 0
     }
 
-    /// Gives back the borrowed slot at this place of the connection's list.
-    pub fn give_back(&mut self, index: usize, at: usize, slots: &mut Slots)
+    /// Gives back a slot that is borrowed of the connection.
+    pub fn give_back(&mut self, index: usize, slot: usize, slots: &mut Slots)
         requires there { is_some (get_or self.old.links index None) ≡ true }
-        requires within { at < length (seen (get_or self.old.links index None)).borrowed }
+        requires borrowed { is_among slot (seen (get_or self.old.links index None)).borrowed ≡ true }
         requires covered { Covers slots.old (all_slots self.old.links) }
         ensures after { map seen self.new.links
-            ≡ set (map seen self.old.links) index (given_back at (seen (get_or self.old.links index None))) }
+            ≡ set (map seen self.old.links) index (given_back (place_in slot (seen (get_or self.old.links index None)).borrowed)
+            (seen (get_or self.old.links index None))) }
         ensures same { self.new ≡ record self.old { links = self.new.links } }
         ensures moved { Moves slots.old (all_slots self.old.links) slots.new (all_slots self.new.links) }
     {
         if !self.is_ended(index) {
-            self.put_back(index, at);
+            self.put_back(index, slot);
             return;
         }
-        self.let_go(index, at, slots);
+        self.let_go(index, slot, slots);
         self.settle(index);
     }
 
@@ -370,18 +377,18 @@ impl Links {
         let Some(link) = &self.items[index] else {
             return 0;
         };
-        link.borrowed().len()
+        link.borrowed()
     }
 
-    /// Where in the connection's list of borrowed slots one is first; None if it isn't borrowed.
-    pub fn place_of_borrowed(&self, index: usize, slot: usize) -> Option<usize>
+    /// Whether a slot is borrowed of the connection.
+    pub fn has_borrowed(&self, index: usize, slot: usize) -> bool
         requires there { is_some (get_or self.now.links index None) ≡ true }
-        ensures { result ≡ position (λ other. other == slot) (seen (get_or self.now.links index None)).borrowed }
+        ensures { result ≡ is_among slot (seen (get_or self.now.links index None)).borrowed }
     {
         let Some(link) = &self.items[index] else {
-            return None;
+            return false;
         };
-        link.place_of_borrowed(slot)
+        link.has_borrowed(slot)
     }
 
     /// How far the connection is; vacant where there is none.

@@ -1,7 +1,9 @@
 //! The loans of a publisher by their slots.
-ghost use Rattle.std.specs.Prelude.{◌≡◌, ◌+◌, ◌^◌, ◌<◌, ◌≤◌, ◌++◌, ◌∷◌, [], length, get_or, remove, IfOk, OnErr, true, false};
+ghost use Rattle.std.specs.Prelude.{◌≡◌, ◌+◌, ◌^◌, ◌<◌, ◌≤◌, ◌++◌, ◌∷◌, [], length, get_or, remove};
+ghost use Rattle.std.specs.Prelude.{IfOk, IfSome, IfNone, IsOk, OnErr, Some, true, false};
 ghost use Rattle.iox_container.specs.Unique.{is_among};
 ghost use Rattle.iox_domain_slots.specs.Loans.{LoansState, place_in};
+ghost use Rattle.iox_domain_slots.specs.Borrowed.{slots_in, IsOldest};
 
 use std::alloc::{AllocError, Global};
 use std::marker::Model;
@@ -17,21 +19,24 @@ pub(crate) struct Loans {
     len: usize,
     // Whether a loan is in the slot.
     lent: Vec<bool>,
+    // For so many slots the memory was taken at the start.
+    room: usize,
 }
 
 impl Model for Loans {
-    ghost use Rattle.std.specs.Prelude.{◌≡◌, ◌+◌, ◌<◌, ◌^◌, ℕ, false, length, get_or, reverse};
+    ghost use Rattle.std.specs.Prelude.{◌≡◌, ◌+◌, ◌<◌, ◌≤◌, ◌^◌, ℕ, false, length, get_or, reverse, vec_capacity};
     ghost use Rattle.iox_container.specs.Links.{LinksKeys, walk};
     ghost use Rattle.iox_container.specs.Unique.{is_among};
     ghost use Rattle.iox_domain_slots.specs.Loans.{LoansState};
 
     ghost Value = { LoansState };
 
-    ghost view = { λ l. record { items = reverse (walk l.older.items l.len l.newest); made = length l.older.items } };
+    ghost view = { λ l. record { items = reverse (walk l.older.items l.len l.newest); made = length l.older.items; room = l.room } };
 
     ghost invariant = { λ l. LinksKeys l.older.items l.newer.items l.newest (length l.older.items) l.len (walk l.older.items l.len l.newest)
         × ((slot : ℕ) → get_or l.lent.items slot false ≡ is_among slot (walk l.older.items l.len l.newest))
-        × (length l.lent.items ≡ length l.older.items) × (l.len + 1 < 2 ^ 64) };
+        × (length l.lent.items ≡ length l.older.items) × (l.len + 1 < 2 ^ 64)
+        × (l.room ≤ vec_capacity l.older) × (l.room < vec_capacity l.newer) × (l.room ≤ vec_capacity l.lent) };
 }
 
 impl Loans {
@@ -50,6 +55,26 @@ impl Loans {
             newest: slots,
             len: 0,
             lent,
+            room: 0,
+        })
+    }
+
+    /// No loans and no slots yet, and the memory for so many. It fails only where an allocation fails.
+    pub(crate) fn with_room(alloc: Global, room: usize) -> Result<Loans, AllocError>
+        requires { room + 1 < 2 ^ 64 }
+        ensures { IfOk result (λ loans. loans ≡ record { items = []; made = 0; room = room }) }
+    {
+        let older = Vec::with_capacity(alloc, room)?;
+        let mut newer = Vec::with_capacity(alloc, room + 1)?;
+        newer.push_reserved(0);
+        let lent = Vec::with_capacity(alloc, room)?;
+        Ok(Loans {
+            older,
+            newer,
+            newest: 0,
+            len: 0,
+            lent,
+            room,
         })
     }
 
@@ -62,9 +87,25 @@ impl Loans {
 
     /// Whether a loan is in this slot.
     pub(crate) fn has(&self, slot: usize) -> bool
-        ensures { result ≡ is_among slot self.now.items }
+        ensures there { result ≡ is_among slot self.now.items }
+        ensures made { result ≡ true → slot < self.now.made }
     {
         slot < self.lent.len() && self.lent[slot]
+    }
+
+    /// The oldest loan of those in whose places of a list this number stands.
+    pub(crate) fn oldest_of(&self, numbers: &[u64], number: u64) -> Option<usize>
+        requires { self.now.made ≡ length numbers.now }
+        ensures some { IfSome result (λ slot. IsOldest numbers.now self.now.items number slot) }
+        ensures none { IfNone result (is_among number (slots_in numbers.now self.now.items) ≡ false) }
+    {
+        let mut slot = self.newest;
+        let mut found = None;
+        for _ in 0..self.len {
+            found = found_at(numbers, number, slot, found);
+            slot = self.older[slot];
+        }
+        found
     }
 
     /// A loan is out in this slot, in which there was none.
@@ -74,6 +115,7 @@ impl Loans {
         requires few { length self.old.items + 2 < 2 ^ 64 }
         ensures items { self.new.items ≡ self.old.items ++ slot ∷ [] }
         ensures made { self.new.made ≡ self.old.made }
+        ensures room { self.new.room ≡ self.old.room }
     {
         self.lent[slot] = true;
         self.older[slot] = self.newest;
@@ -85,7 +127,7 @@ impl Loans {
     /// The loan in this slot ends.
     pub(crate) fn remove(&mut self, slot: usize)
         requires { is_among slot self.old.items ≡ true }
-        ensures after { self.new ≡ record { items = remove self.old.items (place_in slot self.old.items); made = self.old.made } }
+        ensures after { self.new ≡ record self.old { items = remove self.old.items (place_in slot self.old.items) } }
         ensures there { get_or self.old.items (place_in slot self.old.items) 0 ≡ slot }
         ensures within { place_in slot self.old.items < length self.old.items }
     {
@@ -105,8 +147,9 @@ impl Loans {
     fn append(&mut self) -> Result<usize, AllocError>
         requires { length self.old.items + 2 < 2 ^ 64 }
         ensures slot { IfOk result (λ slot. slot ≡ self.old.made) }
-        ensures after { IfOk result (λ slot. self.new ≡ record { items = slot ∷ self.old.items; made = slot + 1 }) }
+        ensures after { IfOk result (λ slot. self.new ≡ record self.old { items = slot ∷ self.old.items; made = slot + 1 }) }
         ensures refused { OnErr result (self.new ≡ self.old) }
+        ensures succeeds { self.old.made < self.old.room → IsOk result }
     {
         self.older.reserve(1)?;
         self.newer.reserve(1)?;
@@ -119,11 +162,12 @@ impl Loans {
         Ok(slot)
     }
 
-    // The next slot is made, with no loan.
-    fn make_slot(&mut self) -> Result<(), AllocError>
+    /// The next slot is made, with no loan. It can't fail where memory was taken for it at the start.
+    pub(crate) fn make_slot(&mut self) -> Result<(), AllocError>
         requires { length self.old.items + 2 < 2 ^ 64 }
         ensures made { IfOk result (λ _. self.new ≡ record self.old { made = self.old.made + 1 }) }
         ensures refused { OnErr result (self.new ≡ self.old) }
+        ensures succeeds { self.old.made < self.old.room → IsOk result }
     {
         let slot = self.append()?;
         self.remove(slot);
@@ -152,5 +196,18 @@ impl Loans {
             self.make_slot()?;
         }
         Ok(())
+    }
+}
+
+// What was found so far, after the place of a list in which a number is looked for.
+fn found_at(numbers: &[u64], number: u64, place: usize, found: Option<usize>) -> Option<usize>
+    requires { place < length numbers.now }
+    ensures here { get_or numbers.now place 0 ≡ number → result ≡ Some place }
+    ensures elsewhere { (get_or numbers.now place 0 ≡ number → ⊥) → result ≡ found }
+{
+    if numbers[place] == number {
+        Some(place)
+    } else {
+        found
     }
 }

@@ -1,6 +1,6 @@
 //! All that one publisher's slots are used for.
-ghost use Rattle.std.specs.Prelude.{◌≡◌, ℕ, ◌+◌, ◌^◌, ◌<◌, ◌≤◌, ◌==◌, ◌++◌, ◌∷◌, [], length, map, set, drop, take, get_or, remove};
-ghost use Rattle.std.specs.Prelude.{nat_lt, is_some, position, option_to_list, slice_get, IfOk, IsOk, IsSome, OnErr, Some, None, true};
+ghost use Rattle.std.specs.Prelude.{◌≡◌, ℕ, ◌+◌, ◌^◌, ◌<◌, ◌≤◌, ◌++◌, ◌∷◌, [], length, map, set, drop, take, get_or, remove};
+ghost use Rattle.std.specs.Prelude.{nat_lt, is_some, option_to_list, slice_get, IfOk, IsOk, IsSome, OnErr, Some, None, true};
 ghost use Rattle.std.specs.Prelude.{false};
 ghost use Rattle.iox_domain_slots.specs.declared.stage.Stage.TheVariants as stage;
 ghost use Rattle.iox_domain_slots.specs.Uses.{Uses, nobody, placed, accepts, offered, taken, given_back, settled, ended, emptied, held};
@@ -144,13 +144,14 @@ impl SlotUses {
         self.links.take(index)
     }
 
-    /// Gives back the borrowed message at this place of the connection's list. It is out of use there; its slot is taken back by
+    /// Gives back the oldest message of this slot that is borrowed of the connection. It is out of use there; its slot is taken back by
     /// the next loan, or at once if the connection ended.
-    pub fn give_back(&mut self, index: usize, at: usize)
-        requires { at < length (connection_at index self.old).borrowed }
-        ensures { self.new ≡ with_connection index (given_back at (connection_at index self.old)) self.old }
+    pub fn give_back(&mut self, index: usize, slot: usize)
+        requires { is_among slot (connection_at index self.old).borrowed ≡ true }
+        ensures { self.new ≡ with_connection index
+            (given_back (place_in slot (connection_at index self.old).borrowed) (connection_at index self.old)) self.old }
     {
-        self.links.give_back(index, at, &mut self.slots);
+        self.links.give_back(index, slot, &mut self.slots);
     }
 
     /// Ends the connection: what waits is lost, what is borrowed stays in use until it is given back.
@@ -315,12 +316,12 @@ impl SlotUses {
         self.links.borrowed(index)
     }
 
-    /// Where in the connection's list of borrowed slots one is first; None if it isn't borrowed.
-    pub fn place_of_borrowed(&self, index: usize, slot: usize) -> Option<usize>
+    /// Whether a message of this slot is borrowed of the connection.
+    pub fn has_borrowed(&self, index: usize, slot: usize) -> bool
         requires { is_there (connection_at index self.now) ≡ true }
-        ensures { result ≡ position (λ other. other == slot) (connection_at index self.now).borrowed }
+        ensures { result ≡ is_among slot (connection_at index self.now).borrowed }
     {
-        self.links.place_of_borrowed(index, slot)
+        self.links.has_borrowed(index, slot)
     }
 
     /// How many indices the connections have: one more than the last that ever stood.

@@ -6,4 +6,7 @@ pub mod StepLemmas
 pub mod RunWords
 pub mod TakenRuns
 pub mod PlainRuns
-pub mod PlainStops
+pub mod HandledTurns
+pub mod HandledChoices
+pub mod HandledRuns
+pub mod HandledAnswers

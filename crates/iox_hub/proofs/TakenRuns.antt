@@ -69,7 +69,7 @@ subscriber_replied_to T (Some (Ok number)) there = refl
 subscriber_replied_to T (Some (Err error)) there = refl
 
 module _ {T U B D : Type 0} where
-  publisher_replied : (is_default : U → Type 0) (fixed : BackpressureStrategy → Option BackpressureAction → DegradationAction → B)
+  pub publisher_replied : (is_default : U → Type 0) (fixed : BackpressureStrategy → Option BackpressureAction → DegradationAction → B)
       (degrades : B → DegradationCause → DegradationInfo → DegradationAction → Type 0) (opened : Option Opened) (options : PublisherOptions)
       (old new : NumberedHub T U B D) (answer : Reply T) (ports : ServicePorts T U) → ports_of_factory opened old.hub ≡ Some ports
       → PublisherComes is_default fixed degrades opened options old answer new → is_skipped answer ≡ false
@@ -82,7 +82,7 @@ module _ {T U B D : Type 0} where
       (λ number. with_hub_publisher (domain_of_factory opened) number (publisher_handlers fixed options)) _
       (why_no_publisher (publisher_config (owner_of_factory opened) options)) _ old.hub new.hub outcome ports there comes) numbers)
 
-  subscriber_replied : (fixed : DegradationAction → D) (degrades : D → DegradationCause → DegradationInfo → DegradationAction → Type 0)
+  pub subscriber_replied : (fixed : DegradationAction → D) (degrades : D → DegradationCause → DegradationInfo → DegradationAction → Type 0)
       (opened : Option Opened) (options : SubscriberOptions)
       (old new : NumberedHub T U B D) (answer : Reply T) (ports : ServicePorts T U) → ports_of_factory opened old.hub ≡ Some ports
       → SubscriberComes fixed degrades opened options old answer new → is_skipped answer ≡ false

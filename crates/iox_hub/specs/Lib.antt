@@ -4,6 +4,8 @@ pub mod Steps
 pub mod Taking
 pub mod Room
 pub mod RunLaws
+pub mod Turns
+pub mod HandledLaws
 -- The definitions that contracts of the names here cite, by the crates that have them.
 pub use Rattle.iox_hub_commands.specs.Delivery as Delivery
 pub use Rattle.iox_delivery_factories.specs as DeliveryFactories

@@ -3,7 +3,6 @@ use Rattle.std.specs.Prelude.{◌≡◌, Bool, List, map, Result}
 use Rattle.std.specs.declared.alloc.AllocError.{AllocError}
 use Rattle.iox_hub_commands.specs.Command.declared.command.Command.{Command}
 use Rattle.iox_hub_commands.specs.Command.declared.reply.Reply.{Reply}
-use Rattle.iox_hub_commands.specs.HubBase.declared.hub.HubConfig.{HubConfig}
 use Rattle.iox_hub_commands.specs.Runs.{IsRun}
 use Rattle.iox_hub_commands.specs.declared.numbered_hub.NumberedHub.{NumberedHub}
 use Rattle.iox_hub.specs.declared.handled_command.HandledCommand.{HandledCommand}
@@ -17,8 +16,3 @@ PlainRunsArePlain {T} {U} {B} {D} {X} handled plain
     = (commands : List (Command T)) (old new : NumberedHub T U B D × X) (replies : List (Reply T)) (stopped : Bool)
     → IsRun handled (map (λ (command : Command T). asked.Plain command) commands) old replies stopped new
     → IsRun plain commands old.0 replies stopped new.0 × (new.1 ≡ old.1)
-
--- This holds of commands that name no handler, whatever a hub was made with.
-abbrev pub OfPlain : {T : Type 0} → (HubConfig → List (Command T) → Type 0) → List (HandledCommand T) → Type 0
-OfPlain {T} Holds commands = (config : HubConfig) (plain : List (Command T))
-    → commands ≡ map (λ (command : Command T). asked.Plain command) plain → Holds config plain

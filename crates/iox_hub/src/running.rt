@@ -3,26 +3,25 @@ ghost use Rattle.std.specs.Prelude.{◌≡◌, ◌+◌, ◌<◌, ◌≤◌, ◌^
 ghost use Rattle.iox_hub_commands.specs.Agreements.{AreOfOneAgreement};
 ghost use Rattle.iox_hub_commands.specs.Grown.{GrowsOn, HaveGrown, AreAsAgreed};
 ghost use Rattle.iox_hub_commands.specs.DescribeBase.Detail.{detail};
+ghost use Rattle.iox_hub_commands.specs.HubBase.declared.hub.HubConfig.{HubConfig};
 ghost use Rattle.iox_hub_commands.specs.DescribeBase.declared.type_detail.TypeVariant.TheVariants.{FixedSize};
 ghost use Rattle.iox_hub_commands.specs.Asked.{types_of};
 ghost use Rattle.iox_hub_commands.specs.Lives.{NumbersGoOn};
 ghost use Rattle.iox_hub_commands.specs.Numbers.{numbers_used};
 ghost use Rattle.iox_hub_commands.specs.PortRoom.{HasRoom, KeepsRoom};
 ghost use Rattle.iox_hub_commands.specs.Runs.{IsRun};
-ghost use Rattle.iox_hub_machine.specs.RunLaws.{AnswersAsMachine};
+ghost use Rattle.iox_hub.specs.HandledLaws.{AnswersWithHandlers};
 ghost use Rattle.iox_hub.specs.Room.{StopsInTime};
-ghost use Rattle.iox_hub.specs.RunLaws.{OfPlain};
 ghost use Rattle.iox_hub.specs.Steps.{HandledStep};
 ghost use Rattle.iox_hub.specs.Taking.{TakesOnce, taken};
 
 use crate::given::GivenHandlers;
 use crate::handled_command::HandledCommand;
 use crate::handlers::TakesHandlers;
-use crate::laws::plain_commands_take_nothing;
+use crate::laws::runs_with_handlers_answer;
 use crate::stepping::step;
 use iox_describe_base::ZeroCopySend;
 use iox_hub_commands::{NumberedHub, RunReport, SubscriberHandler};
-use iox_hub_machine::runs::runs_answer;
 use iox_queues_base::Words;
 use std::alloc::Global;
 
@@ -33,8 +32,9 @@ use std::alloc::Global;
 /// that receives or reads, where an allocation fails for the values of its reply, and those before it are replied to. It makes
 /// no room for numbers: each port made that when it came.
 ///
-/// What a new hub replies to commands that name no handler is what a new machine may answer (`docs/MACHINE.md`), where no two services of
-/// the names that are asked for share a hash, commands and steps are fewer than 2 ^ 56, and who is made of actions decides by these.
+/// What a new hub replies is what a new machine may answer (`docs/MACHINE.md`), for whose ports those decide who were handed in. That is
+/// where no two services of the names that are asked for share a hash, commands and steps are fewer than 2 ^ 56, and who is made of
+/// actions decides by these.
 /// Example: `let report = run(&mut hub, alloc, commands, &mut given);`
 pub fn run<
     T: Words + ZeroCopySend + Default,
@@ -65,14 +65,13 @@ pub fn run<
     ensures one_agreement { AreOfOneAgreement hub.old.factories.made hub.old.hub → AreOfOneAgreement hub.new.factories.made hub.new.hub }
     // Just the places that commands name which are replied to, and not skipped, are emptied; each held a handler, and no two are the same.
     ensures once { TakesOnce (taken commands.entry.items result.replies.items) given.old.places.items given.new.places.items }
-    // What a new hub replies to commands that name no handler is what a new machine may answer to them, by the premises in the definition.
-    ensures answers { OfPlain (λ config plain. AnswersAsMachine (detail FixedSize T.name T.size T.alignment)
-        (detail FixedSize U.name U.size U.alignment) (types_of T.name T.size T.alignment U.name U.size U.alignment) T.is_default
-        U.is_default B.fixed (λ handlers. B.degrades handlers) (λ handlers. B.decides handlers) D.fixed (λ handler. D.degrades handler)
-        config plain hub.old result.replies.items result.stopped) commands.entry.items }
+    // What a new hub replies is what a new machine may answer, where those were handed in who were, by the premises in the definition.
+    ensures answers { (config : HubConfig) → AnswersWithHandlers (types_of T.name T.size T.alignment U.name U.size U.alignment) T.is_default
+        B.fixed (λ strategy action degrading at_full at_failure. B.handled strategy action degrading at_full at_failure)
+        (λ handlers. B.degrades handlers) (λ handlers. B.decides handlers) D.fixed (λ handler. D.degrades handler) config
+        commands.entry.items hub.old given.old.places.items result.replies.items result.stopped }
 {
-    runs_answer::<T, U, B, D>();
-    plain_commands_take_nothing::<T, U, B, D, P>();
+    runs_with_handlers_answer::<T, U, B, D, P>();
     carry_out_all(hub, alloc, commands, given)
 }
 

@@ -20,9 +20,10 @@ use Rattle.iox_domain_machine.proofs.FollowMachine.{all_welcomed}
 use Rattle.iox_domain_machine.proofs.TableEnds.{at_end}
 use Rattle.iox_domain_machine.proofs.UpdateMachine.{connects, only_boxes}
 use Rattle.iox_hub_machine.specs.Ports.{among}
+use Rattle.iox_machine.proofs.Shorthands.{registered}
 use Rattle.iox_machine.specs.Choices.{Choices}
 use Rattle.iox_machine.specs.Arriving.{PublisherArrives, SubscriberArrives, worst_case}
-use Rattle.iox_machine.specs.PortList.{registered, those}
+use Rattle.iox_machine.specs.PortList.{those}
 use Rattle.iox_machine.specs.PublisherUpdate as publishing
 use Rattle.iox_machine.specs.PublisherUpdate.{ended}
 use Rattle.iox_machine.specs.Replies.{IsRefused, IsSkipped}

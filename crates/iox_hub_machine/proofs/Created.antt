@@ -60,11 +60,12 @@ use Rattle.iox_hub_machine.specs.CreateLaws.{CreateMatches}
 use Rattle.iox_hub_machine.specs.OpenLaws.{HasNumbersFor}
 use Rattle.iox_hub_machine.specs.ServiceLaws.{IsFollowed}
 use Rattle.iox_hub_machine.specs.Services.{HubStandsFor}
+use Rattle.iox_machine.proofs.Shorthands.{RefusesNode}
 use Rattle.iox_machine.specs.Choices.{Choices}
 use Rattle.iox_machine.proofs.Calls.{creates-go}
 use Rattle.iox_machine.specs.Agreement.{Agreement, unfit}
 use Rattle.iox_machine.specs.Asked.{settings_of}
-use Rattle.iox_machine.specs.Factories.{RefusesNode, create_refusal}
+use Rattle.iox_machine.specs.Factories.{create_refusal}
 use Rattle.iox_machine.specs.Negotiation.{Call, Creates}
 use Rattle.iox_machine.specs.Phase.{Node, Own, Phase, Published}
 use Rattle.iox_machine.specs.Run as machine

@@ -1,5 +1,5 @@
 -- A service that is opened, or created, has messages of the types of the hub.
-use Rattle.std.proofs.Common.{◌≡◌, Bool, true, false, cond, List, ◌∷◌, Result, Ok, Err, refl, ap, subst, sym, inl}
+use Rattle.std.proofs.Common.{◌≡◌, Bool, true, false, cond, List, Result, Ok, Err, refl, ap, subst, sym, inl}
 use Rattle.std.proofs.Common.{inr, arith}
 use Rattle.iox_command.specs.NegotiateBase.DescribeBase.Attributes.{Required}
 use Rattle.iox_command.specs.NegotiateBase.DescribeBase.Detail.{Detail}
@@ -11,7 +11,6 @@ use Rattle.iox_command.specs.NegotiateBase.DescribeSettings.Agreement.{AreWithin
 use Rattle.iox_command.specs.NegotiateBase.DescribeSettings.declared.static_config.Settings.{Settings}
 use Rattle.iox_command.specs.NegotiateBase.DescribeSettings.declared.static_config.Settings.TheVariants as settings
 use Rattle.iox_command.specs.NegotiateBase.DescribeSettings.declared.static_config.publish_subscribe.StaticConfig.{StaticConfig}
-use Rattle.iox_command.specs.NegotiateBase.DescribeVerdict.Verdict.{first_unmet, unmet_clause}
 use Rattle.iox_command.specs.declared.service.PublishSubscribeOptions.{PublishSubscribeOptions}
 use Rattle.iox_command.specs.declared.service.ServiceOptions.TheVariants as options
 use Rattle.iox_describe_base.proofs.CompatibleLemmas.{compatible-from, compatible-true}
@@ -20,12 +19,10 @@ use Rattle.iox_domain.specs.Fitting.{FitTypes, Fits, any_payload, any_user_heade
 use Rattle.iox_machine.specs.Agreement.{Agreement, publish_subscribe_verdict}
 use Rattle.iox_machine.specs.Asked.{settings_of}
 
--- of clauses that are met the second is
-second_met : {E : Type 0} (first error : E) (met : Bool) (rest : List (Bool × E))
-    → first_unmet ((true, first) ∷ (met, error) ∷ rest) ≡ Ok tt → met ≡ true
-unfolding unmet_clause
-second_met first error true rest is = refl
-second_met {E} first error false rest is = absurd (differ is)
+-- of clauses that are met the first is
+first_met : {E : Type 0} (error : E) (met : Bool) (rest : Result (Unit {0}) E) → cond met rest (Err error) ≡ Ok tt → met ≡ true
+first_met error true rest is = refl
+first_met {E} error false rest is = absurd (differ is)
   where
     differ : ◌≡◌ {A = Result (Unit {0}) E} (Err error) (Ok tt) → ⊥
     differ e = cc
@@ -99,7 +96,7 @@ module _ (payload user_header : Detail) (variant : TypeVariant) where
       (c : StaticConfig)
       → publish_subscribe_verdict types required named (record { settings = settings.PublishSubscribe c; attributes = attributes }) ≡ Ok tt
       → is_compatible types c.types ≡ true
-  met_types types required named attributes c met = second_met _ _ (is_compatible types c.types) _ met
+  met_types types required named attributes c met = first_met _ (is_compatible types c.types) _ met
 
   -- what is opened fits
   pub met_fits : (required : Required) (named : PublishSubscribeOptions) (agreed : Agreement)

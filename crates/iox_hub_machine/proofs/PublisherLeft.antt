@@ -67,8 +67,8 @@ use Rattle.iox_hub_machine.proofs.Loans.{done_so}
 use Rattle.iox_hub_machine.proofs.Moving.{IsMatched, machine_does}
 use Rattle.iox_hub_machine.proofs.Rooming.{roomy_there}
 use Rattle.iox_hub_machine.proofs.Settled.{gone_publisher_is_down, publishers_beside, kept_beside}
+use Rattle.iox_machine.proofs.Shorthands.{left}
 use Rattle.iox_machine.specs.Choices.{Choices}
-use Rattle.iox_machine.specs.PortList.{left}
 use Rattle.iox_machine.specs.Ports.{publisher_in}
 use Rattle.iox_machine.specs.Replies.{IsSkipped}
 use Rattle.iox_machine.specs.Service.{Service, Publisher, with_publisher}

@@ -139,7 +139,7 @@ module _ {T : Type 0} where
   all_wider one (asked ∷ more) names all = (asks_wider one asked names all.0, all_wider one more names all.1)
 
   -- the names of commands are those for which they ask
-  all_among : (commands : List (Command T)) → AllByRecursion (AsksAmong (names_in commands)) commands
+  pub all_among : (commands : List (Command T)) → AllByRecursion (AsksAmong (names_in commands)) commands
   all_among [] = tt
   all_among (asked ∷ more) = (its_own asked (names_in more), all_wider asked more (names_in more) (all_among more))
 
@@ -159,12 +159,12 @@ module _ {T : Type 0} where
 -- ---- where a run stops
 
 module _ {T : Type 0} where
-  stops_first : (asked : Command T) (rest : List (Command T)) → machine.MayStop (asked ∷ rest) []
+  pub stops_first : (asked : Command T) (rest : List (Command T)) → machine.MayStop (asked ∷ rest) []
   stops_first (command.Receive subscriber) rest = tt
   stops_first (command.Read sample) rest = tt
   stops_first other rest = refl
 
-  stops_so : (asked : Command T) (rest : List (Command T)) (replies : List (Reply T)) → RepliesValues asked
+  pub stops_so : (asked : Command T) (rest : List (Command T)) (replies : List (Reply T)) → RepliesValues asked
       → machine.MayStop (asked ∷ rest) replies
   stops_so (command.Receive subscriber) rest replies values = tt
   stops_so (command.Read sample) rest replies values = tt

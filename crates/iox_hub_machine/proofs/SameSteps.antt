@@ -24,36 +24,38 @@ use Rattle.iox_hub_commands.specs.Steps.{list_of, step_of}
 use Rattle.iox_machine.specs.Asked as machine
 use Rattle.iox_command.specs.Patterns.{pattern_of}
 use Rattle.iox_negotiate_machine.proofs.Acting.{kind-of}
+use Rattle.iox_negotiate_machine.proofs.Saying.{set_to, settings-are}
 use Rattle.iox_negotiate_machine.specs.Laws.{published_with, table_step_of}
 use Rattle.iox_negotiate_machine.specs.Standing.{description_of}
 use Rattle.iox_negotiate_table.specs.declared.step.ForeignStep.{ForeignStep as TableStep}
 use Rattle.iox_negotiate_table.specs.declared.step.ForeignStep.TheVariants as table_step
 
 -- what a setting that may be off is to be
-pub same_set : (named : NumberOrOff) → commands.set_to named ≡ machine.set_to named
+pub same_set : (named : NumberOrOff) → commands.set_to named ≡ set_to named
 same_set (Number number) = refl
 same_set Off = refl
 
 -- the settings of an event service, by what a setting that may be off is to be
 abbrev event_settings_by : EventOptions → (NumberOrOff → Option ℕ) → Settings
-event_settings_by named set_to = settings.Event (event_settings.adjusted (event_clauses.asked (record {
+event_settings_by named by = settings.Event (event_settings.adjusted (event_clauses.asked (record {
   attributes = required [] [];
-  deadline = option_map set_to named.deadline;
+  deadline = option_map by named.deadline;
   max_notifiers = named.max_notifiers;
   max_listeners = named.max_listeners;
   event_id_max_value = named.event_id_max_value;
-  notifier_created_event = option_map set_to named.notifier_created_event;
-  notifier_dropped_event = option_map set_to named.notifier_dropped_event;
-  notifier_dead_event = option_map set_to named.notifier_dead_event;
+  notifier_created_event = option_map by named.notifier_created_event;
+  notifier_dropped_event = option_map by named.notifier_dropped_event;
+  notifier_dead_event = option_map by named.notifier_dead_event;
   max_nodes = named.max_nodes;
 })))
 
 -- the settings that options name
 pub same_settings : (types : MessageTypeDetails) (named : ServiceOptions) → settings_of named types ≡ machine.settings_of types named
-same_settings types (options.PublishSubscribe named) = refl
+same_settings types (options.PublishSubscribe named) = settings-are types (required [] []) (options.PublishSubscribe named)
 same_settings types (options.Event named) =
-    ap (event_settings_by named) (same_everywhere commands.set_to machine.set_to same_set)
-same_settings types (options.RequestResponse named) = refl
+    ap (event_settings_by named) (same_everywhere commands.set_to set_to same_set)
+    ∙ settings-are types (required [] []) (options.Event named)
+same_settings types (options.RequestResponse named) = settings-are types (required [] []) (options.RequestResponse named)
 
 -- the service that options name
 same_described : (name : List ℕ) (types : MessageTypeDetails) (named : ServiceOptions)

@@ -44,11 +44,11 @@ use Rattle.iox_hub_machine.proofs.Numbered.{goes_so}
 use Rattle.iox_hub_machine.proofs.PortsStay.{ports_stay}
 use Rattle.iox_hub_machine.specs.ServiceLaws.{IsOnServices, SkippedMatches}
 use Rattle.iox_hub_machine.specs.Services.{HubStandsFor, factory_as}
+use Rattle.iox_machine.proofs.Shorthands.{RefusesNode, factory_of}
 use Rattle.iox_machine.specs.Choices.{Choices}
 use Rattle.iox_machine.specs.Agreement.{unfit}
 use Rattle.iox_machine.specs.Asked.{settings_of}
-use Rattle.iox_machine.specs.Factories.{OpensOrCreatesService, OpensService, RefusesNode, create_refusal}
-use Rattle.iox_machine.specs.Run.{factory_of}
+use Rattle.iox_machine.specs.Factories.{OpensOrCreatesService, OpensService, create_refusal}
 use Rattle.iox_machine.specs.Run as machine
 use Rattle.iox_machine.specs.State.{State}
 use Rattle.iox_machine.specs.Table.{at}

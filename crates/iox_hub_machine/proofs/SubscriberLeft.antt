@@ -66,8 +66,8 @@ use Rattle.iox_hub_machine.proofs.Placed.{publisher_as}
 use Rattle.iox_hub_machine.proofs.Readers.{reader_goes, no_subscriber_goes}
 use Rattle.iox_hub_machine.proofs.Rooming.{roomy_there}
 use Rattle.iox_hub_machine.proofs.Settled.{gone_subscriber_is_down, subscribers_beside, kept_beside}
+use Rattle.iox_machine.proofs.Shorthands.{left}
 use Rattle.iox_machine.specs.Choices.{Choices}
-use Rattle.iox_machine.specs.PortList.{left}
 use Rattle.iox_machine.specs.Ports.{subscriber_in}
 use Rattle.iox_machine.specs.Service.{Service, Subscriber, with_subscriber}
 use Rattle.iox_machine.specs.State.{State, AtOne}

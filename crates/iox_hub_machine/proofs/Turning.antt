@@ -14,9 +14,10 @@ use Rattle.iox_command.specs.declared.reply.Reply.{Reply}
 use Rattle.iox_domain_machine.proofs.AloneDid.{by_bool, by_option}
 use Rattle.iox_domain_machine.proofs.Found.{at_changed}
 use Rattle.iox_hub_machine.proofs.Deciding.{DecidesAlike, deciding, same_ports, publisher_alike}
+use Rattle.iox_machine.specs.RunLaws.{sent_as}
 use Rattle.iox_machine.specs.Lending.{Lends, LendsLonger, loan_refusal}
 use Rattle.iox_machine.specs.Mailbox.{Mailbox, newest, put}
-use Rattle.iox_machine.specs.Message.{Message, Loan, is_written, sent_as}
+use Rattle.iox_machine.specs.Message.{Message, Loan, is_written}
 use Rattle.iox_machine.specs.PortList.{those}
 use Rattle.iox_machine.specs.Ports.{Puts, SendsLoan}
 use Rattle.iox_machine.specs.PublisherUpdate.{Follows, UpdatesFirst, ended, welcome}

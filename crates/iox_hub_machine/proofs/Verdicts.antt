@@ -1,5 +1,5 @@
 -- What an opener asks of a service in a hub is what it asks in a machine.
-use Rattle.std.proofs.Common.{◌≡◌, ℕ, List, Option, refl, ap}
+use Rattle.std.proofs.Common.{◌≡◌, ℕ, List, Option, refl, ap, ◌∙◌}
 use Rattle.std.specs.Option.{option_map}
 use Rattle.iox_command.specs.NegotiateBase.DescribeBase.Attributes.{Required}
 use Rattle.iox_command.specs.NegotiateBase.DescribeBase.declared.message_type.MessageTypeDetails.{MessageTypeDetails}
@@ -27,20 +27,21 @@ use Rattle.iox_hub_commands.specs.Asking.{required_request_response, required_se
 use Rattle.iox_hub_machine.proofs.SameSteps.{same_set}
 use Rattle.iox_machine.specs.Agreement.{Agreement, event_verdict, publish_subscribe_verdict, request_response_verdict}
 use Rattle.iox_machine.specs.Asked as machine
+use Rattle.iox_negotiate_machine.proofs.Saying.{event-verdict, publish-subscribe-verdict, request-response-verdict, set_to, settings-are}
 use Rattle.iox_negotiate_machine.specs.CallLaws.{HasNoRoomForHistory}
 use Rattle.iox_negotiate_machine.specs.Standing.{description_of}
 
 -- what is asked of an event service, by what a setting that may be off is to be
 abbrev event_by : EventOptions → Required → (NumberOrOff → Option ℕ) → Requirement
-event_by named attributes set_to = record {
+event_by named attributes by = record {
   attributes = attributes;
-  deadline = option_map set_to named.deadline;
+  deadline = option_map by named.deadline;
   max_notifiers = named.max_notifiers;
   max_listeners = named.max_listeners;
   event_id_max_value = named.event_id_max_value;
-  notifier_created_event = option_map set_to named.notifier_created_event;
-  notifier_dropped_event = option_map set_to named.notifier_dropped_event;
-  notifier_dead_event = option_map set_to named.notifier_dead_event;
+  notifier_created_event = option_map by named.notifier_created_event;
+  notifier_dropped_event = option_map by named.notifier_dropped_event;
+  notifier_dead_event = option_map by named.notifier_dead_event;
   max_nodes = named.max_nodes;
 }
 
@@ -48,26 +49,28 @@ module _ (types : MessageTypeDetails) (attributes : Required) (name : List ℕ) 
   pub same_publish_subscribe_verdict : (named : PublishSubscribeOptions) (agreed : Agreement)
       → first_unmet (publish_subscribe_clauses.clauses (required_publish_subscribe named types attributes)
       (description_of pattern.PublishSubscribe name agreed)) ≡ publish_subscribe_verdict types attributes named agreed
-  same_publish_subscribe_verdict named agreed = refl
+  same_publish_subscribe_verdict named agreed = publish-subscribe-verdict types attributes named agreed
 
   pub same_event_verdict : (named : EventOptions) (agreed : Agreement)
       → first_unmet (event_clauses.clauses (required_event named attributes) (description_of pattern.Event name agreed))
       ≡ event_verdict attributes named agreed
   same_event_verdict named agreed =
-      ap (λ (set_to : NumberOrOff → Option ℕ). first_unmet (event_clauses.clauses_of (event_by named attributes set_to)
-      agreed.attributes agreed.settings)) (same_everywhere commands.set_to machine.set_to same_set)
+      ap (λ (by : NumberOrOff → Option ℕ). first_unmet (event_clauses.clauses_of (event_by named attributes by)
+      agreed.attributes agreed.settings)) (same_everywhere commands.set_to set_to same_set)
+      ∙ event-verdict types attributes named agreed
 
   pub same_request_response_verdict : (named : RequestResponseOptions) (agreed : Agreement)
       → first_unmet (request_response_clauses.clauses (required_request_response named types attributes)
       (description_of pattern.RequestResponse name agreed)) ≡ request_response_verdict types attributes named agreed
-  same_request_response_verdict named agreed = refl
+  same_request_response_verdict named agreed = request-response-verdict types attributes named agreed
 
   same_required_settings : (named : ServiceOptions) → required_settings named types attributes ≡ machine.settings_of types named
-  same_required_settings (options.PublishSubscribe named) = refl
+  same_required_settings (options.PublishSubscribe named) = settings-are types attributes (options.PublishSubscribe named)
   same_required_settings (options.Event named) =
-      ap (λ (set_to : NumberOrOff → Option ℕ). settings.Event (event_settings.adjusted (event_clauses.asked
-      (event_by named attributes set_to)))) (same_everywhere commands.set_to machine.set_to same_set)
-  same_required_settings (options.RequestResponse named) = refl
+      ap (λ (by : NumberOrOff → Option ℕ). settings.Event (event_settings.adjusted (event_clauses.asked
+      (event_by named attributes by)))) (same_everywhere commands.set_to set_to same_set)
+      ∙ settings-are types attributes (options.Event named)
+  same_required_settings (options.RequestResponse named) = settings-are types attributes (options.RequestResponse named)
 
   -- what is agreed on in a service that is created where none stands
   abbrev pub new_agreement : ServiceOptions → Agreement

@@ -10,7 +10,8 @@ use Rattle.iox_queues_steps.specs.declared.access.Word.TheVariants.{Write, Cell}
 use Rattle.iox_queues.specs.Recorded.{Goes}
 use Rattle.iox_queues.specs.Told.{own}
 use Rattle.iox_queues.specs.declared.bits.machine.Event.{Event}
-use Rattle.iox_index_steps.specs.AtomicSteps.{call_begun, call_next, call_take, fills_second, place, table_value}
+use Rattle.iox_index_steps.specs.AtomicSteps.{call_begun, call_next, call_take, fills_second, place}
+use Rattle.iox_queues.specs.Values.{table_value}
 use Rattle.iox_index_steps.specs.AtomicTold.{AreAsked, IsAsked, IsAskedSoFar, LieWithin, MoveEach, call_in_hand, moved_by, moves_of}
 use Rattle.iox_index_steps.specs.AtomicTold.{times_moved}
 use Rattle.iox_index_steps.specs.AtomicMachine.{call_ended, seat_at, stage_at}

@@ -4,7 +4,7 @@ use Rattle.std.proofs.Common.{drop, sym, ◌∙◌, ap, arith, append_assoc}
 use Rattle.std.specs.Global.{Vec}
 use Rattle.iox_queues.specs.Told.{own}
 use Rattle.iox_queues.specs.declared.bits.machine.Event.{Event}
-use Rattle.iox_index_steps.specs.AtomicSteps.{table_value}
+use Rattle.iox_queues.specs.Values.{table_value}
 use Rattle.iox_index_steps.specs.AtomicTold.{Tells, current_of, found_after, put_after}
 use Rattle.iox_index_steps.specs.AtomicKept.{HoldsNone, Knows}
 use Rattle.iox_index_steps.specs.declared.atomic.call.Call.{Call}

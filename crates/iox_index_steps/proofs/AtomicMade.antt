@@ -12,7 +12,8 @@ use Rattle.iox_queues_steps.specs.declared.access.Access.TheVariants.{Load, Stor
 use Rattle.iox_queues_steps.specs.declared.access.Word.TheVariants.{Write, Cell}
 use Rattle.iox_queues.specs.Told.{own}
 use Rattle.iox_queues.specs.declared.bits.machine.Event.{Event}
-use Rattle.iox_index_steps.specs.AtomicSteps.{fills_second, place, table_value}
+use Rattle.iox_index_steps.specs.AtomicSteps.{fills_second, place}
+use Rattle.iox_queues.specs.Values.{table_value}
 use Rattle.iox_index_steps.specs.AtomicTold.{current_by, current_of, found_after, times_moved, moved_by, put_after, put_by}
 use Rattle.iox_index_steps.specs.AtomicKept.{Knows, HalvesFit}
 use Rattle.iox_index_steps.specs.declared.atomic.call.Call.TheVariants as call

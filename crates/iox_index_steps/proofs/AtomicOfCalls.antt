@@ -1,6 +1,7 @@
 -- What a step of a single value's machine is to the calls of its party, and what it adds.
+use Rattle.std.proofs.Common.{◌<◌, ◌&&◌, set}
 use Rattle.std.proofs.Common.{◌≡◌, ℕ, ◌+◌, inl, inr, Bool, true, false, if◌then◌else◌, ◌==◌, nat_lt, not, Option, Some, None, List, []}
-use Rattle.std.proofs.Common.{◌∷◌, ◌++◌, length, replicate, refl, sym, ◌∙◌, ap, subst, arith, append-nil, length-append, slice_index_or}
+use Rattle.std.proofs.Common.{◌∷◌, ◌++◌, length, replicate, refl, sym, ◌∙◌, ap, subst, arith, append-nil, slice_index_or}
 use Rattle.std.proofs.Common.{slice_index}
 use Rattle.std.specs.Global.{Vec}
 use Rattle.std.proofs.lemmas.Bool.{and_parts, ltb-true, ltb-false}
@@ -9,13 +10,15 @@ use Rattle.iox_queues_steps.specs.Access.{answer_of, successor}
 use Rattle.iox_queues_steps.specs.declared.access.Access.TheVariants.{Load, Store, Local}
 use Rattle.iox_queues_steps.specs.declared.access.Word.TheVariants.{Write, Cell}
 use Rattle.iox_queues_steps.specs.declared.schedule.Stepped.{Stepped}
-use Rattle.iox_queues_steps.specs.declared.schedule.Stepped.TheVariants as stepped
+use Rattle.iox_queues.specs.Turns.{EndsOne, LeavesCalls}
+use Rattle.iox_queues.proofs.Turns.{steps_tell_calls}
+use Rattle.iox_index_steps.specs.AtomicMachine.{call_of_step, calls_of, hands}
 use Rattle.iox_queues.specs.Spans.{AddsOne, AreOfCalls, Span, bound_in_hand, is_local, span_in_hand}
 use Rattle.iox_queues.specs.declared.bits.machine.Event.{Event}
 use Rattle.iox_index_steps.specs.AtomicSteps.{call_begun, call_is_idle, call_is_over, call_next, call_take, fills_second, place}
-use Rattle.iox_index_steps.specs.AtomicSteps.{table_value}
+use Rattle.iox_queues.specs.Values.{table_value}
 use Rattle.iox_index_steps.specs.AtomicTold.{call_in_hand}
-use Rattle.iox_index_steps.specs.AtomicMachine.{AtomicState, LeavesBegun, StepsAreOfCalls, StepsTo, TellsStep, begun, begun_at, call_ended}
+use Rattle.iox_index_steps.specs.AtomicMachine.{AtomicState, StepsAreOfCalls, StepsTo, TellsStep, begun, begun_at, call_ended}
 use Rattle.iox_index_steps.specs.AtomicMachine.{ends, fits, happens, idle_seat, party_of, seat_at, spans_ended, stage_at, start, went}
 use Rattle.iox_index_steps.specs.AtomicMachine.{width_of}
 use Rattle.iox_index_steps.specs.declared.atomic.call.Call.{Call}
@@ -148,6 +151,27 @@ start_counted values parties = record {
   begun = λ q first is. absurd (let none : None ≡ Some first = sym (nobody parties q) ∙ is in cc);
 }
 
+-- a call stays the same one until it is over
+either_call : (b : Bool) (one other : AtomicCall) (c : Option Call) → call_in_hand one ≡ c → call_in_hand other ≡ c
+    → call_in_hand (if b then one else other) ≡ c
+either_call true one other c h g = h
+either_call false one other c h g = g
+
+same_call : (n : ℕ) (s : AtomicCall) (answer : ℕ) → call_is_over s ≡ false → call_in_hand (call_take n s answer) ≡ call_in_hand s
+same_call n stage.Idle answer going = refl
+same_call n (stage.Store number) answer going = refl
+same_call n (stage.Fill number counter next) answer going =
+    either_call (nat_lt next n) (stage.Fill number counter (next + 1)) (stage.Done (call.Store number)) (Some (call.Store number)) refl refl
+same_call n stage.Load answer going = refl
+same_call n (stage.Gather counter next) answer going =
+    either_call (nat_lt next n) (stage.Gather counter (next + 1)) _ (Some call.Load) refl
+    (either_call (answer == counter) (stage.Done call.Load) (stage.Gather answer 0) (Some call.Load) refl refl)
+same_call n (stage.Done c) answer going = absurd (cc)
+
+begun_call : (c : Call) → call_in_hand (call_begun c) ≡ Some c
+begun_call (call.Store number) = refl
+begun_call call.Load = refl
+
 -- one step
 made_step : (m : AtomicState) (step : Move) → AddsOne m.events (happens m step).events (party_of step)
 made_step m (Begin party c) = record {
@@ -165,45 +189,78 @@ made_step m (GoOn party) = record {
   its = refl;
 }
 
-begun_call : (c : Call) → call_in_hand (call_begun c) ≡ Some c
-begun_call (call.Store number) = refl
-begun_call call.Load = refl
+-- a party has another seat
+leaves : (m n : AtomicState) (party : ℕ) (seat : Seat) (hand : Option Call) → n.seats ≡ set m.seats party seat → party < length m.seats
+    → call_in_hand seat.stage ≡ hand → LeavesCalls Call (hands m) (hands n) party hand
+leaves m n party seat hand is_set within is = record {
+  its = ap (λ (seats : List Seat). call_in_hand (stage_at seats party)) is_set
+      ∙ ap (λ (s : Seat). call_in_hand s.stage) (seat_here m.seats party seat within) ∙ is;
+  others = λ q differs. ap (λ (seats : List Seat). call_in_hand (stage_at seats q)) is_set
+      ∙ ap (λ (s : Seat). call_in_hand s.stage) (seat_else m.seats party q seat differs);
+}
 
-leaves_begun : (m : AtomicState) (step : Move) → fits m step ≡ true → LeavesBegun step (happens m step)
-leaves_begun m (Begin party c) fit = ap (λ (s : Seat). call_in_hand s.stage)
-    (seat_here m.seats party _ (ltb-true party (length m.seats) (and_parts (nat_lt party (length m.seats)) _ fit).0))
-    ∙ begun_call c
-leaves_begun m (GoOn party) fit = tt
+is_there : (seats : List Seat) (party : ℕ) (b : Bool) → (nat_lt party (length seats) && b) ≡ true → party < length seats
+is_there seats party b fit = ltb-true party (length seats) (and_parts (nat_lt party (length seats)) b fit).0
 
-how_many : (party first last : ℕ) (s : AtomicCall)
-    → length (call_ended party first last s) ≡ (if call_is_over s then 1 else 0)
-how_many party first last stage.Idle = refl
-how_many party first last (stage.Store number) = refl
-how_many party first last (stage.Fill number counter next) = refl
-how_many party first last stage.Load = refl
-how_many party first last (stage.Gather counter next) = refl
-how_many party first last (stage.Done c) = refl
+none_ended : (party first last : ℕ) (s : AtomicCall) → call_is_over s ≡ false → call_ended party first last s ≡ []
+none_ended party first last (stage.Idle) going = refl
+none_ended party first last (stage.Store number) going = refl
+none_ended party first last (stage.Fill number counter next) going = refl
+none_ended party first last (stage.Load) going = refl
+none_ended party first last (stage.Gather counter next) going = refl
+none_ended party first last (stage.Done c) going = absurd (cc)
 
-ended_count : (m : AtomicState) (step : Move) → length (happens m step).finished ≡ length m.finished + (if ends m step then 1 else 0)
-ended_count m (Begin party c) = omega arith
-ended_count m (GoOn party) =
-    let ended : List Finished = call_ended party (seat_at m.seats party).first (length m.events) (stage_at m.seats party) in
-    omega (
-      arith,
-      length-append m.finished ended,
-      how_many party (seat_at m.seats party).first (length m.events) (stage_at m.seats party),
+module _ (n : ℕ) (before : List Finished) (party first last answer : ℕ) where
+  -- the last step of a call ends it, and no other one is in hand then
+  ends_it : (s : AtomicCall) → call_is_over s ≡ true
+      → (call_in_hand (call_take n s answer) ≡ None)
+      × EndsOne Call Finished calls_of.whose calls_of.which before (before ++ call_ended party first last s) party (call_in_hand s)
+  ends_it (stage.Idle) over = absurd (cc)
+  ends_it (stage.Store number) over = absurd (cc)
+  ends_it (stage.Fill number counter next) over = absurd (cc)
+  ends_it (stage.Load) over = absurd (cc)
+  ends_it (stage.Gather counter next) over = absurd (cc)
+  ends_it (stage.Done c) over = (
+    refl,
+    record {
+      ended = record { party = party; call = c; first = first; last = last };
+      added = refl;
+      its = refl;
+      is = refl;
+    },
+  )
+
+goes : (m : AtomicState) (step : Move) → fits m step ≡ true → ends m step ≡ false
+    → LeavesCalls Call (hands m) (hands (happens m step)) (party_of step) (call_of_step m step)
+    × ((happens m step).finished ≡ m.finished)
+goes m (Begin party c) fit going = (
+  leaves m (begun m party c) party (record { stage = call_begun c; first = length m.events }) (Some c) refl
+      (is_there m.seats party _ fit) (begun_call c),
+  refl,
+)
+goes m (GoOn party) fit going =
+    let answer : ℕ = answer_of m.words (call_next (width_of m) m.values (stage_at m.seats party)) in (
+      leaves m (went m party) party
+          (record { stage = call_take (width_of m) (stage_at m.seats party) answer; first = (seat_at m.seats party).first })
+          (hands m party) refl (is_there m.seats party _ fit) (same_call (width_of m) (stage_at m.seats party) answer going),
+      ap (λ (fs : List Finished). m.finished ++ fs)
+          (none_ended party (seat_at m.seats party).first (length m.events) (stage_at m.seats party) going) ∙ append-nil m.finished,
     )
 
-ends_none : (m : AtomicState) (step : Move) → ends m step ≡ false → length (happens m step).finished ≡ length m.finished
-ends_none m step going = ended_count m step ∙ ap (λ (b : Bool). length m.finished + (if b then 1 else 0)) going ∙ omega arith
-
-ends_one : (m : AtomicState) (step : Move) → ends m step ≡ true → length (happens m step).finished ≡ length m.finished + 1
-ends_one m step over = ended_count m step ∙ ap (λ (b : Bool). length m.finished + (if b then 1 else 0)) over
+ended : (m : AtomicState) (step : Move) → fits m step ≡ true → ends m step ≡ true
+    → LeavesCalls Call (hands m) (hands (happens m step)) (party_of step) None
+    × EndsOne Call Finished calls_of.whose calls_of.which m.finished (happens m step).finished (party_of step) (call_of_step m step)
+ended m (Begin party c) fit over = absurd (cc)
+ended m (GoOn party) fit over =
+    let answer : ℕ = answer_of m.words (call_next (width_of m) m.values (stage_at m.seats party)) in
+    let both : (call_in_hand (call_take (width_of m) (stage_at m.seats party) answer) ≡ None) × _
+    = ends_it (width_of m) m.finished party (seat_at m.seats party).first (length m.events) answer (stage_at m.seats party) over in (
+      leaves m (went m party) party
+          (record { stage = call_take (width_of m) (stage_at m.seats party) answer; first = (seat_at m.seats party).first })
+          None refl (is_there m.seats party _ fit) both.0,
+      both.1,
+    )
 
 pub steps_tell : (m : AtomicState) (step : Move) (r : Stepped) (n : AtomicState) → StepsTo m step r n → TellsStep m step r n
-steps_tell m step stepped.Went n h = subst (TellsStep m step stepped.Went) (sym h.2)
-    (made_step m step, leaves_begun m step h.0, ends_none m step h.1)
-steps_tell m step stepped.Finished n h = subst (TellsStep m step stepped.Finished) (sym h.2)
-    (made_step m step, leaves_begun m step h.0, ends_one m step h.1)
-steps_tell m step stepped.Skipped n h = h.1
-steps_tell m step stepped.NoMemory n h = h.1
+steps_tell m step r n h = steps_tell_calls AtomicState Move fits ends happens Call Finished calls_of m step (party_of step)
+    (call_of_step m step) (λ fit. made_step m step) (goes m step) (ended m step) r n h

@@ -7,16 +7,16 @@ use Rattle.std.specs.Global.{Vec}
 use Rattle.std.proofs.lemmas.Bool.{and_parts, cases_eq, cases_lt, eqb-true, ltb-true, ltb-false}
 use Rattle.std.proofs.lemmas.List.{take-append-le}
 use Rattle.iox_queues_steps.specs.Access.{RingWords, answer_of, after_access, successor}
-use Rattle.iox_queues_steps.specs.Schedule.{count_of, is_stopped_of}
 use Rattle.iox_queues_steps.specs.declared.access.Access.{Access}
 use Rattle.iox_queues_steps.specs.declared.access.Access.TheVariants.{Load, Store, Exchange, Local}
 use Rattle.iox_queues_steps.specs.declared.access.Word.TheVariants.{Write, Read, Cell}
 use Rattle.iox_queues_steps.specs.declared.schedule.Stepped.{Stepped}
 use Rattle.iox_queues_steps.specs.declared.schedule.Stepped.TheVariants as stepped
 use Rattle.iox_queues.specs.declared.bits.machine.Event.{Event}
-use Rattle.iox_index_steps.specs.AtomicSteps.{call_begun, call_is_idle, call_next, call_take, fills_second, place, table_value}
+use Rattle.iox_index_steps.specs.AtomicSteps.{call_begun, call_is_idle, call_next, call_take, fills_second, place}
+use Rattle.iox_queues.specs.Values.{table_value}
 use Rattle.iox_index_steps.specs.AtomicTold.{IsAskedSoFar, Tells, call_in_hand, current_of, times_moved, moved_by, put_after}
-use Rattle.iox_index_steps.specs.AtomicMachine.{AtomicState, HasFewStores, MovesOnce, SomeStores, IsStored, IsTold, RunsTo, StepsTo, begun}
+use Rattle.iox_index_steps.specs.AtomicMachine.{AtomicState, HasFewStores, MovesOnce, SomeStores, IsStored, IsTold, StepsTo, begun}
 use Rattle.iox_index_steps.specs.AtomicMachine.{call_ended, fits, happens, initial_of, may_begin, producer_after, producer_begun, seat_at}
 use Rattle.iox_index_steps.specs.AtomicMachine.{stage_at, start_words, went, width_of}
 use Rattle.iox_index_steps.specs.AtomicKept.{IsConsistent, IsKept, Knows, HalvesFit}
@@ -437,26 +437,3 @@ moved_within (e ∷ events) = omega (arith, moved_once e.access, moved_within ev
 -- fewer steps are fewer stores
 pub short_few : (m : AtomicState) → length m.events < 2 ^ 64 - 1 → HasFewStores m
 short_few m short = omega (arith, moved_within m.events, short)
-
--- one more step of a list
-pub run_more : (m : AtomicState) (step : Move) (steps : List Move) (r : Stepped) (m' n : AtomicState) (k made : ℕ)
-    → StepsTo m step r m' → is_stopped_of r ≡ false → made ≡ count_of r + k → RunsTo m' steps k n
-    → RunsTo m (step ∷ steps) made n
-run_more m step steps stepped.Went m' n k made h go e g
-    = inr (inl (h.0, (k, omega arith, subst (λ (x : AtomicState). RunsTo x steps k n) h.2 g)))
-run_more m step steps stepped.Finished m' n k made h go e g
-    = inr (inl (h.0, (k, omega arith, subst (λ (x : AtomicState). RunsTo x steps k n) h.2 g)))
-run_more m step steps stepped.Skipped m' n k made h go e g =
-    inl (h.0, subst (λ (i : ℕ). RunsTo m steps i n) (omega arith) (subst (λ (x : AtomicState). RunsTo x steps k n) h.1 g))
-run_more m step steps stepped.NoMemory m' n k made h go e g = absurd (cc)
-
-pub run_stops : (m : AtomicState) (step : Move) (steps : List Move) (r : Stepped) (m' : AtomicState) → StepsTo m step r m'
-    → is_stopped_of r ≡ true → RunsTo m (step ∷ steps) 0 m'
-run_stops m step steps stepped.Went m' h go = absurd (cc)
-run_stops m step steps stepped.Finished m' h go = absurd (cc)
-run_stops m step steps stepped.Skipped m' h go = absurd (cc)
-run_stops m step steps stepped.NoMemory m' h go = inr (inr (h.0, refl, h.1))
-
-pub no_more : (xs : List Move) → length xs ≡ 0 → xs ≡ []
-no_more [] h = refl
-no_more (x ∷ xs) h = absurd (omega arith)

@@ -4,7 +4,7 @@ use Rattle.std.proofs.Common.{take, drop, replicate, refl, sym, ◌∙◌, ap, s
 use Rattle.std.specs.Global.{Vec}
 use Rattle.std.proofs.lemmas.Bool.{ltb-true, ltb-false}
 use Rattle.std.proofs.lemmas.List.{get_or-replicate, get_or_append_left, get_or_past, length-replicate}
-use Rattle.iox_index_steps.specs.AtomicSteps.{table_value}
+use Rattle.iox_queues.specs.Values.{table_value}
 use Rattle.iox_index_steps.specs.AtomicTold.{IsAskedSoFar, call_in_hand, current_of}
 use Rattle.iox_queues.specs.Told.{own}
 use Rattle.iox_index_steps.specs.AtomicMachine.{idle_seat, seat_at, start}

@@ -1,20 +1,23 @@
 -- What a step of an index set's machine is to the calls of its party, and what it adds.
-use Rattle.std.proofs.Common.{◌≡◌, ℕ, ◌+◌, inl, inr, Bool, true, false, if◌then◌else◌, ◌==◌, nat_le, nat_lt, not, Option, Some, None}
-use Rattle.std.proofs.Common.{List, [], ◌∷◌, ◌++◌, length, replicate, refl, sym, ◌∙◌, ap, subst, arith, append-nil, length-append}
+use Rattle.std.proofs.Common.{◌<◌, ◌&&◌, set}
+use Rattle.std.proofs.Common.{◌≡◌, ℕ, inl, inr, Bool, true, false, if◌then◌else◌, ◌==◌, nat_le, nat_lt, not, Option, Some, None}
+use Rattle.std.proofs.Common.{List, [], ◌∷◌, ◌++◌, length, replicate, refl, sym, ◌∙◌, ap, subst, arith, append-nil}
 use Rattle.std.proofs.Common.{slice_index_or}
 use Rattle.std.proofs.lemmas.Bool.{and_parts, ltb-true, ltb-false}
 use Rattle.std.proofs.lemmas.List.{get_or-replicate, get_or_past, length-replicate}
 use Rattle.iox_queues_steps.specs.Access.{answer_of}
 use Rattle.iox_queues_steps.specs.declared.access.Access.TheVariants.{Local}
 use Rattle.iox_queues_steps.specs.declared.schedule.Stepped.{Stepped}
-use Rattle.iox_queues_steps.specs.declared.schedule.Stepped.TheVariants as stepped
+use Rattle.iox_queues.specs.Turns.{EndsOne, LeavesCalls}
+use Rattle.iox_queues.proofs.Turns.{steps_tell_calls}
+use Rattle.iox_index_steps.specs.OfCalls.{call_of_step, calls_of, hands}
 use Rattle.iox_queues.specs.Spans.{AddsOne, AreOfCalls, Span, bound_in_hand, span_in_hand}
 use Rattle.iox_queues.specs.declared.bits.machine.Event.{Event}
 use Rattle.iox_index_steps.specs.Steps.{borrowed_count, call_begun, call_is_idle, call_is_over, call_next, call_take, lock_mark, next_free}
 use Rattle.iox_index_steps.specs.Steps.{seen_by_acquire}
 use Rattle.iox_index_steps.specs.Machine.{IndexSetState, StepsTo, begun, call_ended, ends, fits, happens, idle_seat, seat_at, stage_at}
 use Rattle.iox_index_steps.specs.Machine.{start, went}
-use Rattle.iox_index_steps.specs.OfCalls.{LeavesBegun, StepsAreOfCalls, TellsStep, begun_at, call_in_hand, party_of, spans_ended}
+use Rattle.iox_index_steps.specs.OfCalls.{StepsAreOfCalls, TellsStep, begun_at, call_in_hand, party_of, spans_ended}
 use Rattle.iox_index_steps.specs.declared.call.Call.{Call}
 use Rattle.iox_index_steps.specs.declared.call.Call.TheVariants as call
 use Rattle.iox_index_steps.specs.declared.call.IndexCall.{IndexCall}
@@ -134,6 +137,32 @@ start_counted capacity parties = record {
   begun = λ q first is. absurd (let none : None ≡ Some first = sym (nobody parties q) ∙ is in cc);
 }
 
+-- a call stays the same one until it is over
+either_call : (b : Bool) (one other : IndexCall) (c : Option Call) → call_in_hand one ≡ c → call_in_hand other ≡ c
+    → call_in_hand (if b then one else other) ≡ c
+either_call true one other c h g = h
+either_call false one other c h g = g
+
+seen_call : (capacity word : ℕ) → call_in_hand (seen_by_acquire capacity word) ≡ Some call.Acquire
+seen_call capacity word = either_call (nat_le capacity (next_free word)) _ _ (Some call.Acquire) refl
+    (either_call (borrowed_count word == lock_mark) _ (Follow capacity word) (Some call.Acquire) refl refl)
+
+same_call : (s : IndexCall) (answer : ℕ) → call_is_over s ≡ false → call_in_hand (call_take s answer) ≡ call_in_hand s
+same_call Idle answer going = refl
+same_call (Acquire capacity) answer going = seen_call capacity answer
+same_call (Follow capacity word) answer going = refl
+same_call (Take capacity word next) answer going =
+    either_call (answer == word) _ _ (Some call.Acquire) refl (seen_call capacity answer)
+same_call (Release index mode) answer going = refl
+same_call (Link index mode word) answer going = refl
+same_call (Give index mode word) answer going = either_call (answer == word) _ (Link index mode answer) (Some (call.Release index mode))
+    refl refl
+same_call (Done c answered) answer going = absurd (cc)
+
+begun_call : (n : ℕ) (c : Call) → call_in_hand (call_begun n c) ≡ Some c
+begun_call n call.Acquire = refl
+begun_call n (call.Release index mode) = refl
+
 -- one step
 made_step : (m : IndexSetState) (step : Move) → AddsOne m.events (happens m step).events (party_of step)
 made_step m (Begin party c) = record {
@@ -151,47 +180,80 @@ made_step m (GoOn party) = record {
   its = refl;
 }
 
-begun_call : (n : ℕ) (c : Call) → call_in_hand (call_begun n c) ≡ Some c
-begun_call n call.Acquire = refl
-begun_call n (call.Release index mode) = refl
+-- a party has another seat
+leaves : (m n : IndexSetState) (party : ℕ) (seat : Seat) (hand : Option Call) → n.seats ≡ set m.seats party seat → party < length m.seats
+    → call_in_hand seat.stage ≡ hand → LeavesCalls Call (hands m) (hands n) party hand
+leaves m n party seat hand is_set within is = record {
+  its = ap (λ (seats : List Seat). call_in_hand (stage_at seats party)) is_set
+      ∙ ap (λ (s : Seat). call_in_hand s.stage) (seat_here m.seats party seat within) ∙ is;
+  others = λ q differs. ap (λ (seats : List Seat). call_in_hand (stage_at seats q)) is_set
+      ∙ ap (λ (s : Seat). call_in_hand s.stage) (seat_else m.seats party q seat differs);
+}
 
-leaves_begun : (m : IndexSetState) (step : Move) → fits m step ≡ true → LeavesBegun step (happens m step)
-leaves_begun m (Begin party c) fit = ap (λ (s : Seat). call_in_hand s.stage)
-    (seat_here m.seats party _ (ltb-true party (length m.seats) (and_parts (nat_lt party (length m.seats)) _ fit).0))
-    ∙ begun_call (length m.words.cells) c
-leaves_begun m (GoOn party) fit = tt
+is_there : (seats : List Seat) (party : ℕ) (b : Bool) → (nat_lt party (length seats) && b) ≡ true → party < length seats
+is_there seats party b fit = ltb-true party (length seats) (and_parts (nat_lt party (length seats)) b fit).0
 
-how_many : (party first last : ℕ) (stage : IndexCall)
-    → length (call_ended party first last stage) ≡ (if call_is_over stage then 1 else 0)
-how_many party first last Idle = refl
-how_many party first last (Acquire capacity) = refl
-how_many party first last (Follow capacity word) = refl
-how_many party first last (Take capacity word next) = refl
-how_many party first last (Release index mode) = refl
-how_many party first last (Link index mode word) = refl
-how_many party first last (Give index mode word) = refl
-how_many party first last (Done c answer) = refl
+none_ended : (party first last : ℕ) (s : IndexCall) → call_is_over s ≡ false → call_ended party first last s ≡ []
+none_ended party first last (Idle) going = refl
+none_ended party first last (Acquire capacity) going = refl
+none_ended party first last (Follow capacity word) going = refl
+none_ended party first last (Take capacity word next) going = refl
+none_ended party first last (Release index mode) going = refl
+none_ended party first last (Link index mode word) going = refl
+none_ended party first last (Give index mode word) going = refl
+none_ended party first last (Done c a) going = absurd (cc)
 
-ended_count : (m : IndexSetState) (step : Move) → length (happens m step).finished ≡ length m.finished + (if ends m step then 1 else 0)
-ended_count m (Begin party c) = omega arith
-ended_count m (GoOn party) =
-    let ended : List Finished = call_ended party (seat_at m.seats party).first (length m.events) (stage_at m.seats party) in
-    omega (
-      arith,
-      length-append m.finished ended,
-      how_many party (seat_at m.seats party).first (length m.events) (stage_at m.seats party),
+module _ (before : List Finished) (party first last answer : ℕ) where
+  -- the last step of a call ends it, and no other one is in hand then
+  ends_it : (s : IndexCall) → call_is_over s ≡ true
+      → (call_in_hand (call_take s answer) ≡ None)
+      × EndsOne Call Finished calls_of.whose calls_of.which before (before ++ call_ended party first last s) party (call_in_hand s)
+  ends_it (Idle) over = absurd (cc)
+  ends_it (Acquire capacity) over = absurd (cc)
+  ends_it (Follow capacity word) over = absurd (cc)
+  ends_it (Take capacity word next) over = absurd (cc)
+  ends_it (Release index mode) over = absurd (cc)
+  ends_it (Link index mode word) over = absurd (cc)
+  ends_it (Give index mode word) over = absurd (cc)
+  ends_it (Done c a) over = (
+    refl,
+    record {
+      ended = record { party = party; call = c; answer = a; first = first; last = last };
+      added = refl;
+      its = refl;
+      is = refl;
+    },
+  )
+
+goes : (m : IndexSetState) (step : Move) → fits m step ≡ true → ends m step ≡ false
+    → LeavesCalls Call (hands m) (hands (happens m step)) (party_of step) (call_of_step m step)
+    × ((happens m step).finished ≡ m.finished)
+goes m (Begin party c) fit going = (
+  leaves m (begun m party c) party (record { stage = call_begun (length m.words.cells) c; first = length m.events }) (Some c) refl
+      (is_there m.seats party _ fit) (begun_call (length m.words.cells) c),
+  refl,
+)
+goes m (GoOn party) fit going =
+    let answer : ℕ = answer_of m.words (call_next (stage_at m.seats party)) in (
+      leaves m (went m party) party (record { stage = call_take (stage_at m.seats party) answer; first = (seat_at m.seats party).first })
+          (hands m party) refl (is_there m.seats party _ fit) (same_call (stage_at m.seats party) answer going),
+      ap (λ (fs : List Finished). m.finished ++ fs)
+          (none_ended party (seat_at m.seats party).first (length m.events) (stage_at m.seats party) going) ∙ append-nil m.finished,
     )
 
-ends_none : (m : IndexSetState) (step : Move) → ends m step ≡ false → length (happens m step).finished ≡ length m.finished
-ends_none m step going = ended_count m step ∙ ap (λ (b : Bool). length m.finished + (if b then 1 else 0)) going ∙ omega arith
-
-ends_one : (m : IndexSetState) (step : Move) → ends m step ≡ true → length (happens m step).finished ≡ length m.finished + 1
-ends_one m step over = ended_count m step ∙ ap (λ (b : Bool). length m.finished + (if b then 1 else 0)) over
+ended : (m : IndexSetState) (step : Move) → fits m step ≡ true → ends m step ≡ true
+    → LeavesCalls Call (hands m) (hands (happens m step)) (party_of step) None
+    × EndsOne Call Finished calls_of.whose calls_of.which m.finished (happens m step).finished (party_of step) (call_of_step m step)
+ended m (Begin party c) fit over = absurd (cc)
+ended m (GoOn party) fit over =
+    let answer : ℕ = answer_of m.words (call_next (stage_at m.seats party)) in
+    let both : (call_in_hand (call_take (stage_at m.seats party) answer) ≡ None) × _
+    = ends_it m.finished party (seat_at m.seats party).first (length m.events) answer (stage_at m.seats party) over in (
+      leaves m (went m party) party (record { stage = call_take (stage_at m.seats party) answer; first = (seat_at m.seats party).first })
+          None refl (is_there m.seats party _ fit) both.0,
+      both.1,
+    )
 
 pub steps_tell : (m : IndexSetState) (step : Move) (r : Stepped) (n : IndexSetState) → StepsTo m step r n → TellsStep m step r n
-steps_tell m step stepped.Went n h = subst (TellsStep m step stepped.Went) (sym h.2)
-    (made_step m step, leaves_begun m step h.0, ends_none m step h.1)
-steps_tell m step stepped.Finished n h = subst (TellsStep m step stepped.Finished) (sym h.2)
-    (made_step m step, leaves_begun m step h.0, ends_one m step h.1)
-steps_tell m step stepped.Skipped n h = h.1
-steps_tell m step stepped.NoMemory n h = h.1
+steps_tell m step r n h = steps_tell_calls IndexSetState Move fits ends happens Call Finished calls_of m step (party_of step)
+    (call_of_step m step) (λ fit. made_step m step) (goes m step) (ended m step) r n h

@@ -4,7 +4,6 @@ use Rattle.std.proofs.Common.{List, [], ◌∷◌, ◌++◌, length, drop, refl,
 use Rattle.std.proofs.Math.Seq.{drop-append_seam}
 use Rattle.std.proofs.lemmas.Bool.{and_parts, cases_eq, eqb-true, ltb-true}
 use Rattle.iox_queues_steps.specs.Access.{answer_of, after_access}
-use Rattle.iox_queues_steps.specs.Schedule.{count_of, is_stopped_of}
 use Rattle.iox_queues_steps.specs.declared.access.Access.TheVariants.{Local}
 use Rattle.iox_queues_steps.specs.declared.schedule.Stepped.{Stepped}
 use Rattle.iox_queues_steps.specs.declared.schedule.Stepped.TheVariants as stepped
@@ -16,7 +15,7 @@ use Rattle.iox_queues.specs.declared.bits.machine.Event.{Event}
 use Rattle.iox_index_steps.specs.Steps.{call_begun, call_is_idle, call_next, call_take}
 use Rattle.iox_index_steps.specs.Changes.{times_given, times_taken}
 use Rattle.iox_index_steps.specs.Told.{AreAsked, IsAskedSoFar, MoveNone, has_locked, is_locking, some_has_locked}
-use Rattle.iox_index_steps.specs.Machine.{HasFewChanges, IndexSetState, IsOrderly, IsRecorded, RunsTo, StaysLocked, StepsTo, begun}
+use Rattle.iox_index_steps.specs.Machine.{HasFewChanges, IndexSetState, IsOrderly, IsRecorded, StaysLocked, StepsTo, begun}
 use Rattle.iox_index_steps.specs.Machine.{call_ended, fits, happens, holder_of, holders_after, is_locked, may_begin, seat_at, stage_at}
 use Rattle.iox_index_steps.specs.Machine.{start_words, went}
 use Rattle.iox_index_steps.specs.Kept.{HasCells, IsKept, IsConsistent, Knows}
@@ -334,36 +333,8 @@ orderly m k few =
       none_out = λ locked i. omega
           (arith, s.whole.taken i, none_left m.holders i (locked_free m.words m.holders m.events s.whole k.few k.size locked));
       told = s.told;
+      going = λ party c answer is. subst (Knows m.words m.holders m.events party (seat_at m.seats party).first) is (s.knows party);
     }
-
--- one more step of a list
-pub run_more : (m : IndexSetState) (step : Move) (steps : List Move) (r : Stepped) (m' n : IndexSetState) (k made : ℕ)
-    → StepsTo m step r m' → is_stopped_of r ≡ false → made ≡ count_of r + k → RunsTo m' steps k n
-    → RunsTo m (step ∷ steps) made n
-run_more m step steps stepped.Went m' n k made h go e g
-    = inr (inl (h.0, (k, omega arith, subst (λ (x : IndexSetState). RunsTo x steps k n) h.2 g)))
-run_more m step steps stepped.Finished m' n k made h go e g
-    = inr (inl (h.0, (k, omega arith, subst (λ (x : IndexSetState). RunsTo x steps k n) h.2 g)))
-run_more m step steps stepped.Skipped m' n k made h go e g =
-    inl (h.0, subst (λ (i : ℕ). RunsTo m steps i n) (omega arith) (subst (λ (x : IndexSetState). RunsTo x steps k n) h.1 g))
-run_more m step steps stepped.NoMemory m' n k made h go e g = absurd (cc)
-
-pub run_stops : (m : IndexSetState) (step : Move) (steps : List Move) (r : Stepped) (m' : IndexSetState) → StepsTo m step r m'
-    → is_stopped_of r ≡ true → RunsTo m (step ∷ steps) 0 m'
-run_stops m step steps stepped.Went m' h go = absurd (cc)
-run_stops m step steps stepped.Finished m' h go = absurd (cc)
-run_stops m step steps stepped.Skipped m' h go = absurd (cc)
-run_stops m step steps stepped.NoMemory m' h go = inr (inr (h.0, refl, h.1))
-
-pub counts_one : (r : Stepped) (n : ℕ) → n ≡ count_of r → n ≤ 1
-counts_one stepped.Went n e = omega arith
-counts_one stepped.Finished n e = omega arith
-counts_one stepped.Skipped n e = omega arith
-counts_one stepped.NoMemory n e = omega arith
-
-pub no_more : (xs : List Move) → length xs ≡ 0 → xs ≡ []
-no_more [] h = refl
-no_more (x ∷ xs) h = absurd (omega arith)
 
 pub goes_on : (m n o : IndexSetState) → PassesTo m n → PassesTo n o → PassesTo m o
 goes_on m n o first second few =

@@ -4,7 +4,8 @@ use Rattle.std.specs.Global.{Vec}
 use Rattle.iox_queues_steps.specs.Access.{RingWords}
 use Rattle.iox_queues.specs.Told.{own}
 use Rattle.iox_queues.specs.declared.bits.machine.Event.{Event}
-use Rattle.iox_index_steps.specs.AtomicSteps.{fills_second, place, table_value}
+use Rattle.iox_index_steps.specs.AtomicSteps.{fills_second, place}
+use Rattle.iox_queues.specs.Values.{table_value}
 use Rattle.iox_index_steps.specs.AtomicTold.{AreTold, Tells, current_of, found_after, times_moved, put_after}
 use Rattle.iox_index_steps.specs.AtomicMachine.{AtomicState, HasFewStores, IsRecorded, IsStored, StepsAreOfCalls, initial_of, seat_at}
 use Rattle.iox_index_steps.specs.AtomicMachine.{stage_at, width_of}

@@ -1,16 +1,17 @@
 -- A single value as a machine: its steps, and what every list of them keeps.
-use Rattle.std.specs.Prelude.{ℕ, ◌≡◌, ◌+◌, ◌-◌, ◌^◌, ◌<◌, ◌⊎◌, Bool, true, false, not, ◌&&◌, nat_lt, Option, Some, None, List, [], ◌∷◌}
+use Rattle.std.specs.Prelude.{ℕ, ◌≡◌, ◌-◌, ◌^◌, ◌<◌, ◌⊎◌, Bool, true, false, not, ◌&&◌, nat_lt, Option, Some, None, List, [], ◌∷◌}
 use Rattle.std.specs.Prelude.{◌++◌, length, set, slice_get, take, drop, replicate, is_none, ◌==◌, if◌then◌else◌}
 use Rattle.std.specs.Global.{Vec}
 use Rattle.iox_queues_steps.specs.Access.{RingWords, answer_of, after_access}
 use Rattle.iox_queues_steps.specs.declared.access.Access.TheVariants.{Local}
 use Rattle.iox_queues_steps.specs.declared.schedule.Stepped.{Stepped}
-use Rattle.iox_queues_steps.specs.declared.schedule.Stepped.TheVariants as stepped
 use Rattle.iox_queues.specs.declared.bits.machine.Event.{Event}
 use Rattle.iox_queues.specs.Recorded.{Answered}
-use Rattle.iox_queues.specs.Spans.{AddsOne, AreOfCalls, Span}
+use Rattle.iox_queues.specs.Spans.{AreOfCalls, Span}
 use Rattle.iox_queues.specs.Told.{own}
-use Rattle.iox_index_steps.specs.AtomicSteps.{table_value, call_begun, call_next, call_take, call_is_idle, call_is_over}
+use Rattle.iox_queues.specs.Turns.{CallsOf, RunsBy, StepsBy, TellsCalls}
+use Rattle.iox_index_steps.specs.AtomicSteps.{call_begun, call_next, call_take, call_is_idle, call_is_over}
+use Rattle.iox_queues.specs.Values.{table_value}
 use Rattle.iox_index_steps.specs.AtomicTold.{AreAsked, AreTold, IsAskedSoFar, LieWithin, MoveEach, Tells, call_in_hand, current_of}
 use Rattle.iox_index_steps.specs.AtomicTold.{times_moved}
 use Rattle.iox_index_steps.specs.declared.atomic.call.Call.{Call}
@@ -130,18 +131,11 @@ happens m (GoOn party) = went m party
 
 -- what a step answers, and what it leaves
 abbrev pub StepsTo : AtomicState → Move → Stepped → AtomicState → Type 0
-StepsTo m step stepped.Went n = (fits m step ≡ true) × (ends m step ≡ false) × (n ≡ happens m step)
-StepsTo m step stepped.Finished n = (fits m step ≡ true) × (ends m step ≡ true) × (n ≡ happens m step)
-StepsTo m step stepped.Skipped n = (fits m step ≡ false) × (n ≡ m)
-StepsTo m step stepped.NoMemory n = (fits m step ≡ true) × (n ≡ m)
+StepsTo m step r n = StepsBy fits ends happens m step r n
 
 -- a list of steps, of which `made` were made; it may stop where a step that fits finds no memory
 abbrev pub RunsTo : AtomicState → List Move → ℕ → AtomicState → Type 0
-RunsTo m [] made n = (made ≡ 0) × (n ≡ m)
-RunsTo m (step ∷ steps) made n =
-    ((fits m step ≡ false) × RunsTo m steps made n)
-    ⊎ (((fits m step ≡ true) × ((fewer : ℕ) × (made ≡ fewer + 1) × RunsTo (happens m step) steps fewer n))
-    ⊎ ((fits m step ≡ true) × (made ≡ 0) × (n ≡ m)))
+RunsTo m steps made n = RunsBy fits happens m steps made n
 
 -- both halves hold the first words, and the counter says that the first half does
 abbrev pub start_words : List ℕ → RingWords
@@ -197,19 +191,29 @@ abbrev pub party_of : Move → ℕ
 party_of (Begin party c) = party
 party_of (GoOn party) = party
 
--- a begin leaves its party in the call that was asked for
-abbrev pub LeavesBegun : Move → AtomicState → Type 0
-LeavesBegun (Begin party c) n = call_in_hand (stage_at n.seats party) ≡ Some c
-LeavesBegun (GoOn party) n = Unit {0}
+-- the call that each party is in
+abbrev pub hands : AtomicState → ℕ → Option Call
+hands m party = call_in_hand (stage_at m.seats party)
 
--- a step that was made is one event of the party that was asked; the last one of a call is that of one more call that ended
+-- the call that a step is of: the one that it begins, or the one that was begun
+abbrev pub call_of_step : AtomicState → Move → Option Call
+call_of_step m (Begin party c) = Some c
+call_of_step m (GoOn party) = hands m party
+
+-- where this machine has its steps and its calls
+abbrev pub calls_of : CallsOf AtomicState Call Finished
+calls_of = record {
+  events = λ (m : AtomicState). m.events;
+  finished = λ (m : AtomicState). m.finished;
+  whose = λ (f : Finished). f.party;
+  which = λ (f : Finished). f.call;
+  hands = hands;
+}
+
+-- a step that was made is one event of the party that was asked, and leaves it in the call that the step is of. The last one of that
+-- call leaves it in none, and ends just that call; each other party stays in its own
 abbrev pub TellsStep : AtomicState → Move → Stepped → AtomicState → Type 0
-TellsStep m step stepped.Went n =
-    AddsOne m.events n.events (party_of step) × LeavesBegun step n × (length n.finished ≡ length m.finished)
-TellsStep m step stepped.Finished n =
-    AddsOne m.events n.events (party_of step) × LeavesBegun step n × (length n.finished ≡ length m.finished + 1)
-TellsStep m step stepped.Skipped n = n ≡ m
-TellsStep m step stepped.NoMemory n = n ≡ m
+TellsStep m step r n = TellsCalls AtomicState Call Finished calls_of m (party_of step) (call_of_step m step) r n
 
 -- the call is a store of these words
 abbrev pub IsStoreOf : List (Vec ℕ) → List ℕ → Call → Type 0

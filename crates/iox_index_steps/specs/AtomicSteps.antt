@@ -1,24 +1,16 @@
 -- The steps of calls on a single value, by the stage where each stands.
-use Rattle.std.specs.Prelude.{ℕ, ◌+◌, ◌%◌, Bool, true, false, not, if◌then◌else◌, ◌==◌, nat_lt, Option, Some, None, List, []}
-use Rattle.std.specs.Prelude.{slice_get, slice_index, vec_items}
+use Rattle.std.specs.Prelude.{ℕ, ◌+◌, ◌%◌, Bool, true, false, not, if◌then◌else◌, ◌==◌, nat_lt, List}
+use Rattle.std.specs.Prelude.{slice_index}
 use Rattle.std.specs.Global.{Vec}
 use Rattle.iox_queues_steps.specs.Access.{successor}
 use Rattle.iox_queues_steps.specs.declared.access.Word.TheVariants.{Write, Cell}
 use Rattle.iox_queues_steps.specs.declared.access.Access.{Access}
 use Rattle.iox_queues_steps.specs.declared.access.Access.TheVariants.{Load, Store, Local}
+use Rattle.iox_queues.specs.Values.{table_value}
 use Rattle.iox_index_steps.specs.declared.atomic.call.Call.{Call}
 use Rattle.iox_index_steps.specs.declared.atomic.call.Call.TheVariants as call
 use Rattle.iox_index_steps.specs.declared.atomic.call.AtomicCall.{AtomicCall}
 use Rattle.iox_index_steps.specs.declared.atomic.call.AtomicCall.TheVariants as stage
-
--- the words of a value, if it is there
-abbrev pub words_if_there : Option (Vec ℕ) → List ℕ
-words_if_there None = []
-words_if_there (Some words) = vec_items words
-
--- the words of a value in the table, by its number
-abbrev pub table_value : List (Vec ℕ) → ℕ → List ℕ
-table_value values number = words_if_there (slice_get values number)
 
 -- a store that saw this counter fills the second half of the cells; a load looks at the other half
 abbrev pub fills_second : ℕ → Bool

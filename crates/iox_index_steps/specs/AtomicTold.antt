@@ -7,7 +7,8 @@ use Rattle.iox_queues_steps.specs.declared.access.Access.TheVariants.{Load, Stor
 use Rattle.iox_queues.specs.Told.{own}
 use Rattle.iox_queues.specs.declared.bits.machine.Event.{Event}
 use Rattle.iox_queues.specs.Recorded.{IsAskedFrom}
-use Rattle.iox_index_steps.specs.AtomicSteps.{call_begun, call_next, call_take, table_value}
+use Rattle.iox_index_steps.specs.AtomicSteps.{call_begun, call_next, call_take}
+use Rattle.iox_queues.specs.Values.{table_value}
 use Rattle.iox_index_steps.specs.declared.atomic.call.AtomicCall.{AtomicCall}
 use Rattle.iox_index_steps.specs.declared.atomic.call.AtomicCall.TheVariants as stage
 use Rattle.iox_index_steps.specs.declared.atomic.call.Call.{Call}

@@ -1,18 +1,20 @@
 -- A set of indices as a machine: its steps, and what every list of them keeps.
-use Rattle.std.specs.Prelude.{ℕ, ◌≡◌, ◌+◌, ◌<◌, ◌⊎◌, Bool, true, false, not, if◌then◌else◌, ◌==◌, ◌&&◌, nat_lt, Option, Some, None, List, [], ◌∷◌, ◌++◌, length, set, slice_get, slice_index_or, take, drop, replicate}
+use Rattle.std.specs.Prelude.{ℕ, ◌≡◌, ◌+◌, ◌<◌, ◌⊎◌, Bool, true, false, not, if◌then◌else◌, ◌==◌, ◌&&◌, nat_lt, Option, Some, None, List}
+use Rattle.std.specs.Prelude.{[], ◌∷◌, ◌++◌, length, set, slice_get, slice_index_or, take, drop, replicate}
 use Rattle.std.specs.List.{range_with_len}
 use Rattle.iox_queues_steps.specs.Access.{RingWords, answer_of, after_access}
 use Rattle.iox_queues_steps.specs.declared.access.Access.TheVariants.{Local}
 use Rattle.iox_queues_steps.specs.declared.schedule.Stepped.{Stepped}
-use Rattle.iox_queues_steps.specs.declared.schedule.Stepped.TheVariants as stepped
 use Rattle.iox_container.specs.Head.{word_of_head}
 use Rattle.iox_queues.specs.Recorded.{Answered}
 use Rattle.iox_queues.specs.Told.{own}
+use Rattle.iox_queues.specs.Turns.{RunsBy, StepsBy}
 use Rattle.iox_queues.specs.declared.bits.machine.Event.{Event}
 use Rattle.iox_index_steps.specs.Steps.{call_begun, call_next, call_take, call_is_idle, call_is_over, next_free, is_locked_by}
 use Rattle.iox_index_steps.specs.Changes.{times_taken, times_given}
-use Rattle.iox_index_steps.specs.Told.{AreAsked, AreBrief, AreTold, IsAskedSoFar, IsBrief, LieWithin, TakesTurns, is_locking}
+use Rattle.iox_index_steps.specs.Told.{AreAsked, AreBrief, AreTold, IsAskedSoFar, IsBrief, LieWithin, TakesTurns, Tells, is_locking}
 use Rattle.iox_index_steps.specs.Told.{some_has_locked}
+use Rattle.iox_index_steps.specs.declared.call.Answer.{Answer}
 use Rattle.iox_index_steps.specs.declared.call.Call.{Call}
 use Rattle.iox_index_steps.specs.declared.call.Call.TheVariants as call
 use Rattle.iox_index_steps.specs.declared.call.IndexCall.{IndexCall}
@@ -132,18 +134,11 @@ happens m (GoOn party) = went m party
 
 -- what a step answers, and what it leaves
 abbrev pub StepsTo : IndexSetState → Move → Stepped → IndexSetState → Type 0
-StepsTo m step stepped.Went n = (fits m step ≡ true) × (ends m step ≡ false) × (n ≡ happens m step)
-StepsTo m step stepped.Finished n = (fits m step ≡ true) × (ends m step ≡ true) × (n ≡ happens m step)
-StepsTo m step stepped.Skipped n = (fits m step ≡ false) × (n ≡ m)
-StepsTo m step stepped.NoMemory n = (fits m step ≡ true) × (n ≡ m)
+StepsTo m step r n = StepsBy fits ends happens m step r n
 
 -- a list of steps, of which `made` were made; it may stop where a step that fits finds no memory
 abbrev pub RunsTo : IndexSetState → List Move → ℕ → IndexSetState → Type 0
-RunsTo m [] made n = (made ≡ 0) × (n ≡ m)
-RunsTo m (step ∷ steps) made n =
-    ((fits m step ≡ false) × RunsTo m steps made n)
-    ⊎ (((fits m step ≡ true) × ((fewer : ℕ) × (made ≡ fewer + 1) × RunsTo (happens m step) steps fewer n))
-    ⊎ ((fits m step ≡ true) × (made ≡ 0) × (n ≡ m)))
+RunsTo m steps made n = RunsBy fits happens m steps made n
 
 -- the set is locked
 abbrev pub is_locked : IndexSetState → Bool
@@ -177,7 +172,7 @@ IsOut i events = times_given i events < times_taken i events
 -- what every list of steps keeps: no index has two holders, since just one party has it out by its own steps; an index is
 -- taken and given back by turns, so that between two takings lies its giving back; a party's own steps took out once more than
 -- they gave back what it holds, and nothing else; of a locked set no index is out, and only a release that was to lock it locked
--- it; each call that ended did what it answered
+-- it; each call that ended did what it answered, so one in hand that has its answer
 pub record IsOrderly (m : IndexSetState) : Type 0 where
   pub one_holder : (i p q : ℕ) → IsOut i (own p m.events) → IsOut i (own q m.events) → p ≡ q
   pub turns : (i k : ℕ) → TakesTurns i (take k m.events)
@@ -186,6 +181,8 @@ pub record IsOrderly (m : IndexSetState) : Type 0 where
   pub locked_by : is_locked m ≡ true → IsLockedByRelease m
   pub none_out : is_locked m ≡ true → (i : ℕ) → times_taken i m.events ≡ times_given i m.events
   pub told : AreTold (length m.words.cells) (is_locked m) m.events m.finished
+  pub going : (party : ℕ) (c : Call) (answer : Answer) → stage_at m.seats party ≡ Done c answer
+      → Tells (length m.words.cells) (is_locked m) party (seat_at m.seats party).first m.events c answer
 
 -- a locked set stays locked
 abbrev pub StaysLocked : IndexSetState → IndexSetState → Type 0

@@ -19,6 +19,7 @@ mod Found
 mod Behind
 mod Alone
 mod Built
+mod Exact
 mod Moving
 mod Each
 mod Settling

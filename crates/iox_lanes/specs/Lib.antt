@@ -9,6 +9,7 @@ pub mod Holding
 pub mod Failing
 pub mod Sized
 pub mod Built
+pub mod Exact
 pub mod Opening
 pub mod Joined
 pub mod Tied

@@ -1,5 +1,5 @@
 //! Lanes find what a domain has.
-ghost use Rattle.std.specs.Prelude.{◌≡◌, ◌+◌, ◌-◌, ◌*◌, ◌++◌, ◌<◌, ℕ, [], length, map, max, option_copied, slice_get, slice_index};
+ghost use Rattle.std.specs.Prelude.{◌≡◌, ◌+◌, ◌-◌, ◌*◌, ◌++◌, ◌^◌, ◌<◌, ℕ, [], length, map, max, option_copied, slice_get, slice_index};
 ghost use Rattle.std.specs.Prelude.{is_some, set, true, IfOk, OnOk, None, Some};
 ghost use Rattle.std.specs.List.{position};
 ghost use Rattle.iox_domain.specs.DomainPorts.Messages.{Message};
@@ -12,6 +12,8 @@ ghost use Rattle.iox_lanes_opening.specs.Refusals.{first_reason};
 ghost use Rattle.iox_lanes.specs.Alone.{AreAlone, HasOne, KeepAlone};
 ghost use Rattle.iox_lanes.specs.Behind.{behind_findings, behind_finding};
 ghost use Rattle.iox_lanes.specs.Built.{slots_if, AreBuilt, HaveSlots};
+ghost use Rattle.iox_lanes.specs.Exact.{loans_if, most_loans_of, most_slots_of, sizes_for};
+ghost use Rattle.iox_lanes.specs.Finding.{WasFound};
 ghost use Rattle.iox_lanes.specs.Laid.{first_slot, flat_listed, header_findings, history_findings, link_findings, message_findings};
 ghost use Rattle.iox_lanes.specs.Laid.{publishers_behind, sender_behind, slots_in, value_findings, waiting_findings};
 ghost use Rattle.iox_lanes.specs.Ordered.{keys_behind, leads_here, route_place, reader_behind, readers_behind};
@@ -46,6 +48,8 @@ pub(crate) fn build<T: Words, U: Words>(
     ensures between { IfOk result (λ opened. AllBetween opened.lanes) }
     ensures sized { IfOk result (λ opened. AreSized domain.now.state.ports.sizes (length opened.publishers.items)
         (length opened.subscribers.items) T.WORDS U.WORDS opened.lanes) }
+    ensures exact { IfOk result (λ opened. WasFound (sizes_for T.WORDS U.WORDS domain.now.state.ports opened.publishers.items
+        (length opened.subscribers.items)) opened.lanes) }
     ensures publishers { IfOk result (λ opened. opened.publishers.items
         ≡ numbers_of (λ entry. entry.publisher) domain.now.state.ports.publisher_list.places) }
     ensures subscribers { IfOk result (λ opened. opened.subscribers.items
@@ -96,8 +100,11 @@ fn sizes_of<T: Words, U: Words>(
     subscribers: u64,
 ) -> LaneSizes
     ensures some { 0 < result.buffer }
+    ensures small { (result.buffer < 2 ^ 61) × (result.most_borrowed < 2 ^ 61) }
     ensures agreed { AreAgreed domain.now.state.ports.sizes publishers subscribers T.WORDS U.WORDS result }
     ensures room { HaveSlots domain.now.state.ports.publishers numbers.now result.slots }
+    ensures exact { publishers ≡ length numbers.now
+        → result ≡ sizes_for T.WORDS U.WORDS domain.now.state.ports numbers.now subscribers }
 {
     let sizes = domain.state.ports.sizes;
     LaneSizes {
@@ -124,18 +131,31 @@ fn kind_of(overflows: bool) -> RingKind
     }
 }
 
-fn most_loans<T: Words, U: Words>(domain: &Domain<T, U>, numbers: &[u64]) -> u64 {
+// The most loans that any of the publishers of these numbers may have out.
+fn most_loans<T: Words, U: Words>(domain: &Domain<T, U>, numbers: &[u64]) -> u64
+    ensures { result ≡ most_loans_of domain.now.state.ports.publishers numbers.now }
+{
     let mut most = 0;
-    for number in numbers {
-        if let Some(port) = domain.state.ports.publishers.get(*number) {
-            most = (port.sender.most_loans() as u64).max(most);
-        }
+    for place in 0..numbers.len() {
+        most = loans_at(domain, numbers[place]).max(most);
     }
     most
 }
 
+// How many loans the publisher of a number may have out; none where there is none.
+fn loans_at<T: Words, U: Words>(domain: &Domain<T, U>, number: u64) -> u64
+    ensures { result ≡ loans_if (port_of number domain.now.state.ports.publishers) }
+{
+    match domain.state.ports.publishers.get(number) {
+        Some(port) => port.sender.most_loans() as u64,
+        None => 0,
+    }
+}
+
+// The most slots that any of the publishers of these numbers has.
 fn most_slots<T: Words, U: Words>(domain: &Domain<T, U>, numbers: &[u64]) -> u64
-    ensures { HaveSlots domain.now.state.ports.publishers numbers.now result }
+    ensures most { HaveSlots domain.now.state.ports.publishers numbers.now result }
+    ensures exact { result ≡ most_slots_of domain.now.state.ports.publishers numbers.now }
 {
     let mut most = 0;
     for place in 0..numbers.len() {

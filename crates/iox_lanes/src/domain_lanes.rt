@@ -1,16 +1,21 @@
 //! Lanes with the domain that they came from.
 ghost use Rattle.std.specs.Prelude.{◌≡◌, length, IfOk, IfErr, OnOk, None};
 ghost use Rattle.iox_lanes_opening.specs.Refusals.{first_reason};
+ghost use Rattle.iox_lanes_laws.specs.Numbered.{found_messages};
+ghost use Rattle.iox_lanes_laws.specs.Recorded.{AreAsHeld, ArePast};
 ghost use Rattle.iox_lanes_machine.specs.Resting.{AllBetween};
 ghost use Rattle.iox_lanes_machine.specs.WholeReads.{CameTo};
 ghost use Rattle.iox_lanes.specs.Opening.{told_of};
 ghost use Rattle.iox_lanes.specs.Failing.{FailAsAsked};
 ghost use Rattle.iox_lanes.specs.Holding.{LanesHold};
 ghost use Rattle.iox_lanes.specs.Joined.{IsJoined};
+ghost use Rattle.iox_lanes.specs.Exact.{sizes_for};
+ghost use Rattle.iox_lanes.specs.Finding.{WasFound};
 ghost use Rattle.iox_lanes.specs.Sized.{AreSized};
 
 use crate::building::build;
 use iox_domain::Domain;
+use iox_lanes_laws::messages::RecordedLanes;
 use iox_lanes_machine::Lanes;
 use iox_lanes_opening::refusals::{IntoLanesError, refusal};
 use iox_queues_base::Words;
@@ -21,8 +26,9 @@ use std::alloc::{AllocError, Global};
 /// This port's own.
 #[derive(Drop)]
 pub struct DomainLanes<T, U> {
-    /// The lanes: a publisher and a subscriber for each that the domain lists, in the order of their places there.
-    pub lanes: Lanes,
+    /// The lanes: a publisher and a subscriber for each that the domain lists, in the order of their places there. They keep their
+    /// messages, each under its number.
+    pub lanes: RecordedLanes,
     /// The domain, as it was.
     pub domain: Domain<T, U>,
     /// The numbers of the publishers in the domain, by their places in the lanes.
@@ -54,29 +60,48 @@ pub(crate) struct Opened<T> {
     pub(crate) one: Vec<T>,
 }
 
+// The same, of which the messages are kept.
+#[derive(Drop)]
+struct Recorded<T> {
+    lanes: RecordedLanes,
+    publishers: Vec<u64>,
+    subscribers: Vec<u64>,
+    connections: Vec<usize>,
+    one: Vec<T>,
+}
+
 /// The lanes of a domain: each publisher and subscriber that it lists, in the order of their places, with the buffer of each
 /// connection, the slots, loans and history of each publisher, whether its sends fail at a full mailbox, what waits at each
 /// connection, the words of each message, and the order in which each subscriber goes over its connections.
 ///
 /// The lanes are such as `Lanes::new` makes them and what they found leaves, and nobody is inside a call: so each law of lanes
 /// holds of them. Their sizes are those that the service agreed on: its buffer, one message at least, its borrow limit and its
-/// history.
+/// history; they have as many loans and slots for each publisher as the one has that has most.
+///
+/// They keep their messages. Those that wait or are remembered have the first numbers, publisher by publisher and slot by slot; each
+/// that is sent gets the next one.
 ///
 /// Refused with the first reason of `refusal` that applies, before anything is built; else with `OutOfMemory`, only where an allocation
-/// fails. Then the domain is handed back as it was. Of what is built nothing is tested: that it holds what the domain has is proved.
+/// fails, as it would for the numbers of 2^61 subscribers. Then the domain is handed back as it was. Of what is built nothing is tested:
+/// that it holds what the domain has is proved.
 pub fn into_lanes<T: Words, U: Words>(
     alloc: Global,
     domain: Domain<T, U>,
 ) -> Result<DomainLanes<T, U>, Refused<T, U>>
-    ensures lanes { IfOk result (λ opened. LanesHold T.parts U.parts T.WORDS U.WORDS domain opened.lanes opened.publishers.items
+    ensures lanes { IfOk result (λ opened. LanesHold T.parts U.parts T.WORDS U.WORDS domain opened.lanes.lanes opened.publishers.items
         opened.subscribers.items opened.connections.items) }
-    ensures fails { IfOk result (λ opened. FailAsAsked domain opened.lanes opened.publishers.items) }
-    ensures came { IfOk result (λ opened. CameTo opened.lanes) }
-    ensures between { IfOk result (λ opened. AllBetween opened.lanes) }
+    ensures fails { IfOk result (λ opened. FailAsAsked domain opened.lanes.lanes opened.publishers.items) }
+    ensures came { IfOk result (λ opened. CameTo opened.lanes.lanes) }
+    ensures between { IfOk result (λ opened. AllBetween opened.lanes.lanes) }
     ensures sized { IfOk result (λ opened. AreSized domain.state.ports.sizes (length opened.publishers.items)
-        (length opened.subscribers.items) T.WORDS U.WORDS opened.lanes) }
+        (length opened.subscribers.items) T.WORDS U.WORDS opened.lanes.lanes) }
+    ensures exact { IfOk result (λ opened. WasFound (sizes_for T.WORDS U.WORDS domain.state.ports opened.publishers.items
+        (length opened.subscribers.items)) opened.lanes.lanes) }
+    ensures messages { IfOk result (λ opened. opened.lanes.messages ≡ found_messages opened.lanes.lanes) }
+    ensures held { IfOk result (λ opened. AreAsHeld opened.lanes.lanes opened.lanes.messages
+        × ArePast opened.lanes.lanes opened.lanes.messages) }
     ensures domain { IfOk result (λ opened. opened.domain ≡ domain) }
-    ensures joined { IfOk result (λ opened. IsJoined T.WORDS U.WORDS (length opened.one.items) opened.lanes
+    ensures joined { IfOk result (λ opened. IsJoined T.WORDS U.WORDS (length opened.one.items) opened.lanes.lanes
         domain.state.ports.publishers opened.publishers.items (length opened.subscribers.items) opened.connections.items) }
     ensures none { OnOk result (first_reason domain ≡ None) }
     ensures told { IfErr result (λ refused. refused.error ≡ told_of (first_reason domain)) }
@@ -95,7 +120,7 @@ pub fn into_lanes<T: Words, U: Words>(
 }
 
 // The lanes beside their domain.
-fn with<T, U>(opened: Opened<T>, domain: Domain<T, U>) -> DomainLanes<T, U>
+fn with<T, U>(opened: Recorded<T>, domain: Domain<T, U>) -> DomainLanes<T, U>
     ensures { result ≡ record {
       lanes = opened.lanes;
       domain = domain;
@@ -117,18 +142,55 @@ fn with<T, U>(opened: Opened<T>, domain: Domain<T, U>) -> DomainLanes<T, U>
 }
 
 // The lanes of a domain, unless an allocation fails.
-fn open<T: Words, U: Words>(alloc: Global, domain: &Domain<T, U>) -> Result<Opened<T>, AllocError>
+fn open<T: Words, U: Words>(alloc: Global, domain: &Domain<T, U>) -> Result<Recorded<T>, AllocError>
     requires { first_reason domain.now ≡ None }
-    ensures came { IfOk result (λ opened. CameTo opened.lanes) }
-    ensures between { IfOk result (λ opened. AllBetween opened.lanes) }
+    ensures came { IfOk result (λ opened. CameTo opened.lanes.lanes) }
+    ensures between { IfOk result (λ opened. AllBetween opened.lanes.lanes) }
     ensures sized { IfOk result (λ opened. AreSized domain.now.state.ports.sizes (length opened.publishers.items)
-        (length opened.subscribers.items) T.WORDS U.WORDS opened.lanes) }
-    ensures joined { IfOk result (λ opened. IsJoined T.WORDS U.WORDS (length opened.one.items) opened.lanes
+        (length opened.subscribers.items) T.WORDS U.WORDS opened.lanes.lanes) }
+    ensures exact { IfOk result (λ opened. WasFound (sizes_for T.WORDS U.WORDS domain.now.state.ports opened.publishers.items
+        (length opened.subscribers.items)) opened.lanes.lanes) }
+    ensures messages { IfOk result (λ opened. opened.lanes.messages ≡ found_messages opened.lanes.lanes) }
+    ensures held { IfOk result (λ opened. AreAsHeld opened.lanes.lanes opened.lanes.messages
+        × ArePast opened.lanes.lanes opened.lanes.messages) }
+    ensures joined { IfOk result (λ opened. IsJoined T.WORDS U.WORDS (length opened.one.items) opened.lanes.lanes
         domain.now.state.ports.publishers opened.publishers.items (length opened.subscribers.items) opened.connections.items) }
-    ensures holds { IfOk result (λ opened. LanesHold T.parts U.parts T.WORDS U.WORDS domain.now opened.lanes opened.publishers.items
+    ensures holds { IfOk result (λ opened. LanesHold T.parts U.parts T.WORDS U.WORDS domain.now opened.lanes.lanes opened.publishers.items
         opened.subscribers.items opened.connections.items) }
-    ensures fails { IfOk result (λ opened. FailAsAsked domain.now opened.lanes opened.publishers.items) }
+    ensures fails { IfOk result (λ opened. FailAsAsked domain.now opened.lanes.lanes opened.publishers.items) }
 {
     let opened = build(alloc, domain)?;
-    Ok(opened)
+    let kept = with_messages(alloc, opened)?;
+    Ok(kept)
+}
+
+// The same, with the messages that are found, unless an allocation fails.
+fn with_messages<T: Words>(alloc: Global, opened: Opened<T>) -> Result<Recorded<T>, AllocError>
+    ensures made { IfOk result (λ made. made ≡ record {
+      lanes = record { lanes = opened.lanes; messages = found_messages opened.lanes };
+      publishers = opened.publishers;
+      subscribers = opened.subscribers;
+      connections = opened.connections;
+      one = opened.one;
+    }) }
+    ensures held { IfOk result (λ made. AreAsHeld made.lanes.lanes made.lanes.messages
+        × ArePast made.lanes.lanes made.lanes.messages) }
+{
+    let Opened {
+        lanes,
+        publishers,
+        subscribers,
+        connections,
+        one,
+    } = opened;
+    match RecordedLanes::with_found(alloc, lanes) {
+        Ok(lanes) => Ok(Recorded {
+            lanes,
+            publishers,
+            subscribers,
+            connections,
+            one,
+        }),
+        Err(_) => Err(AllocError),
+    }
 }

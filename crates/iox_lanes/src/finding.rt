@@ -31,22 +31,16 @@ impl NewLanes {
     ghost use Rattle.iox_lanes.specs.Failing.{failing};
     ghost use Rattle.iox_lanes.specs.Finding.{WasFound, failing_behind};
 
-    /// Lanes of these sizes. Fails only where an allocation fails; no memory has room for buffers, borrowed samples or
-    /// subscribers of 2^61 or more.
+    /// Lanes of these sizes. Fails only where an allocation fails; no memory has the numbers of 2^61 subscribers.
     #[tactic(auto, using(crate::proofs::Found::was_made, crate::proofs::Failing::as_many_made))]
     pub fn new(alloc: Global, sizes: LaneSizes) -> Result<NewLanes, AllocError>
-        requires { 0 < sizes.buffer }
+        requires some { 0 < sizes.buffer }
+        requires small { (sizes.buffer < 2 ^ 61) × (sizes.most_borrowed < 2 ^ 61) }
         ensures sizes { IfOk result (λ made. made.sizes ≡ sizes) }
         ensures publishers { IfOk result (λ made. length (failing made.lanes) ≡ sizes.publishers) }
         ensures start { IfOk result (λ made. made.lanes ≡ start sizes) }
         ensures small { IfOk result (λ _. words_of (table_sizes sizes) < 2 ^ 64) }
     {
-        if sizes.buffer >= 1 << 61 {
-            return Err(AllocError);
-        }
-        if sizes.most_borrowed >= 1 << 61 {
-            return Err(AllocError);
-        }
         if sizes.subscribers >= 1 << 61 {
             return Err(AllocError);
         }

@@ -9,8 +9,8 @@
 //! - [`threads`]: the ports of a domain in threads of their own.
 //! - [`laws`]: what holds of lanes and of the domain beside them.
 //!
-//! Named again is what a first program on lanes needs: [`Lanes`], [`Party`], [`Call`], [`Move`], and for threads [`open_threads`],
-//! [`LanePublisher`], [`LaneSubscriber`].
+//! Named again is what a first program on lanes needs: [`Lanes`], [`RecordedLanes`], [`Message`], [`Party`], [`Call`], [`Move`], and for
+//! threads [`open_threads`], [`LanePublisher`], [`LaneSubscriber`].
 //!
 //! First calls:
 //!
@@ -18,6 +18,7 @@
 //! match into_lanes(alloc, domain) {
 //!     Ok(mut opened) => {
 //!         opened.lanes.run(&schedule);
+//!         let sent = opened.lanes.message(0);
 //!         let domain = opened.into_domain();
 //!     }
 //!     Err(refused) => return Err(refused.error),
@@ -37,6 +38,7 @@ pub mod threads;
 pub use domain_lanes::{DomainLanes, Refused, into_lanes};
 pub use into_domain_error::IntoDomainError;
 pub use iox_lanes_base::calls::Receipt;
+pub use iox_lanes_laws::messages::{Message, RecordedLanes};
 pub use iox_lanes_machine::{LaneSizes, Lanes};
 pub use iox_lanes_opening::refusals::IntoLanesError;
 pub use iox_lanes_parties::publisher::LoanAnswer;

@@ -41,24 +41,24 @@ impl<T: Words, U: Words> DomainLanes<T, U> {
     ///
     /// This port's own.
     pub fn into_domain(self) -> Result<Domain<T, U>, StillLanes<T, U>>
-        ensures told { IfErr result (λ still. IsUnrest (unrest_of still.error) self.lanes) }
+        ensures told { IfErr result (λ still. IsUnrest (unrest_of still.error) self.lanes.lanes) }
         ensures kept { IfErr result (λ still. still.lanes ≡ self) }
-        ensures rests { OnOk result (AllBetween self.lanes × NoneOut self.lanes) }
-        ensures same { IfOk result (λ domain. self.lanes.moments ≡ 0 → domain ≡ self.domain) }
+        ensures rests { OnOk result (AllBetween self.lanes.lanes × NoneOut self.lanes.lanes) }
+        ensures same { IfOk result (λ domain. self.lanes.lanes.moments ≡ 0 → domain ≡ self.domain) }
         ensures rest { IfOk result (λ domain. OnlyPublishers self.domain domain) }
-        ensures left { IfOk result (λ domain. 0 < self.lanes.moments → self.lanes.moments ≤ 2 ^ 63
-            → IsJoined T.WORDS U.WORDS (length self.one.items) self.lanes self.domain.state.ports.publishers self.publishers.items
+        ensures left { IfOk result (λ domain. 0 < self.lanes.lanes.moments → self.lanes.lanes.moments ≤ 2 ^ 63
+            → IsJoined T.WORDS U.WORDS (length self.one.items) self.lanes.lanes self.domain.state.ports.publishers self.publishers.items
             (length self.subscribers.items) self.connections.items
-            → ArePortsLeft T.of_parts U.of_parts self.lanes self.publishers.items (length self.subscribers.items) self.connections.items
-            self.domain.state.ports.publishers domain.state.ports.publishers) }
+            → ArePortsLeft T.of_parts U.of_parts self.lanes.lanes self.publishers.items (length self.subscribers.items)
+            self.connections.items self.domain.state.ports.publishers domain.state.ports.publishers) }
     {
-        if let Some(unrest) = self.lanes.unrest() {
+        if let Some(unrest) = self.lanes.lanes().unrest() {
             return Err(StillLanes {
                 error: error_of(unrest),
                 lanes: self,
             });
         }
-        if self.lanes.moments() == 0 {
+        if self.lanes.lanes().moments() == 0 {
             let DomainLanes { domain, .. } = self;
             return Ok(domain);
         }
@@ -78,10 +78,10 @@ fn error_of(unrest: Unrest) -> IntoDomainError
 // The domain with the messages that the lanes leave, where these lanes go with it.
 fn returned<T: Words, U: Words>(opened: DomainLanes<T, U>) -> Domain<T, U>
     ensures rest { OnlyPublishers opened.domain result }
-    ensures left { AllRest opened.lanes
-        → IsJoined T.WORDS U.WORDS (length opened.one.items) opened.lanes opened.domain.state.ports.publishers opened.publishers.items
+    ensures left { AllRest opened.lanes.lanes
+        → IsJoined T.WORDS U.WORDS (length opened.one.items) opened.lanes.lanes opened.domain.state.ports.publishers opened.publishers.items
         (length opened.subscribers.items) opened.connections.items
-        → ArePortsLeft T.of_parts U.of_parts opened.lanes opened.publishers.items (length opened.subscribers.items)
+        → ArePortsLeft T.of_parts U.of_parts opened.lanes.lanes opened.publishers.items (length opened.subscribers.items)
         opened.connections.items opened.domain.state.ports.publishers result.state.ports.publishers }
 {
     let DomainLanes {
@@ -92,6 +92,7 @@ fn returned<T: Words, U: Words>(opened: DomainLanes<T, U>) -> Domain<T, U>
         connections,
         one,
     } = opened;
+    let lanes = lanes.into_lanes();
     let mut domain = domain;
     let mut one = one;
     if one.is_empty() {

@@ -21,12 +21,12 @@ use Rattle.iox_lanes_laws.proofs.Publishers as publishers
 use Rattle.iox_lanes_laws.proofs.Subscribers as subscribers
 
 -- who may begin is there
-publisher_there : (m : World) (place : ℕ) (c : Call) (at : Option PublisherLaneState) → slice_get m.publishers place ≡ at
+pub publisher_there : (m : World) (place : ℕ) (c : Call) (at : Option PublisherLaneState) → slice_get m.publishers place ≡ at
     → publisher_fits_at at (Begin c) ≡ true → (lane : PublisherLaneState) × (slice_get m.publishers place ≡ Some lane)
 publisher_there m place c None e fit = absurd (cc fit)
 publisher_there m place c (Some lane) e fit = (lane, e)
 
-subscriber_there : (m : World) (place : ℕ) (c : Call) (at : Option SubscriberLaneState) → slice_get m.subscribers place ≡ at
+pub subscriber_there : (m : World) (place : ℕ) (c : Call) (at : Option SubscriberLaneState) → slice_get m.subscribers place ≡ at
     → subscriber_fits_at at (Begin c) ≡ true → (lane : SubscriberLaneState) × (slice_get m.subscribers place ≡ Some lane)
 subscriber_there m place c None e fit = absurd (cc fit)
 subscriber_there m place c (Some lane) e fit = (lane, e)

@@ -13,7 +13,7 @@ use Rattle.iox_lanes_machine.specs.Held.{slot_held}
 use Rattle.iox_lanes_machine.specs.World.{World}
 use Rattle.iox_lanes_laws.specs.Messages.{MessageState, last_in}
 use Rattle.iox_lanes_laws.specs.Numbered.{found_in, found_first, found_of, found_before, found_messages}
-use Rattle.iox_lanes_laws.specs.Recorded.{AreAsHeld, AreEarly}
+use Rattle.iox_lanes_laws.specs.Recorded.{AreAsHeld, ArePast}
 
 -- the words of a slot lie within the table
 pub slot_fits : (sizes : TableSizes) (slot : ℕ) → slot < sizes.slots
@@ -47,7 +47,7 @@ module _ (m : World) (P : MessageState → Type 0) (each : (publisher slot : ℕ
 pub found_held : (m : World) → AreAsHeld m (found_messages m)
 found_held m = in_before m (λ message. message.words ≡ slot_held m.table message.slot) (λ publisher slot. refl) (length m.publishers)
 
-pub found_early : (m : World) → AreEarly m (found_messages m)
+pub found_early : (m : World) → ArePast m (found_messages m)
 found_early m = in_before m (λ message. message.moment ≤ m.moments) (λ publisher slot. omega arith) (length m.publishers)
 
 -- messages as their slots hold them say of no slot but what it holds

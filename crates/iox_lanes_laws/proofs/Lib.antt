@@ -25,6 +25,9 @@ pub mod Whole
 pub mod Records
 pub mod NumberedOrders
 pub mod NumberedRuns
+pub mod SentNumbers
+pub mod HaveNumbers
 pub mod PublisherCourses
 pub mod SubscriberCourses
 pub mod Takes
+pub mod Payloads

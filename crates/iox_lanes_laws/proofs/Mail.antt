@@ -178,7 +178,7 @@ last_of : {X : Type 0} (xs : List X) (x : X) → slice_get (xs ++ x ∷ []) (len
 last_of [] x = refl
 last_of (y ∷ xs) x = last_of xs x
 
-zip_at : {A B : Type 0} (R : A → B → Type 0) (xs : List A) (ys : List B) (i : ℕ) (x : A) → AllZip R xs ys → slice_get xs i ≡ Some x
+pub zip_at : {A B : Type 0} (R : A → B → Type 0) (xs : List A) (ys : List B) (i : ℕ) (x : A) → AllZip R xs ys → slice_get xs i ≡ Some x
     → (y : B) × R x y
 zip_at R [] ys i x h e = absurd (cc e)
 zip_at R (a ∷ xs) [] i x h e = absurd h

@@ -107,7 +107,7 @@ numbered_more ms (placed ∷ order) moment acts
     = ap (λ (xs : List Act). numbered_act (number_by ms placed.moment) placed.act ∷ xs) (numbered_more ms order moment acts)
 
 -- what stands before the end of a list stands there with more behind it
-kept_at : (ms more : List MessageState) (k : ℕ) → k < length ms → slice_get (ms ++ more) k ≡ slice_get ms k
+pub kept_at : (ms more : List MessageState) (k : ℕ) → k < length ms → slice_get (ms ++ more) k ≡ slice_get ms k
 kept_at [] more k below = absurd (omega (arith, below))
 kept_at (m ∷ ms) more zero below = refl
 kept_at (m ∷ ms) more (suc k) below = kept_at ms more k (omega (arith, below))

@@ -31,7 +31,7 @@ use Rattle.iox_lanes_machine.proofs.Whole.{step_made, happens_keeps}
 use Rattle.iox_lanes_machine.proofs.Within.{set_other}
 use Rattle.iox_lanes_laws.specs.Messages.{MessageState, begun_messages, message_of, sent_by}
 use Rattle.iox_lanes_laws.specs.Numbered.{number_by}
-use Rattle.iox_lanes_laws.specs.Recorded.{RecordState, recorded_after, RecordsRun, AreEarly, OrdersFollowNumbers}
+use Rattle.iox_lanes_laws.specs.Recorded.{RecordState, recorded_after, RecordsRun, ArePast, OrdersFollowNumbers}
 use Rattle.iox_lanes_laws.proofs.NumberedOrders.{NumberedSo, begins_so, stands_so, stays_so}
 use Rattle.iox_lanes_laws.proofs.Records.{later, sends, step_early}
 use Rattle.iox_lanes_laws.proofs.Whole.{few_before, grows, kept_sends_nothing, up}
@@ -43,7 +43,7 @@ counted_first slot xs = elim (eqb_tells slot slot) [
   | inr other ↦ absurd (other.1 refl)
 ]
 
-counted_at : (xs : List ℕ) (k slot : ℕ) → slice_get xs k ≡ Some slot → 0 < count slot xs
+pub counted_at : (xs : List ℕ) (k slot : ℕ) → slice_get xs k ≡ Some slot → 0 < count slot xs
 counted_at [] k slot is = absurd (cc is)
 counted_at (x ∷ xs) zero slot is = subst (λ (first : ℕ). 0 < count slot (first ∷ xs)) (sym (some_is x slot is)) (counted_first slot xs)
 counted_at (x ∷ xs) (suc k) slot is = omega (arith, counted_at xs k slot is)
@@ -55,7 +55,7 @@ AllNumbered first m ms = (connection : ℕ) (link : LinkState) (order : List Pla
     → NumberedSo (overflows link.kind) link.limit (map (number_by first 0) link.found) link.found m.moments ms order
 
 -- nothing begins and nothing stands at a step
-quiet : (first ms : List MessageState) (m n : World) → n.links ≡ m.links → n.orders ≡ m.orders → m.moments < n.moments → AreEarly m ms
+quiet : (first ms : List MessageState) (m n : World) → n.links ≡ m.links → n.orders ≡ m.orders → m.moments < n.moments → ArePast m ms
     → AllNumbered first m ms → AllNumbered first n (ms ++ [])
 quiet first ms m n links orders up early all = λ connection link order there got.
     subst (λ (xs : List MessageState). NumberedSo (overflows link.kind) link.limit (map (number_by first 0) link.found) link.found n.moments
@@ -67,7 +67,7 @@ quiet first ms m n links orders up early all = λ connection link order there go
 -- a send begins
 sends_one : (first ms : List MessageState) (m n : World) (place loan : ℕ) (lane : PublisherLaneState)
     → slice_get m.publishers place ≡ Some lane → fits m (Publisher place) (Begin (call.Send loan)) ≡ true → IsKept m → m.moments ≤ 2 ^ 63
-    → n.links ≡ m.links → n.orders ≡ m.orders → m.moments < n.moments → AreEarly m ms → AllNumbered first m ms
+    → n.links ≡ m.links → n.orders ≡ m.orders → m.moments < n.moments → ArePast m ms → AllNumbered first m ms
     → AllNumbered first n (ms ++ message_of m.table m.moments place loan lane ∷ [])
 sends_one first ms m n place loan lane found fit k few links orders up early all = λ connection link order there got.
     let message : MessageState = message_of m.table m.moments place loan lane in
@@ -89,7 +89,7 @@ sends_one first ms m n place loan lane found fit k few links orders up early all
 -- a publisher begins a call
 begins : (first ms : List MessageState) (m : World) (place : ℕ) (c : Call) (at : Option PublisherLaneState)
     → slice_get m.publishers place ≡ at → fits m (Publisher place) (Begin c) ≡ true → IsKept m → m.moments ≤ 2 ^ 63
-    → m.moments < (publisher_begins m place c at).moments → AreEarly m ms → AllNumbered first m ms
+    → m.moments < (publisher_begins m place c at).moments → ArePast m ms → AllNumbered first m ms
     → AllNumbered first (publisher_begins m place c at) (ms ++ sent_by m place c at)
 begins first ms m place c None e fit k few up early all = quiet first ms m m refl refl up early all
 begins first ms m place call.LoanUninit (Some lane) e fit k few up early all
@@ -124,7 +124,7 @@ reader_orders m place (Some lane) = refl
 
 -- acts stand behind one order
 stands : (first ms : List MessageState) (m n : World) (acts : List Act) (at_one : Option ℕ) → n.links ≡ m.links
-    → n.orders ≡ added m.orders at_one m.moments acts → m.moments < n.moments → IsKept n → n.moments ≤ 2 ^ 63 → AreEarly m ms
+    → n.orders ≡ added m.orders at_one m.moments acts → m.moments < n.moments → IsKept n → n.moments ≤ 2 ^ 63 → ArePast m ms
     → AllNumbered first m ms → AllNumbered first n (ms ++ [])
 stands first ms m n acts None links orders up k few early all = quiet first ms m n links orders up early all
 stands first ms m n acts (Some one) links orders up k few early all = by_order (slice_get m.orders one) refl orders
@@ -158,13 +158,13 @@ stands first ms m n acts (Some one) links orders up k few early all = by_order (
 next_up : (n k : ℕ) → k ≡ successor n → n < 2 ^ 63 → n < k
 next_up n k e h = omega (arith, e, h)
 
-links_stay : (m : World) (party : Party) (step : Move) → fits m party step ≡ true → (happens m party step).links ≡ m.links
+pub links_stay : (m : World) (party : Party) (step : Move) → fits m party step ≡ true → (happens m party step).links ≡ m.links
 links_stay m party step fit =
     let made = step_made m party step fit (ends m party step) refl in
     (steps_fixed m party step made.0 (happens m party step) made.1).links
 
 numbered_step : (first ms : List MessageState) (m : World) (party : Party) (step : Move) → fits m party step ≡ true → IsKept m
-    → m.moments < 2 ^ 63 → (happens m party step).moments ≤ 2 ^ 63 → AreEarly m ms → AllNumbered first m ms
+    → m.moments < 2 ^ 63 → (happens m party step).moments ≤ 2 ^ 63 → ArePast m ms → AllNumbered first m ms
     → AllNumbered first (happens m party step) (ms ++ begun_messages m party step)
 numbered_step first ms m (Publisher place) (Begin c) fit k less few early all =
     begins first ms m place c (slice_get m.publishers place) refl fit k (omega (arith, less))
@@ -188,7 +188,7 @@ numbered_step first ms m (Subscriber place) GoOn fit k less few early all =
     early all
 
 numbered_run : (first : List MessageState) (r : RecordState) (entries : List Entry) (made : ℕ) (n : RecordState)
-    → RecordsRun r entries made n → n.lanes.moments ≤ 2 ^ 63 → IsKept r.lanes → AreEarly r.lanes r.messages
+    → RecordsRun r entries made n → n.lanes.moments ≤ 2 ^ 63 → IsKept r.lanes → ArePast r.lanes r.messages
     → AllNumbered first r.lanes r.messages → AllNumbered first n.lanes n.messages
 numbered_run first r [] made n h few k early all = subst (λ (x : RecordState). AllNumbered first x.lanes x.messages) (sym h.1) all
 numbered_run first r (entry ∷ entries) made n (inl h) few k early all = numbered_run first r entries made n h.1 few k early all

@@ -1,8 +1,8 @@
 -- The laws on calls of a publisher that no other call overlaps.
 use Rattle.std.proofs.Common.{ℕ, ◌≡◌, ◌+◌, ◌-◌, ◌<◌, ◌≤◌, ◌^◌, ◌==◌, ◌⊎◌, ◌&&◌, min, Bool, true, false, nat_lt, if◌then◌else◌, List, []}
-use Rattle.std.proofs.Common.{◌∷◌, ◌++◌, length, get_or, slice_get, Option, Some, None, refl, sym, ◌∙◌, ap, subst, inl, inr, arith}
-use Rattle.std.proofs.lemmas.Bool.{cases_lt, ltb-false}
-use Rattle.std.proofs.lemmas.Bool.Decides.{eqb_tells}
+use Rattle.std.proofs.Common.{◌∷◌, ◌++◌, length, get_or, set, slice_get, Option, Some, None, refl, sym, ◌∙◌, ap, subst, inl, inr, arith}
+use Rattle.std.proofs.lemmas.Bool.{cases_lt, ltb-false, ltb-true}
+use Rattle.std.proofs.lemmas.List.{get_or-set_same}
 use Rattle.iox_lanes_machine.specs.QueuesSteps.declared.schedule.Stepped.TheVariants as stepped
 use Rattle.iox_lanes_machine.specs.QueuesSteps.Ends.{push_idle}
 use Rattle.iox_lanes_machine.specs.QueuesSteps.declared.rings.ends.RingKind.{RingKind}
@@ -54,7 +54,7 @@ use Rattle.iox_lanes_machine.proofs.FullLoans.{loans_find_all_used}
 use Rattle.iox_lanes_machine.proofs.Loans.{loans_lent}
 use Rattle.iox_lanes_machine.proofs.Mailboxes.{order_there}
 use Rattle.iox_lanes_machine.proofs.Told.{steps_told}
-use Rattle.iox_lanes_laws.specs.Publishing.{is_loan, AllInUse, LoansInTurn, WritesInTurn, SendsInTurn, DropsInTurn}
+use Rattle.iox_lanes_laws.specs.Publishing.{AllInUse, LoansInTurn, WritesInTurn, SendsInTurn, DropsInTurn}
 use Rattle.iox_lanes_laws.proofs.Books.{SameBook, SentBook, BookAlone, loans_same, loan_ended, others_same, loan_marked, put_other}
 use Rattle.iox_lanes_laws.proofs.Mail.{answered_by, mail_elsewhere, waits_on, mail_stays, sent_now, mail_put, counted}
 use Rattle.iox_lanes_laws.proofs.Publishers.{WholeCall, next_lane, whole}
@@ -76,7 +76,7 @@ loan_stage (publishing.Dropping slot) over h = absurd (cc h)
 slot_is : (slot own : ℕ) → name.Write slot ≡ name.Write own → own ≡ slot
 slot_is slot own h = cc h
 
-write_stage : (slot : ℕ) (c : PublisherCall) → publisher_is_over c ≡ true → IsStageOf (name.Write slot) c → c ≡ publishing.Written slot
+pub write_stage : (slot : ℕ) (c : PublisherCall) → publisher_is_over c ≡ true → IsStageOf (name.Write slot) c → c ≡ publishing.Written slot
 write_stage slot publishing.Idle over h = absurd (cc over)
 write_stage slot (publishing.LoanReclaims place route p) over h = absurd (cc over)
 write_stage slot publishing.Lending over h = absurd (cc h)
@@ -184,7 +184,7 @@ sends_in_turn = λ m n place slot before after t found now.
         refused = counts.1;
         loans = record {
           ended = loan_ended slot before.port.book after.port.book out first loans;
-          others = λ other apart. ap is_out (others_same slot other before.port.book after.port.book mark.No out first loans apart);
+          others = λ other apart. others_same slot other before.port.book after.port.book mark.No out first loans apart;
         };
         history = ap (λ (b : BookState). b.history) same ∙ book.history;
       },
@@ -211,7 +211,7 @@ drops_in_turn = λ m n place slot before after t found now.
       ap (λ (b : BookState). b.history) same ∙ book.history,
       record {
         ended = loan_ended slot before.port.book after.port.book out first loans;
-        others = λ other apart. ap is_out (others_same slot other before.port.book after.port.book mark.No out first loans apart);
+        others = λ other apart. others_same slot other before.port.book after.port.book mark.No out first loans apart;
       },
     )
 
@@ -249,12 +249,8 @@ writes_in_turn = λ m n place slot c before after is t found now.
       w.others,
       mail_stays m place c before n after w answer.Written found now said refl,
       ap (λ (b : BookState). b.history) same ∙ book.history,
-      λ other. elim (eqb_tells other slot) [
-        | inl here ↦ subst (λ (s : ℕ). is_out (loan_of s after.port.book) ≡ is_out (loan_of s before.port.book)) (sym here.1)
-            (ap is_out marked ∙ sym out)
-        | inr apart ↦ ap is_out (others_same slot other before.port.book after.port.book mark.Written out first loans apart.1)
-      ],
-      ap is_written marked,
+      λ other apart. others_same slot other before.port.book after.port.book mark.Written out first loans apart,
+      marked,
     )
 
 -- what a loan says
@@ -324,6 +320,44 @@ lent_others book given says small sizes slot apart = by_test (nat_lt book.out bo
     by_test true h = by_free (first_free book.uses 0) refl h
     by_test false h = refl
 
+-- and that slot is a loan that isn't written
+lent_mark : (book : BookState) (slot : ℕ) → parties.lent (lent book).answer ≡ answer.Lent (loan.Slot slot)
+    → book.first + length book.loans < 2 ^ 64 → length book.uses ≡ length book.loans → loan_of slot (lent book) ≡ mark.Lent
+lent_mark book slot says small sizes = by_test (nat_lt book.out book.most_loans) says
+  where
+    said : (one : ℕ) → answer.Lent (loan.Slot one) ≡ answer.Lent (loan.Slot slot) → slot ≡ one
+    said one e = cc e
+
+    marked : (index : ℕ) → slot ≡ book.first + index → index < length book.loans → loan_of slot (lent_from book (Some index)) ≡ mark.Lent
+    marked index same there = by_first (nat_lt slot book.first) refl
+      where
+        put_there : (b : Bool) → nat_lt index (length book.loans) ≡ b
+            → get_or (if b then set book.loans index mark.Lent else book.loans) index mark.No ≡ mark.Lent
+        put_there true e = get_or-set_same book.loans index mark.Lent mark.No there
+        put_there false e = absurd (omega (arith, there, ltb-false index (length book.loans) e))
+
+        by_first : (b : Bool) → nat_lt slot book.first ≡ b
+            → (if b then mark.No else get_or (put_at book.loans index mark.Lent) (slot - book.first) mark.No) ≡ mark.Lent
+        by_first true t = absurd (omega (arith, same, ltb-true slot book.first t))
+        by_first false t = ap (λ (at : ℕ). get_or (put_at book.loans index mark.Lent) at mark.No) (omega (arith, same))
+            ∙ put_there (nat_lt index (length book.loans)) refl
+
+    by_free : (at : Option ℕ) → first_free book.uses 0 ≡ at → parties.lent (lent_from book at).answer ≡ answer.Lent (loan.Slot slot)
+        → loan_of slot (lent_from book at) ≡ mark.Lent
+    by_free None e h = absurd (cc h)
+    by_free (Some index) e h =
+        let there = first_free_is book.uses 0 index e in
+        let fits : book.first + index < 2 ^ 64 = omega (arith, small, sizes, there.1, there.2) in
+        marked index (said (number_in book.first index) h ∙ below_min (book.first + index) fits) (omega (arith, sizes, there.1, there.2))
+
+    by_test : (b : Bool) → parties.lent
+        (if b then lent_from book (first_free book.uses 0) else record book { answer = Some loan.ExceedsMaxLoans }).answer
+        ≡ answer.Lent (loan.Slot slot)
+        → loan_of slot (if b then lent_from book (first_free book.uses 0) else record book { answer = Some loan.ExceedsMaxLoans })
+        ≡ mark.Lent
+    by_test true h = by_free (first_free book.uses 0) refl h
+    by_test false h = absurd (cc h)
+
 -- who is between calls pushes nothing, so that nothing lies aside
 pub stage_idle : (m : World) (place : ℕ) → AllBetween m → publisher_is_idle (publisher_stage (slice_get m.publishers place)) ≡ true
 stage_idle m place between = by_lane (slice_get m.publishers place) refl
@@ -346,7 +380,7 @@ idle_pushes (publishing.Pushing slot place route p delivery) connection k h = ab
 idle_pushes (publishing.Sent slot delivery) connection k h = absurd (cc h)
 idle_pushes (publishing.Dropping slot) connection k h = absurd (cc h)
 
-none_aside : (m : World) (connection place : ℕ) (link : LinkState) → AllBetween m
+pub none_aside : (m : World) (connection place : ℕ) (link : LinkState) → AllBetween m
     → aside_at m.table connection link (publisher_stage (slice_get m.publishers place)) ≡ []
 none_aside m connection place link between =
     let read : ℕ = held_by m.table (sent_word connection Read) in
@@ -452,11 +486,12 @@ loans_in_turn = λ m n place before after t found now small.
           = omega (arith, o.below, book.first, size, counted_then.loans_each, counted_first.loans_each);
     } in
     let gives : (slot : ℕ) → l.given ≡ loan.Slot slot → IsOwn before.port.book slot × (IsInUse m before slot → ⊥)
-    × (is_loan after slot ≡ true) = λ slot e.
+    × (loan_of slot after.port.book ≡ mark.Lent) = λ slot e.
     let g = is.gives slot e in (
       own slot g.0,
       not_used m place before n after w l slot found now t.between g.1 g.2,
-      subst (λ (x : PublisherLaneState). is_loan x slot ≡ true) (some_is (g.2).lane after (sym (g.2).found ∙ now)) (g.2).out,
+      ap (loan_of slot) l.lent_now ∙ lent_mark (w.last.lane).port.book slot
+          (said_so ∙ ap (λ (g : LoanAnswer). answer.Lent g) e) there (sym counted_then.loans_each),
     ) in
     let refuses : loans_out before.port.book ≡ before.port.book.most_loans
     → l.given ≡ loan.ExceedsMaxLoans = λ e. is.refuses (out ∙ e ∙ sym book.most_loans) in
@@ -490,8 +525,8 @@ loans_in_turn = λ m n place before after t found now small.
               (λ e. sym out ∙ is.refused e ∙ book.most_loans) h.0,
         );
         gives = gives;
-        others = λ slot apart. ap is_out (ap (loan_of slot) l.lent_now ∙ lent_others (w.last.lane).port.book l.given said_so there
-            (sym counted_then.loans_each) slot apart ∙ loans_same before.port.book (w.last.lane).port.book book.first book.loans slot);
+        others = λ slot apart. ap (loan_of slot) l.lent_now ∙ lent_others (w.last.lane).port.book l.given said_so there
+            (sym counted_then.loans_each) slot apart ∙ loans_same before.port.book (w.last.lane).port.book book.first book.loans slot;
       },
     )
   where

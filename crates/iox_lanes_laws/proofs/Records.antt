@@ -29,7 +29,7 @@ use Rattle.iox_lanes_machine.proofs.Held.{none_more}
 use Rattle.iox_lanes_machine.proofs.Steps.{happens_moments}
 use Rattle.iox_lanes_laws.specs.Messages.{MessageState, begun_messages, last_in, message_of, sent_by}
 use Rattle.iox_lanes_laws.specs.Numbered.{last_number, was_sent_by}
-use Rattle.iox_lanes_laws.specs.Recorded.{RecordState, recorded_after, RecordsTo, RecordsRun, AreAsHeld, AreEarly, ReadsGiveMessages}
+use Rattle.iox_lanes_laws.specs.Recorded.{RecordState, recorded_after, RecordsTo, RecordsRun, AreAsHeld, ArePast, ReadsGiveMessages}
 use Rattle.iox_lanes_laws.specs.Recorded.{ReadsGiveWhatIsKept}
 use Rattle.iox_lanes_laws.specs.WholeMessages.{SendsThrough}
 use Rattle.iox_lanes_laws.proofs.Founds.{last_held}
@@ -136,11 +136,11 @@ reads_give_what_is_kept r entries made n came between held run few party step st
     = absurd (none_more n.lanes.finished ended (sym (ap (λ (x : RecordState). x.lanes.finished) h.2) ∙ more))
 
 -- so is nothing
-none_early : (m : World) → AreEarly m []
+none_early : (m : World) → ArePast m []
 none_early m = All-nil (λ message. message.moment ≤ m.moments)
 
 -- what begins begins now
-begun_early : (m : World) (place : ℕ) (c : Call) (at : Option PublisherLaneState) → AreEarly m (sent_by m place c at)
+begun_early : (m : World) (place : ℕ) (c : Call) (at : Option PublisherLaneState) → ArePast m (sent_by m place c at)
 begun_early m place c None = none_early m
 begun_early m place call.LoanUninit (Some lane) = none_early m
 begun_early m place (call.Write loan payload user_header) (Some lane) = none_early m
@@ -151,7 +151,7 @@ begun_early m place call.Receive (Some lane) = none_early m
 begun_early m place (call.Read sample) (Some lane) = none_early m
 begun_early m place (call.Release sample) (Some lane) = none_early m
 
-pub step_early : (m : World) (party : Party) (step : Move) → AreEarly m (begun_messages m party step)
+pub step_early : (m : World) (party : Party) (step : Move) → ArePast m (begun_messages m party step)
 step_early m (Publisher place) (Begin c) = begun_early m place c (slice_get m.publishers place)
 step_early m (Publisher place) GoOn = none_early m
 step_early m (Subscriber place) step = none_early m
@@ -166,8 +166,8 @@ later now late one other up early more =
     (All-append (λ (message : MessageState). message.moment ≤ now) one other early more)
 
 run_early : (r : RecordState) (entries : List Entry) (made : ℕ) (n : RecordState) → RecordsRun r entries made n → n.lanes.moments ≤ 2 ^ 63
-    → AreEarly r.lanes r.messages → AreEarly n.lanes n.messages
-run_early r [] made n h few early = subst (λ (x : RecordState). AreEarly x.lanes x.messages) (sym h.1) early
+    → ArePast r.lanes r.messages → ArePast n.lanes n.messages
+run_early r [] made n h few early = subst (λ (x : RecordState). ArePast x.lanes x.messages) (sym h.1) early
 run_early r (entry ∷ entries) made n (inl h) few early = run_early r entries made n h.1 few early
 run_early r (entry ∷ entries) made n (inr (inl h)) few early =
     let after = recorded_after r entry.party entry.step in
@@ -223,7 +223,7 @@ number_words before messages slot moment (suc count) number message within early
     words_or_none (Some one) = one.words
 
 -- a read that ends gives the message of the number that its slot has
-read_message : (r : RecordState) (entries : List Entry) (made : ℕ) (n : RecordState) → AreEarly r.lanes r.messages
+read_message : (r : RecordState) (entries : List Entry) (made : ℕ) (n : RecordState) → ArePast r.lanes r.messages
     → RecordsRun r entries made n → n.lanes.moments ≤ 2 ^ 63 → (slot number : ℕ) (message : MessageState)
     → last_number n.messages slot n.lanes.moments (length n.messages) ≡ Some number → slice_get n.messages number ≡ Some message
     → last_in (slot_held r.lanes.table slot) n.messages slot ≡ message.words

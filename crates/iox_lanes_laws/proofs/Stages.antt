@@ -152,7 +152,7 @@ ring_touches connection ring cells (own_access.Store w value) slot word h = absu
 ring_touches connection ring cells (own_access.Exchange w old new) slot word h = absurd (cc h)
 ring_touches connection ring cells own_access.Local slot word h = h
 
-head_is_no_payload : (one slot at word : ℕ) (b : Bool)
+pub head_is_no_payload : (one slot at word : ℕ) (b : Bool)
     → Slot one (Payload word) ≡ Slot slot (if b then Header at else UserHeader (at - 3)) → ⊥
 head_is_no_payload one slot at word true h = absurd (cc h)
 head_is_no_payload one slot at word false h = absurd (cc h)

@@ -53,7 +53,7 @@ at_head sizes word true d e f below = refl
 at_head sizes word false true e f below = refl
 at_head sizes word false false e f below = absurd (omega (arith, ltb-false word 3 e, ltb-false (word - 3) sizes.user_header_words f, below))
 
-at_payload : (sizes : TableSizes) (word : ℕ) (b d : Bool) → nat_lt word 3 ≡ b → nat_lt (word - 3) sizes.user_header_words ≡ d
+pub at_payload : (sizes : TableSizes) (word : ℕ) (b d : Bool) → nat_lt word 3 ≡ b → nat_lt (word - 3) sizes.user_header_words ≡ d
     → 3 + sizes.user_header_words ≤ word
     → (if b then Header word else if d then UserHeader (word - 3) else Payload (word - 3 - sizes.user_header_words))
     ≡ Payload (word - 3 - sizes.user_header_words)

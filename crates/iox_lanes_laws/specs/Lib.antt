@@ -11,5 +11,7 @@ pub mod Messages
 pub mod Numbered
 pub mod WholeMessages
 pub mod Recorded
+pub mod HaveNumbers
 pub mod Accesses
 pub mod Takes
+pub mod Payloads

@@ -1,5 +1,5 @@
 -- What a call of a publisher leaves that no other call overlaps.
-use Rattle.std.specs.Prelude.{ℕ, ◌≡◌, ◌+◌, ◌-◌, ◌<◌, ◌^◌, ◌↔◌, ◌||◌, not, Bool, true, false, nat_lt, List, [], ◌∷◌, ◌++◌, length, drop}
+use Rattle.std.specs.Prelude.{ℕ, ◌≡◌, ◌+◌, ◌-◌, ◌<◌, ◌^◌, ◌↔◌, ◌||◌, not, Bool, false, nat_lt, List, [], ◌∷◌, ◌++◌, length, drop}
 use Rattle.std.specs.Prelude.{count_by, slice_get, Option, Some, None}
 use Rattle.iox_lanes_machine.specs.QueuesSteps.Order.{after_put}
 use Rattle.iox_lanes_machine.specs.QueuesSteps.Ends.{overflows}
@@ -8,7 +8,8 @@ use Rattle.iox_lanes_machine.specs.LanesBase.declared.calls.route.Route.{Route}
 use Rattle.iox_lanes_machine.specs.LanesParties.PublisherKeeping.{loan_of}
 use Rattle.iox_lanes_machine.specs.LanesParties.declared.publisher.slot_book.LoanAnswer.{LoanAnswer}
 use Rattle.iox_lanes_machine.specs.LanesParties.declared.publisher.slot_book.LoanAnswer.TheVariants as loan
-use Rattle.iox_lanes_machine.specs.LanesParties.Parties.{PublisherLaneState, is_out, is_written, name_of}
+use Rattle.iox_lanes_machine.specs.LanesParties.declared.publisher.slot_book.LoanMark.TheVariants as mark
+use Rattle.iox_lanes_machine.specs.LanesParties.Parties.{PublisherLaneState, is_out, name_of}
 use Rattle.iox_lanes_machine.specs.LanesParties.SendAnswers.{send_answer}
 use Rattle.iox_lanes_machine.specs.LanesParties.declared.call.Answer.TheVariants as answer
 use Rattle.iox_lanes_machine.specs.LanesParties.declared.call.Call.TheVariants as call
@@ -32,14 +33,14 @@ pub record OnlyPublisher (m : World) (place : ℕ) (n : World) : Type 0 where
 abbrev pub is_loan : PublisherLaneState → ℕ → Bool
 is_loan lane slot = is_out (loan_of slot lane.port.book)
 
--- just the slots are loans that were
-abbrev pub LoansStay : PublisherLaneState → PublisherLaneState → Type 0
-LoansStay before after = (slot : ℕ) → is_loan after slot ≡ is_loan before slot
+-- each other slot is what it was: no loan, a loan, or one that is written
+abbrev pub OtherMarksStay : PublisherLaneState → ℕ → PublisherLaneState → Type 0
+OtherMarksStay before slot after = (other : ℕ) → (other ≡ slot → ⊥) → loan_of other after.port.book ≡ loan_of other before.port.book
 
--- a slot is no loan any longer, and of the others just those are that were
+-- a slot is no loan any longer, and each other one is what it was
 pub record LoanEnds (before after : PublisherLaneState) (slot : ℕ) : Type 0 where
   pub ended : is_loan after slot ≡ false
-  pub others : (other : ℕ) → (other ≡ slot → ⊥) → is_loan after other ≡ is_loan before other
+  pub others : OtherMarksStay before slot after
 
 -- the history is what it was
 abbrev pub HistoryStays : PublisherLaneState → PublisherLaneState → Type 0
@@ -50,13 +51,14 @@ abbrev pub AllInUse : World → PublisherLaneState → Type 0
 AllInUse m lane = (slot : ℕ) → IsOwn lane.port.book slot → IsInUse m lane slot
 
 -- A loan is refused just where as many loans are out as may be; it finds no slot just where fewer are out and each slot of the
--- publisher is in use; the slot that it gives was the publisher's and in no use, and is a loan from then on. Of the other slots
--- just those are loans that were.
+-- publisher is in use; the slot that it gives was the publisher's and in no use, and is a loan from then on, not written yet. Each
+-- other slot is what it was.
 pub record Lends (m : World) (before : PublisherLaneState) (given : LoanAnswer) (after : PublisherLaneState) : Type 0 where
   pub refused : given ≡ loan.ExceedsMaxLoans ↔ loans_out before.port.book ≡ before.port.book.most_loans
   pub lacks : given ≡ loan.OutOfMemory ↔ (loans_out before.port.book < before.port.book.most_loans) × AllInUse m before
-  pub gives : (slot : ℕ) → given ≡ loan.Slot slot → IsOwn before.port.book slot × (IsInUse m before slot → ⊥) × (is_loan after slot ≡ true)
-  pub others : (slot : ℕ) → (given ≡ loan.Slot slot → ⊥) → is_loan after slot ≡ is_loan before slot
+  pub gives : (slot : ℕ) → given ≡ loan.Slot slot
+      → IsOwn before.port.book slot × (IsInUse m before slot → ⊥) × (loan_of slot after.port.book ≡ mark.Lent)
+  pub others : (slot : ℕ) → (given ≡ loan.Slot slot → ⊥) → loan_of slot after.port.book ≡ loan_of slot before.port.book
 
 -- the last of a list, so many of them at most
 abbrev pub newest : ℕ → List ℕ → List ℕ
@@ -108,9 +110,9 @@ DropsInTurn = (m n : World) (place slot : ℕ) (before after : PublisherLaneStat
     → IsAnswered m (Publisher place) (call.DropLoan slot) answer.Dropped n × OnlyPublisher m place n × MailStays m n
     × HistoryStays before after × LoanEnds before after slot
 
--- So a write ends that no other call overlaps: its loan is written, and that is all.
+-- So a write ends that no other call overlaps: its loan is written, and each other slot is what it was.
 abbrev pub WritesInTurn : Type 0
 WritesInTurn = (m n : World) (place slot : ℕ) (c : Call) (before after : PublisherLaneState) → name_of c ≡ name.Write slot
     → IsInTurn m (Publisher place) c n → slice_get m.publishers place ≡ Some before → slice_get n.publishers place ≡ Some after
     → IsAnswered m (Publisher place) c answer.Written n × OnlyPublisher m place n × MailStays m n × HistoryStays before after
-    × LoansStay before after × (is_written (loan_of slot after.port.book) ≡ true)
+    × OtherMarksStay before slot after × (loan_of slot after.port.book ≡ mark.Written)

@@ -57,8 +57,8 @@ abbrev pub AreAsHeld : World → List MessageState → Type 0
 AreAsHeld m messages = All (λ message. message.words ≡ slot_held m.table message.slot) messages
 
 -- and were sent or found by now
-abbrev pub AreEarly : World → List MessageState → Type 0
-AreEarly m messages = All (λ message. message.moment ≤ m.moments) messages
+abbrev pub ArePast : World → List MessageState → Type 0
+ArePast m messages = All (λ message. message.moment ≤ m.moments) messages
 
 -- Whatever is run from where nobody is inside a call and the messages that are kept are as their slots hold them: a read that ends behind
 -- it gives just the words of the last message that is kept for its slot; of a slot for which none is, those that it held at first. So it
@@ -73,7 +73,7 @@ ReadsGiveWhatIsKept = (r : RecordState) (entries : List Entry) (made : ℕ) (n :
 -- And where one is kept, that is the message of a number: of the last one that was sent in the slot of the read by its end.
 abbrev pub ReadsGiveMessages : Type 0
 ReadsGiveMessages = (r : RecordState) (entries : List Entry) (made : ℕ) (n : RecordState) → CameTo r.lanes → AllBetween r.lanes
-    → AreAsHeld r.lanes r.messages → AreEarly r.lanes r.messages → RecordsRun r entries made n → n.lanes.moments ≤ 2 ^ 63
+    → AreAsHeld r.lanes r.messages → ArePast r.lanes r.messages → RecordsRun r entries made n → n.lanes.moments ≤ 2 ^ 63
     → (party : Party) (step : Move) (answer : Stepped) (after : RecordState) → RecordsTo n party step answer after
     → (call : FinishedCall) (slot : ℕ) → after.lanes.finished ≡ n.lanes.finished ++ call ∷ [] → call.call ≡ name.Read slot
     → (number : ℕ) (message : MessageState) → last_number n.messages slot n.lanes.moments (length n.messages) ≡ Some number
@@ -85,7 +85,7 @@ ReadsGiveMessages = (r : RecordState) (entries : List Entry) (made : ℕ) (n : R
 -- at most 2^63 steps were made.
 abbrev pub OrdersFollowNumbers : Type 0
 OrdersFollowNumbers = (r : RecordState) (entries : List Entry) (made : ℕ) (n : RecordState) → CameTo r.lanes → r.lanes.moments ≡ 0
-    → AreEarly r.lanes r.messages → RecordsRun r entries made n → n.lanes.moments ≤ 2 ^ 63
+    → ArePast r.lanes r.messages → RecordsRun r entries made n → n.lanes.moments ≤ 2 ^ 63
     → (connection : ℕ) (link : LinkState) (order : List Placed) → slice_get n.lanes.links connection ≡ Some link
     → slice_get n.lanes.orders connection ≡ Some order
     → Acts (overflows link.kind) link.limit (map (number_by r.messages 0) link.found) (numbered n.messages order)

@@ -11,6 +11,7 @@
 ghost use Rattle.iox_lanes_laws.specs.Turns.{CallsEndInTurn};
 ghost use Rattle.iox_lanes_laws.specs.Publishing.{LoansInTurn, WritesInTurn, SendsInTurn, DropsInTurn};
 ghost use Rattle.iox_lanes_laws.specs.Subscribing.{ReceivesInTurn, ReadsInTurn, ReleasesInTurn};
+ghost use Rattle.iox_lanes_laws.specs.Payloads.{PayloadsStayInTurn, WritesHoldInTurn, PublishersStayInTurn, SubscribersStayInTurn};
 
 /// Where no call of a schedule overlaps another, each ends where the next may begin: nobody is inside a call. So what the other
 /// laws of this crate say of one call is true of each of them, one after the other; as long as at most 2^63 steps were made.
@@ -20,10 +21,11 @@ pub fn end_in_turn()
 
 /// A call of a publisher that no other call overlaps changes no other port. A loan is refused just where as many loans are out as
 /// may be, finds no slot just where each is in use (a loan, in the history, or waiting or borrowed at a connection), and else
-/// gives one that isn't. A write marks its loan as written. A send puts its slot into the mailbox of each connection, where a
-/// full one lets its oldest go or refuses, counts both, ends the loan and makes it the newest of the history. It is unable to
-/// deliver just where its publisher fails at a full mailbox and one refused. A loan that is given up is none any longer. What
-/// waits, what is borrowed and the other loans stay.
+/// gives one that isn't, and that isn't written yet. A write marks its loan as written. A send puts its slot into the mailbox of
+/// each connection, where a full one lets its oldest go or refuses, counts both, ends the loan and makes it the newest of the
+/// history. It is unable to deliver just where its publisher fails at a full mailbox and one refused. A loan that is given up is
+/// none any longer. What waits, what is borrowed and the other loans stay, written or not. So it is as long as at most 2^63 steps
+/// were made; of a loan, for slots that have numbers below 2^64.
 pub fn publish_in_turn()
     ensures loans { LoansInTurn }
     ensures writes { WritesInTurn }
@@ -39,4 +41,14 @@ pub fn receive_in_turn()
     ensures receives { ReceivesInTurn }
     ensures reads { ReadsInTurn }
     ensures releases { ReleasesInTurn }
+{}
+
+/// A call that no other call overlaps changes the payload of no slot but the one that it writes, which holds just the words of the
+/// write then. Connections and sizes are what they were; so are a publisher's slots, how many it may lend and remember, and where
+/// its sends fail; and how many samples a subscriber may borrow. So it is as long as at most 2^63 steps were made.
+pub fn stay_in_turn()
+    ensures payloads { PayloadsStayInTurn }
+    ensures writes { WritesHoldInTurn }
+    ensures publishers { PublishersStayInTurn }
+    ensures subscribers { SubscribersStayInTurn }
 {}

@@ -19,6 +19,7 @@
 pub mod message;
 pub mod recorded;
 
+ghost use Rattle.iox_lanes_laws.specs.HaveNumbers.{OrdersHaveNumbers};
 ghost use Rattle.iox_lanes_laws.specs.Recorded.{OrdersFollowNumbers, ReadsGiveMessages, ReadsGiveWhatIsKept};
 ghost use Rattle.iox_lanes_laws.specs.WholeMessages.{ReadsGiveWhatWasSent, UsedSlotsSendNothing};
 
@@ -57,4 +58,11 @@ pub fn reads_give_messages()
 /// messages were found by then, and as long as at most 2^63 steps were made.
 pub fn orders_follow_numbers()
     ensures { OrdersFollowNumbers }
+{}
+
+/// And each of these messages has a number, where the ones that were found before the first step were kept then
+/// (`RecordedLanes::with_found`): each that was found to wait, and each that is put, left out or taken by an order, by its moment. So
+/// it is as long as at most 2^63 steps were made.
+pub fn orders_have_numbers()
+    ensures { OrdersHaveNumbers }
 {}

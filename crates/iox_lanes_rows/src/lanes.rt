@@ -1,6 +1,6 @@
 //! What the lanes of a domain do.
+use iox_lanes::RecordedLanes;
 use iox_lanes_base::calls::{Delivery, Receipt};
-use iox_lanes_machine::Lanes;
 use iox_lanes_parties::publisher::LoanAnswer;
 use iox_lanes_parties::{Answer, Call, Move, Party, SendAnswer};
 use iox_queues_steps::Stepped;
@@ -22,12 +22,18 @@ pub(crate) enum Lane {
     Keeps(usize, usize),
     /// So many messages waited at a connection, of so many that may.
     Waited(usize, usize, u64),
+    /// The message of a number is of the publisher of this number, and has this value.
+    Message(usize, u64, u64),
+    /// So many messages have numbers.
+    Messages(usize),
+    /// An entry of the order of a connection puts or takes the message of this number.
+    Numbered(u64, usize, usize),
     /// A publisher begins a loan, or a subscriber begins to receive, and doesn't go on.
     Begins(Party),
 }
 
 // Makes a step, and once more where it found no memory, by which nothing has changed.
-fn step(lanes: &mut Lanes, party: Party, entry: &Move) -> Stepped {
+fn step(lanes: &mut RecordedLanes, party: Party, entry: &Move) -> Stepped {
     match lanes.step(party, entry) {
         Stepped::NoMemory => lanes.step(party, entry),
         stepped => stepped,
@@ -35,38 +41,38 @@ fn step(lanes: &mut Lanes, party: Party, entry: &Move) -> Stepped {
 }
 
 // Makes a whole call, and gives its answer.
-fn whole(lanes: &mut Lanes, party: Party, call: Call) -> Option<Answer> {
+fn whole(lanes: &mut RecordedLanes, party: Party, call: Call) -> Option<Answer> {
     if step(lanes, party, &Move::Begin(call)) != Stepped::Went {
         return None;
     }
     for _ in 0..1000 {
         if step(lanes, party, &Move::GoOn) == Stepped::Finished {
-            return lanes.finished().last().map(|call| call.answer);
+            return lanes.lanes().finished().last().map(|call| call.answer);
         }
     }
     None
 }
 
 // Whether a subscriber receives, reads and releases such a message.
-fn gets(lanes: &mut Lanes, place: usize, number: u64, value: u64) -> bool {
+fn gets(lanes: &mut RecordedLanes, place: usize, number: u64, value: u64) -> bool {
     let party = Party::Subscriber(place);
     let Some(Answer::Received(Receipt::Taken { slot, .. })) = whole(lanes, party, Call::Receive)
     else {
         return false;
     };
-    let before = lanes.words_read().len();
+    let before = lanes.lanes().words_read().len();
     let is_read = whole(lanes, party, Call::Read { sample: slot }).is_some();
-    let is_right = lanes.words_read().get(before..) == Some(&[8, number, 1, 6, value]);
+    let is_right = lanes.lanes().words_read().get(before..) == Some(&[8, number, 1, 6, value]);
     let is_back = whole(lanes, party, Call::Release { sample: slot });
     is_read && is_right && is_back == Some(Answer::Released(true))
 }
 
-fn gets_nothing(lanes: &mut Lanes, place: usize) -> bool {
+fn gets_nothing(lanes: &mut RecordedLanes, place: usize) -> bool {
     whole(lanes, Party::Subscriber(place), Call::Receive)
         == Some(Answer::Received(Receipt::Nothing))
 }
 
-fn lend(lanes: &mut Lanes, place: usize) -> Option<LoanAnswer> {
+fn lend(lanes: &mut RecordedLanes, place: usize) -> Option<LoanAnswer> {
     match whole(lanes, Party::Publisher(place), Call::LoanUninit) {
         Some(Answer::Lent(answer)) => Some(answer),
         _ => None,
@@ -84,7 +90,7 @@ fn write(alloc: Global, loan: u64, value: u64) -> Result<Call, AllocError> {
 }
 
 // Writes into a loan and sends it; what the send answers.
-fn send_loan(lanes: &mut Lanes, place: usize, loan: u64, write: Call) -> Option<Answer> {
+fn send_loan(lanes: &mut RecordedLanes, place: usize, loan: u64, write: Call) -> Option<Answer> {
     let party = Party::Publisher(place);
     whole(lanes, party, write)?;
     whole(lanes, party, Call::Send { loan })
@@ -93,7 +99,7 @@ fn send_loan(lanes: &mut Lanes, place: usize, loan: u64, write: Call) -> Option<
 // Lends, writes and sends; what the send answers.
 fn send(
     alloc: Global,
-    lanes: &mut Lanes,
+    lanes: &mut RecordedLanes,
     place: usize,
     value: u64,
 ) -> Result<Option<Answer>, AllocError> {
@@ -107,7 +113,7 @@ fn send(
 }
 
 // Whether so many slots are lent, and then this is answered.
-fn lends(lanes: &mut Lanes, place: usize, count: u64, last: LoanAnswer) -> bool {
+fn lends(lanes: &mut RecordedLanes, place: usize, count: u64, last: LoanAnswer) -> bool {
     for _ in 0..count {
         match lend(lanes, place) {
             Some(LoanAnswer::Slot(_)) => {}
@@ -117,21 +123,30 @@ fn lends(lanes: &mut Lanes, place: usize, count: u64, last: LoanAnswer) -> bool 
     lend(lanes, place) == Some(last)
 }
 
-fn keeps(lanes: &Lanes, place: usize, count: usize) -> bool {
-    match lanes.publishers().get(place) {
+fn keeps(lanes: &RecordedLanes, place: usize, count: usize) -> bool {
+    match lanes.lanes().publishers().get(place) {
         Some(lane) => lane.history().len() == count,
         None => false,
     }
 }
 
-fn waited(lanes: &Lanes, connection: usize, count: usize, limit: u64) -> bool {
-    match lanes.links().get(connection) {
+fn waited(lanes: &RecordedLanes, connection: usize, count: usize, limit: u64) -> bool {
+    match lanes.lanes().links().get(connection) {
         Some(link) => link.found().len() == count && link.limit() == limit,
         None => false,
     }
 }
 
-fn begins(lanes: &mut Lanes, party: Party) -> bool {
+// Whether the message of a number is of such a publisher, and has such a value and the user header that all have.
+fn is_message(lanes: &RecordedLanes, number: usize, publisher: u64, value: u64) -> bool {
+    let Some(message) = lanes.message(number) else {
+        return false;
+    };
+    let is_whole = message.words() == [8, publisher, 1, 6, value].as_slice();
+    is_whole && message.values::<u64, u8>() == Some((6, value))
+}
+
+fn begins(lanes: &mut RecordedLanes, party: Party) -> bool {
     let call = match party {
         Party::Publisher(_) => Call::LoanUninit,
         Party::Subscriber(_) => Call::Receive,
@@ -140,7 +155,7 @@ fn begins(lanes: &mut Lanes, party: Party) -> bool {
 }
 
 // Whether a step of the lanes goes so.
-fn goes(alloc: Global, lanes: &mut Lanes, step: &Lane) -> Result<bool, AllocError> {
+fn goes(alloc: Global, lanes: &mut RecordedLanes, step: &Lane) -> Result<bool, AllocError> {
     Ok(match *step {
         Lane::Gets(place, number, value) => gets(lanes, place, number, value),
         Lane::Nothing(place) => gets_nothing(lanes, place),
@@ -155,6 +170,9 @@ fn goes(alloc: Global, lanes: &mut Lanes, step: &Lane) -> Result<bool, AllocErro
         Lane::Lends(place, count, last) => lends(lanes, place, count, last),
         Lane::Keeps(place, count) => keeps(lanes, place, count),
         Lane::Waited(connection, count, limit) => waited(lanes, connection, count, limit),
+        Lane::Message(number, publisher, value) => is_message(lanes, number, publisher, value),
+        Lane::Messages(count) => lanes.len() == count,
+        Lane::Numbered(connection, at, number) => lanes.number(connection, at) == Some(number),
         Lane::Begins(party) => begins(lanes, party),
     })
 }
@@ -162,7 +180,7 @@ fn goes(alloc: Global, lanes: &mut Lanes, step: &Lane) -> Result<bool, AllocErro
 /// The first step that goes otherwise, if one does.
 pub(crate) fn go_on(
     alloc: Global,
-    lanes: &mut Lanes,
+    lanes: &mut RecordedLanes,
     steps: &[Lane],
 ) -> Result<Option<usize>, AllocError> {
     for (place, step) in steps.iter().enumerate() {

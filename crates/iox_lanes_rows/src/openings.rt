@@ -45,7 +45,12 @@ pub(crate) const PORTS: [Step; 12] = [
     Step::Put(5, 51, Sent::Delivered(3)),
 ];
 
-const FOUND: [Lane; 16] = [
+const FOUND: [Lane; 26] = [
+    Lane::Messages(4),
+    Lane::Message(0, 4, 41),
+    Lane::Message(1, 4, 42),
+    Lane::Message(2, 4, 43),
+    Lane::Message(3, 5, 51),
     Lane::Waited(0, 1, 1),
     Lane::Waited(1, 2, 2),
     Lane::Waited(2, 3, 3),
@@ -56,6 +61,11 @@ const FOUND: [Lane; 16] = [
     Lane::Gets(1, 4, 42),
     Lane::Gets(2, 4, 41),
     Lane::Sends(1, 52, 3, 0),
+    Lane::Messages(5),
+    Lane::Message(4, 5, 52),
+    Lane::Numbered(0, 0, 2),
+    Lane::Numbered(3, 0, 3),
+    Lane::Numbered(3, 2, 4),
     Lane::Gets(0, 5, 52),
     Lane::Gets(1, 4, 43),
     Lane::Gets(1, 5, 51),

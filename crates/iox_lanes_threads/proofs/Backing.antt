@@ -9,10 +9,9 @@ use Rattle.iox_lanes_machine.specs.Together.{HoldTogether}
 use Rattle.iox_lanes_machine.specs.World.{World}
 use Rattle.iox_lanes_threads_ports.specs.LanesThreadsRule.Lanes.{HasParty, IsSeen, IsBacked}
 use Rattle.iox_lanes_threads_ports.specs.LanesThreadsRule.declared.view.Port.{Port}
-use Rattle.iox_lanes_threads_ports.specs.LanesThreadsRule.declared.view.PortParty.TheVariants as party
 use Rattle.iox_lanes_threads_rule.proofs.Anew.{retimed, anew}
 use Rattle.iox_lanes_threads.specs.Opening.{service_of, publishers_from, subscribers_from, ports_of}
-use Rattle.iox_lanes_threads.proofs.Lists.{none_there, in_either}
+use Rattle.iox_lanes_threads_rule.proofs.Lists.{none_there, in_either}
 
 module _ (m : World) where
   publisher_back : (lanes : List PublisherLaneState) (place i : ℕ) (p : Port)

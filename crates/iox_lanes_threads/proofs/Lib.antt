@@ -6,3 +6,4 @@ pub mod Giving
 pub mod Seating
 pub mod Leaving
 pub mod BackTogether
+pub mod Owning

@@ -1,21 +1,5 @@
--- Lists that are read by `get_elem?` and by `slice_get`.
-use Rattle.std.proofs.Common.{ℕ, zero, suc, ◌≡◌, ◌+◌, ◌⊎◌, List, [], ◌∷◌, ◌++◌, map, length, slice_get, Some, refl, sym, ap, inl, inr}
-use Rattle.std.proofs.Common.{arith}
-use mathlib.Core.Option.{some, some-ne-none}
-use lib.ListN.{get_elem?}
-
-pub none_there : {X : Type 0} (x : X) (i : ℕ) → get_elem? [] i ≡ some x → ⊥
-none_there x i e = some-ne-none x (sym e)
-
--- what stands in two lists one behind the other stands in one of them
-pub in_either : {X : Type 0} (xs ys : List X) (n : ℕ) (x : X) → get_elem? (xs ++ ys) n ≡ some x → (get_elem? xs n ≡ some x)
-    ⊎ ((j : ℕ) × (n ≡ length xs + j) × (get_elem? ys j ≡ some x))
-in_either [] ys n x e = inr (n, omega arith, e)
-in_either (y ∷ xs) ys zero x e = inl e
-in_either (y ∷ xs) ys (suc n) x e = elim (in_either xs ys n x e) [
-  | inl here ↦ inl here
-  | inr there ↦ inr (there.0, omega (arith, there.1), there.2)
-]
+-- Lists that are mapped, read by `slice_get`.
+use Rattle.std.proofs.Common.{ℕ, zero, suc, ◌≡◌, List, [], ◌∷◌, map, slice_get, Some, refl, sym, ap}
 
 -- what a mapped list has is the image of what the list has
 pub mapped_is : {X Y : Type 0} (f : X → Y) (xs : List X) (i : ℕ) (y : Y) → slice_get (map f xs) i ≡ Some y → (x : X)

@@ -12,10 +12,11 @@ use Rattle.iox_lanes_machine.specs.LanesParties.declared.call.Move.{Move}
 use Rattle.iox_lanes_machine.specs.LanesParties.declared.call.Party.TheVariants.{Publisher, Subscriber}
 use Rattle.iox_lanes_machine.specs.World.{World}
 use Rattle.iox_lanes_threads_ports.specs.LanesThreadsRule.Acts.{first_port}
+use Rattle.iox_lanes_threads_ports.specs.LanesThreadsRule.Seats.{waits, others_wait, IsWaiting}
 use Rattle.iox_lanes_threads_ports.specs.LanesThreadsRule.declared.view.PortParty.TheVariants as party
 use Rattle.iox_lanes_threads_ports.specs.LanesThreadsRule.declared.view.View.{View}
 use Rattle.iox_lanes_threads_ports.specs.Values.{HasRoom}
-use Rattle.iox_lanes_threads.specs.Opening.{opened, waits, others_wait, publishers_from, subscribers_from, IsWaiting}
+use Rattle.iox_lanes_threads.specs.Opening.{opened, publishers_from, subscribers_from}
 use Rattle.iox_lanes_threads.specs.Ports.{BoardPublisher, BoardSubscriber, opened_publishers, opened_subscribers}
 use Rattle.iox_lanes_threads.specs.Standing.{PublishersStand, SubscribersStand}
 

@@ -43,7 +43,8 @@ use Rattle.iox_lanes_threads_ports.specs.Ports.{SubscriberStands}
 use Rattle.iox_lanes_threads.specs.Opening.{range_of, service_of, opened, publishers_from, subscribers_from, ports_of, Fitting}
 use Rattle.iox_lanes_threads.specs.Standing.{PublishersStand, SubscribersStand}
 use Rattle.iox_lanes_threads.proofs.Backing.{lanes_back}
-use Rattle.iox_lanes_threads.proofs.Lists.{none_there, in_either, mapped_is, mapped_at}
+use Rattle.iox_lanes_threads_rule.proofs.Lists.{none_there, in_either}
+use Rattle.iox_lanes_threads.proofs.Lists.{mapped_is, mapped_at}
 
 -- what lanes promise of themselves
 pub record Sound (m : World) : Type 0 where

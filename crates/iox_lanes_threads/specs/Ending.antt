@@ -1,6 +1,6 @@
 -- Which ports are all those of a board.
 use Rattle.std.specs.Prelude.{ℕ, ◌≡◌, ◌<◌, ◌==◌, ◌&&◌, Bool, true, List, length}
-use Rattle.std.specs.List.{list_any}
+use Rattle.std.specs.List.{All, list_any, list_all}
 use Rattle.iox_lanes_threads.specs.Ports.{BoardPublisher, BoardSubscriber, BoardState}
 
 -- one of the publishers is the board's at a place
@@ -11,9 +11,27 @@ has_publisher board place ports = list_any (λ p. (p.board == board.number) && (
 abbrev pub has_subscriber : BoardState → ℕ → List BoardSubscriber → Bool
 has_subscriber board place ports = list_any (λ p. (p.board == board.number) && (p.place == place)) ports
 
--- as many ports as the board has, with one at each place
+-- the board knows all of the publishers by its number
+abbrev pub knows_publishers : BoardState → List BoardPublisher → Bool
+knows_publishers board ports = list_all (λ p. p.board == board.number) ports
+
+-- and all of the subscribers
+abbrev pub knows_subscribers : BoardState → List BoardSubscriber → Bool
+knows_subscribers board ports = list_all (λ p. p.board == board.number) ports
+
+-- those publishers that the board knows by its number step on its words
+abbrev pub ArePublishersOf : BoardState → List BoardPublisher → Type 0
+ArePublishersOf board ports = All (λ p. p.board ≡ board.number → p.own.table ≡ board.table) ports
+
+-- and those subscribers
+abbrev pub AreSubscribersOf : BoardState → List BoardSubscriber → Type 0
+AreSubscribersOf board ports = All (λ p. p.board ≡ board.number → p.own.table ≡ board.table) ports
+
+-- as many ports as the board has, all of them known to it, with one at each place
 pub record AreAll (board : BoardState) (ps : List BoardPublisher) (ss : List BoardSubscriber) : Type 0 where
   pub publishers_many : length ps ≡ board.publishers
   pub subscribers_many : length ss ≡ board.subscribers
+  pub publishers_known : knows_publishers board ps ≡ true
+  pub subscribers_known : knows_subscribers board ss ≡ true
   pub publishers : (place : ℕ) → place < board.publishers → has_publisher board place ps ≡ true
   pub subscribers : (place : ℕ) → place < board.subscribers → has_subscriber board place ss ≡ true

@@ -7,8 +7,8 @@ use Rattle.iox_lanes_machine.specs.LanesParties.declared.call.Party.{Party}
 use Rattle.iox_lanes_machine.specs.LanesParties.declared.call.Party.TheVariants.{Publisher, Subscriber}
 use Rattle.iox_lanes_machine.specs.World.{World}
 use Rattle.iox_lanes_threads_ports.specs.LanesThreadsRule.Lanes.{line_of, IsBacked}
-use Rattle.iox_lanes_threads_ports.specs.LanesThreadsRule.Rule.{Fits, one}
-use Rattle.iox_lanes_threads_ports.specs.LanesThreadsRule.Acts.{first_port}
+use Rattle.iox_lanes_threads_ports.specs.LanesThreadsRule.Rule.{Fits}
+use Rattle.iox_lanes_threads_ports.specs.LanesThreadsRule.Seats.{waits}
 use Rattle.iox_lanes_threads_ports.specs.LanesThreadsRule.declared.service.Service.{Service}
 use Rattle.iox_lanes_threads_ports.specs.LanesThreadsRule.declared.service.SlotRange.{SlotRange}
 use Rattle.iox_lanes_threads_ports.specs.LanesThreadsRule.declared.view.Port.{Port}
@@ -51,26 +51,9 @@ subscribers_from m place (lane ∷ lanes) = opened m (length m.publishers + plac
 abbrev pub ports_of : World → List Port
 ports_of m = publishers_from m 0 m.publishers ++ subscribers_from m 0 m.subscribers
 
--- so many ports have a seat of their own, and these wait for one
-abbrev pub waits : ℕ → List Port → View
-waits from ports = record { from = from; waiting = ports; ports = [] }
-
 -- at first all wait
 abbrev pub first_view : World → View
 first_view m = waits 0 (ports_of m)
-
--- those behind the first
-abbrev pub behind_first : List Port → List Port
-behind_first [] = []
-behind_first (p ∷ ps) = ps
-
--- the first that waits is given out
-abbrev pub others_wait : View → View
-others_wait v = waits (v.from + 1) (behind_first v.waiting)
-
--- it has a seat of its own
-abbrev pub first_waits : View → View
-first_waits v = one (first_port v.waiting)
 
 -- the words of the lanes and their ports fit, and lanes stand behind them
 abbrev pub Fitting : World → Type 0
@@ -80,7 +63,3 @@ Fitting m = Fits (service_of m) m.table.words (ports_of m) × IsBacked (service_
 pub record WaitsFor (m : World) (table : TableId) (me : Me ℕ View) (from : ℕ) (ports : List Port) : Type 0 where
   pub words : table.words ≡ length m.table.words
   pub me_is : me ≡ (waits from ports, [])
-
--- a seat at which at least one port waits, and which has none
-abbrev pub IsWaiting : Me ℕ View → Type 0
-IsWaiting me = me ≡ (waits me.0.from (first_port me.0.waiting ∷ behind_first me.0.waiting), [])

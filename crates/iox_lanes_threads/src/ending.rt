@@ -2,7 +2,8 @@
 ghost use Rattle.std.specs.Prelude.{◌≡◌, ◌<◌, ◌≤◌, ◌++◌, ℕ, true, false, [], map, length, IfOk, IfErr, vec_capacity};
 ghost use Rattle.std.specs.List.{All};
 ghost use Rattle.iox_lanes_threads_ports.specs.LanesThreadsRule.Gathered.{Agree};
-ghost use Rattle.iox_lanes_threads.specs.Ending.{has_publisher, has_subscriber, AreAll};
+ghost use Rattle.iox_lanes_threads.specs.Ending.{knows_publishers, knows_subscribers, has_publisher, has_subscriber, AreAll};
+ghost use Rattle.iox_lanes_threads.specs.Ending.{ArePublishersOf, AreSubscribersOf};
 
 use crate::errors::EndError;
 use crate::publisher::LanePublisher;
@@ -19,6 +20,20 @@ pub struct EndedThreads {
     pub publishers: Vec<PublisherLane>,
     /// The subscribers likewise.
     pub subscribers: Vec<SubscriberLane>,
+}
+
+// Whether the board knows all of the publishers.
+fn knows_publishers(board: &Board, ports: &[LanePublisher]) -> bool
+    ensures { result ≡ knows_publishers board.now ports.now }
+{
+    ports.iter().all(|port| board.knows(port))
+}
+
+// Whether it knows all of the subscribers.
+fn knows_subscribers(board: &Board, ports: &[LaneSubscriber]) -> bool
+    ensures { result ≡ knows_subscribers board.now ports.now }
+{
+    ports.iter().all(|port| board.knows(port))
 }
 
 // Whether one of the publishers is the board's at a place.
@@ -71,6 +86,9 @@ fn are_all(board: &Board, publishers: &[LanePublisher], subscribers: &[LaneSubsc
     ensures lacks { result ≡ false → AreAll board.now publishers.now subscribers.now → ⊥ }
 {
     if publishers.len() != board.publishers || subscribers.len() != board.subscribers {
+        return false;
+    }
+    if !knows_publishers(board, publishers) || !knows_subscribers(board, subscribers) {
         return false;
     }
     at_each_publisher(board, publishers) && at_each_subscriber(board, subscribers)
@@ -186,16 +204,17 @@ fn gather_subscribers(
     lanes
 }
 
-/// Ends all ports of a board as [`end`] does, where each steps on the board's own words, as those do that were opened on it. Then
-/// what a subscriber has read of a sample that it has still is what its publisher knows of the slot, as long as the ports know
-/// that no write position came to 3 * 2^62.
+/// Ends all ports of a board as [`end`] does, where each port that the board knows by its number steps on the board's own words: so it
+/// is where no two boards have one number, whatever other boards' ports are handed in (`NotAllPorts`). Then what a subscriber has
+/// read of a sample that it has still is what its publisher knows of the slot, as long as the ports know that no write position
+/// came to 3 * 2^62.
 pub fn end_together(
     board: Board,
     publishers: Vec<LanePublisher>,
     subscribers: Vec<LaneSubscriber>,
 ) -> Result<EndedThreads, (EndError, LaneThreads)>
-    requires publishers { All (λ p. p.own.table ≡ board.table) publishers.items }
-    requires subscribers { All (λ s. s.own.table ≡ board.table) subscribers.items }
+    requires publishers { ArePublishersOf board publishers.items }
+    requires subscribers { AreSubscribersOf board subscribers.items }
     ensures ended { IfOk result (λ ended. AreAll board publishers.items subscribers.items
         × (ended.publishers.items ≡ map (λ p. p.own.lane) publishers.items)
         × (ended.subscribers.items ≡ map (λ s. s.own.lane) subscribers.items)) }
@@ -222,7 +241,7 @@ pub fn end_together(
     } = board;
     let publishers = gather_publishers(&words, &mut home, publishers, publisher_room);
     let subscribers = gather_subscribers(&words, &mut home, subscribers, subscriber_room);
-    agree(words.words(), &mut home);
+    agree(words.words(), home);
     Ok(EndedThreads {
         publishers,
         subscribers,

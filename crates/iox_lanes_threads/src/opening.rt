@@ -1,5 +1,6 @@
 //! From lanes to threads.
 ghost use Rattle.std.specs.Prelude.{◌≡◌, IfOk, IfErr, IfSome, IfNone};
+ghost use Rattle.iox_lanes_threads.specs.Ending.{ArePublishersOf, AreSubscribersOf};
 ghost use Rattle.iox_lanes_threads.specs.Opening.{Fitting};
 ghost use Rattle.iox_lanes_threads.specs.Ports.{MayOpen};
 ghost use Rattle.iox_lanes_threads.specs.Threads.{RefusesToOpen, OpenedAs};
@@ -37,6 +38,8 @@ pub fn open_threads(
     lanes: Lanes,
 ) -> Result<LaneThreads, (OpenError, Lanes)>
     ensures opened { IfOk result (λ threads. MayOpen lanes × OpenedAs board lanes threads) }
+    ensures own { IfOk result (λ threads. ArePublishersOf threads.board threads.publishers.items
+        × AreSubscribersOf threads.board threads.subscribers.items) }
     ensures refused { IfErr result (λ refused. RefusesToOpen refused.0 lanes × (refused.1 ≡ lanes)) }
 {
     if let Some(error) = refusal(&lanes) {

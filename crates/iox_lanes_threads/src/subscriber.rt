@@ -4,7 +4,7 @@ ghost use Rattle.iox_lanes_machine.specs.LanesParties.Values.{AreValues};
 ghost use Rattle.iox_lanes_machine.specs.LanesParties.Parties.{subscriber_begun};
 ghost use Rattle.iox_lanes_threads_ports.specs.Courses.{SubscriberEnds};
 ghost use Rattle.iox_lanes_threads_ports.specs.LanesThreadsRule.Acts.{single};
-ghost use Rattle.iox_lanes_threads_ports.specs.Known.{KnowsRead, KnowsGivenBack, KeepsGivenBack};
+ghost use Rattle.iox_lanes_threads_ports.specs.Known.{KnowsRead, ListsRead, KnowsGivenBack, KeepsGivenBack};
 ghost use Rattle.iox_lanes_threads_ports.specs.Values.{Releases, Reads};
 ghost use Rattle.iox_lanes_threads.specs.Ports.{StaysSubscriber};
 
@@ -78,6 +78,7 @@ impl LaneSubscriber {
         ensures same { StaysSubscriber self.old self.new }
         ensures call { Reads self.old.own sample self.new.own result }
         ensures words { result ≡ true → KnowsRead self.new.own.port self.old.own.lane.port.extent sample self.new.own.words }
+        ensures listed { result ≡ true → ListsRead self.new.own.port self.old.own.lane.port.extent sample }
         ensures whole { result ≡ true → length self.new.own.words
             ≡ 3 + self.old.own.lane.port.extent.user_header_words + self.old.own.lane.port.extent.payload_words }
     {

@@ -1,11 +1,11 @@
 //! The table of words that the ports of a service share, and the seats that they step with.
 ghost use Rattle.std.specs.Prelude.{◌≡◌, ◌<◌, [], IfOk};
 ghost use Rattle.iox_lanes_threads_ports.specs.LanesThreadsRule.Acts.{first_port, single};
-ghost use Rattle.iox_lanes_threads.specs.Opening.{ports_of, others_wait, Fitting, IsWaiting, WaitsFor};
+ghost use Rattle.iox_lanes_threads_ports.specs.LanesThreadsRule.Seats.{others_wait, IsWaiting};
+ghost use Rattle.iox_lanes_threads.specs.Opening.{ports_of, Fitting, WaitsFor};
 
-use atomic_table::{Split, Table};
 use iox_lanes_machine::Lanes;
-use iox_lanes_threads_rule::{Opening, View, WordRule, WordSeat, Words};
+use iox_lanes_threads_rule::{Opening, WordSeat, Words, give_out};
 use std::alloc::{AllocError, Global};
 use std::marker::Model;
 use std::snapshot::Snapshot;
@@ -23,13 +23,10 @@ impl Opening for OpenedFrom {
     ghost first = { λ from. first_view from.lanes.value };
 }
 
-/// The words of a service, with their memory.
-pub type LaneTable = Table<u8, View, OpenedFrom, WordRule, Global>;
-
 /// A share of the words: the table lives as long as one of them does.
 #[derive(Drop)]
 pub(crate) struct Share {
-    table: Arc<LaneTable, Global>,
+    table: Arc<Words<OpenedFrom>, Global>,
 }
 
 impl Model for Share {
@@ -38,13 +35,13 @@ impl Model for Share {
 
     ghost Value = { TableId };
 
-    ghost view = { λ s. (arc_value s.table).shared.table_id };
+    ghost view = { λ s. (arc_value s.table).table_id };
 }
 
 impl Share {
     /// The first share of a table. It fails only where an allocation fails.
-    pub(crate) fn new(alloc: Global, table: LaneTable) -> Result<Share, AllocError>
-        ensures { IfOk result (λ share. share ≡ table.shared.table_id) }
+    pub(crate) fn new(alloc: Global, table: Words<OpenedFrom>) -> Result<Share, AllocError>
+        ensures { IfOk result (λ share. share ≡ table.table_id) }
     {
         match Arc::new(alloc, table) {
             Ok(table) => Ok(Share { table }),
@@ -65,31 +62,23 @@ impl Share {
     pub(crate) fn words(&self) -> &Words<OpenedFrom>
         ensures { result.now.table_id ≡ self.now }
     {
-        &self.table.shared
+        &self.table
     }
 }
 
-// The first port that waits gets a seat of its own.
-struct GiveOut;
-
-impl Split<View> for GiveOut {
-    ghost use Rattle.iox_lanes_threads.specs.Opening.{others_wait, first_waits};
-
-    ghost left = { others_wait };
-
-    ghost right = { first_waits };
-}
-
 /// A table that starts from the words of lanes, with a seat at which all their ports wait. It fails only where an allocation fails.
-pub(crate) fn open_table(alloc: Global, lanes: &Lanes) -> Result<(LaneTable, WordSeat), AllocError>
+pub(crate) fn open_table(
+    alloc: Global,
+    lanes: &Lanes,
+) -> Result<(Words<OpenedFrom>, WordSeat), AllocError>
     requires { Fitting lanes.now }
-    ensures { IfOk result (λ made. (made.1.table_id ≡ made.0.shared.table_id)
-        × WaitsFor lanes.now made.0.shared.table_id made.1.me 0 (ports_of lanes.now)) }
+    ensures { IfOk result (λ made. (made.1.table_id ≡ made.0.table_id)
+        × WaitsFor lanes.now made.0.table_id made.1.me 0 (ports_of lanes.now)) }
 {
     let from = OpenedFrom {
         lanes: Snapshot::of(lanes),
     };
-    Table::of_words(alloc, lanes.table().words(), &from)
+    Words::open(alloc, lanes.table().words(), &from)
 }
 
 /// The first port that waits, with a seat of its own.
@@ -100,5 +89,5 @@ pub(crate) fn next_seat(share: &Share, home: &mut WordSeat) -> WordSeat
     ensures seat { result.me ≡ single (first_port home.old.me.0.waiting) }
     ensures rest { home.new.me ≡ (others_wait home.old.me.0, []) }
 {
-    share.words().split_seat::<GiveOut>(home)
+    give_out(share.words(), home)
 }

@@ -18,3 +18,4 @@ pub mod KnownReleases
 pub mod KnownSends
 pub mod KnownPushes
 pub mod Counts
+pub mod Listing

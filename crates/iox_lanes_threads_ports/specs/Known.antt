@@ -38,6 +38,11 @@ KnowsRead p extent slot words =
     (k : ℕ) → k < length words → k < 3 + extent.user_header_words + extent.payload_words
     → knows p (Slot slot (word_at extent k)) ≡ slice_index words k
 
+-- the port's view lists all words of header, user header and payload of the slot as loaded
+abbrev pub ListsRead : Port → SlotExtent → ℕ → Type 0
+ListsRead p extent slot = (k : ℕ) → k < 3 + extent.user_header_words + extent.payload_words
+    → (place : ℕ) × (slice_get p.seen place ≡ Some (Slot slot (word_at extent k)))
+
 -- Something was put into a ring that the port writes: it stands in the cell of the write position that the port knew, which is
 -- one higher now; positions stop at the largest number.
 abbrev pub KnowsPut : Port → Port → ℕ → ConnectionRing → ℕ → ℕ → Type 0

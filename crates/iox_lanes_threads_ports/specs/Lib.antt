@@ -11,3 +11,4 @@ pub mod Pace
 pub mod Paces
 pub mod Counts
 pub use Rattle.iox_lanes_threads_rule.specs as LanesThreadsRule
+pub mod ReadLaw

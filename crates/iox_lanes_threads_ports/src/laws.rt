@@ -1,6 +1,7 @@
 //! Each stage of a call knows what its next step needs: proved of the definitions that the contracts of ports name.
 ghost use Rattle.iox_lanes_threads_ports.specs.Counts.{PublishersCount, SubscribersCount};
 ghost use Rattle.iox_lanes_threads_ports.specs.Ports.{PublishersGoOn, SubscribersGoOn};
+ghost use Rattle.iox_lanes_threads_ports.specs.ReadLaw.{ReadsStand, ListedWordsStay};
 
 /// A publisher that stands where it knows what its stage needs may make its next access, and stands so after the answer.
 pub fn publishers_go_on()
@@ -21,4 +22,15 @@ pub fn publishers_count()
 /// So does a subscriber's.
 pub fn subscribers_count()
     ensures { SubscribersCount }
+{}
+
+/// What a read lent of a sample is what the words of its slot hold, and what the publisher knows of them, as long as the subscriber's
+/// view lists them as loaded and knows them to be these, as it does right behind the read, and no write position came to 3 * 2^62.
+pub fn reads_stand()
+    ensures { ReadsStand }
+{}
+
+/// An access leaves the words that a port's view lists as loaded, as long as the port has the sample behind it.
+pub fn listed_words_stay()
+    ensures { ListedWordsStay }
 {}

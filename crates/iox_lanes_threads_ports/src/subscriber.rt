@@ -4,7 +4,7 @@ ghost use Rattle.iox_lanes_machine.specs.LanesBase.Subscribing.{subscriber_is_id
 ghost use Rattle.iox_lanes_machine.specs.LanesParties.Parties.{subscriber_begun, words_read};
 ghost use Rattle.iox_lanes_threads_rule.specs.Acts.{single, port_of};
 ghost use Rattle.iox_lanes_threads_ports.specs.Courses.{SubscriberEnds};
-ghost use Rattle.iox_lanes_threads_ports.specs.Known.{KnowsRead, KnowsGivenBack, KeepsGivenBack};
+ghost use Rattle.iox_lanes_threads_ports.specs.Known.{KnowsRead, ListsRead, KnowsGivenBack, KeepsGivenBack};
 ghost use Rattle.iox_lanes_threads_ports.specs.Ports.{SubscriberStands};
 ghost use Rattle.iox_lanes_threads_ports.specs.Values.{IsSeated, IsBetween, SameSubscriber, received_of, released_of, settled, Releases};
 ghost use Rattle.iox_lanes_threads_ports.specs.Values.{Reads};
@@ -106,6 +106,7 @@ impl ThreadedSubscriber {
         ensures same { SameSubscriber self.old self.new }
         ensures call { Reads self.old sample self.new result }
         ensures words { result ≡ true → KnowsRead self.new.port self.old.lane.port.extent sample self.new.words }
+        ensures listed { result ≡ true → ListsRead self.new.port self.old.lane.port.extent sample }
         ensures whole { result ≡ true → length self.new.words
             ≡ 3 + self.old.lane.port.extent.user_header_words + self.old.lane.port.extent.payload_words }
     {

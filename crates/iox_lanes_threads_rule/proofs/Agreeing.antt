@@ -1,9 +1,9 @@
 -- Ports that come back to one seat keep the rule of the words, and agree.
-use Rattle.std.proofs.Common.{ℕ, zero, suc, ◌≡◌, ◌+◌, ◌==◌, ◌⊎◌, Bool, if◌then◌else◌, List, [], ◌∷◌, ◌++◌, set}
+use Rattle.std.proofs.Common.{ℕ, ◌≡◌, ◌+◌, ◌==◌, Bool, if◌then◌else◌, List, set}
 use Rattle.std.proofs.Common.{refl, sym}
 use Rattle.std.proofs.Common.{◌∙◌, ap, subst, inl, inr, arith}
 use Rattle.std.proofs.lemmas.Bool.Decides.{eqb_tells}
-use mathlib.Core.Option.{some, none, some-ne-none}
+use mathlib.Core.Option.{some, none}
 use lib.ListN.{get_elem?}
 use Rattle.atomic_table.specs.Table.{State, Me, step, Allows, Joins}
 use Rattle.atomic_table.specs.Table.Act.{keeps}
@@ -18,18 +18,9 @@ use Rattle.iox_lanes_threads_rule.specs.Service.{Stores}
 use Rattle.iox_lanes_threads_rule.specs.declared.service.Service.{Service}
 use Rattle.iox_lanes_threads_rule.specs.declared.view.Port.{Port}
 use Rattle.iox_lanes_threads_rule.specs.declared.view.View.{View}
+use Rattle.iox_lanes_threads_rule.proofs.Lists.{none_there, in_either}
 use Rattle.iox_lanes_threads_rule.proofs.PortsBehind.{set_held}
 use Rattle.iox_lanes_threads_rule.proofs.Seen.{seen_words_stand}
-
-none_there : (p : Port) (i : ℕ) → get_elem? [] i ≡ some p → ⊥
-none_there p i e = some-ne-none p (sym e)
-
--- what stands in two lists one behind the other stands in one of them
-in_either : (xs ys : List Port) (n : ℕ) (x : Port) → get_elem? (xs ++ ys) n ≡ some x → (get_elem? xs n ≡ some x)
-    ⊎ ((j : ℕ) × (get_elem? ys j ≡ some x))
-in_either [] ys n x e = inr (n, e)
-in_either (y ∷ xs) ys zero x e = inl e
-in_either (y ∷ xs) ys (suc n) x e = in_either xs ys n x e
 
 module _ (id other : ℕ) (v w : View) (state : State ℕ View) (ruled : Ruled FitSome state) (mine : get_elem? state.views id ≡ some v)
     (apart : other ≡ id → ⊥) (there : get_elem? (set state.views id (both_views v w)) other ≡ some w) where
@@ -78,7 +69,7 @@ module _ (id other : ℕ) (v w : View) (state : State ℕ View) (ruled : Ruled F
             let sits = ruled.seated id v i p mine own in
             (owner_kept p.number (λ e. apart (sym e ∙ sits.0)) ∙ sits.0 ∙ sym here.0, sits.1)
         | inr theirs ↦
-            let sits = ruled.seated other w theirs.0 p was theirs.1 in
+            let sits = ruled.seated other w theirs.0 p was theirs.2 in
             (owner_moved p.number sits.0 ∙ sym here.0, sits.1)
       ]
       | inr aside ↦ stays seat p old.0 (ruled.seated seat u i p aside.1 has)

@@ -14,3 +14,5 @@ pub mod Counted
 pub mod PortsBehind
 pub mod Allowing
 pub mod Agreeing
+pub mod Lists
+pub mod GivingOut

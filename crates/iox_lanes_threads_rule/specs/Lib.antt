@@ -6,3 +6,4 @@ pub mod Lanes
 pub mod Acts
 pub mod Slots
 pub mod Gathered
+pub mod Seats

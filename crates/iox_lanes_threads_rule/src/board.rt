@@ -1,14 +1,16 @@
 //! The words that threads share, and one step on one of them.
-ghost use Rattle.std.specs.Prelude.{◌≡◌};
+ghost use Rattle.std.specs.Prelude.{◌≡◌, [], length, IfOk};
+ghost use Rattle.atomic_table.specs.Table.{opening};
 ghost use Rattle.iox_lanes_parties.specs.LanesBase.Numbers.{words_of, IsSmall};
 ghost use Rattle.iox_lanes_parties.specs.LanesBase.declared.words.access.SharedAccess.TheVariants as access;
-ghost use Rattle.iox_lanes_threads_rule.specs.Acts.{single, stepped, MayAct, ToldBy};
+ghost use Rattle.iox_lanes_threads_rule.specs.Acts.{single, stepped, Holds, MayAct, ToldBy};
 ghost use Rattle.iox_lanes_threads_rule.specs.Lanes.{MakesNext};
 
 use crate::view::{Port, PortParty, View};
-use atomic_table::{Play, Seat, Shared, TableRule};
+use atomic_table::{Play, Seat, Shared, Table, TableRule};
 use iox_lanes_base::words::{SharedAccess, SharedWord, TableSizes};
-use std::marker::{Brand, PhantomData};
+use std::alloc::{AllocError, Global};
+use std::marker::{Brand, Model, PhantomData};
 
 /// What the words start from.
 pub trait Opening {
@@ -29,8 +31,40 @@ impl<K: Opening> TableRule<u8, View, K> for WordRule {
     ghost first = { K.first };
 }
 
-/// The words of a service, as threads share them.
-pub type Words<K> = Shared<u8, View, K, WordRule>;
+/// The words of a service, as threads share them, with their memory. Ports step on them by `act`, `load`, `store` and `exchange`
+/// alone, which count each access, and by no step of their own. That this file and `gathering` make no other is read in them.
+#[derive(Drop)]
+pub struct Words<K: Opening> {
+    table: Table<u8, View, K, WordRule, Global>,
+}
+
+impl<K: Opening> Model for Words<K> {
+    ghost use Rattle.iox_lanes_threads_rule.specs.Seats.{WordsState};
+
+    ghost Value = { WordsState };
+
+    ghost view = { λ w. record { table_id = w.table.shared.table_id } };
+}
+
+impl<K: Opening> Words<K> {
+    /// Words that start so, with a seat that has the first view. It fails only where an allocation fails.
+    pub fn open(alloc: Global, words: &[u64], from: &K) -> Result<(Words<K>, WordSeat), AllocError>
+        requires { Holds (opening words.now [] (K.first from.now)) }
+        ensures { IfOk result (λ made. (made.0.table_id.words ≡ length words.now) × (made.1.table_id ≡ made.0.table_id)
+            × (made.1.me ≡ (K.first from.now, []))) }
+    {
+        let (table, seat) = Table::of_words(alloc, words, from)?;
+        Ok((Words { table }, seat))
+    }
+
+    // Their steps.
+    #[inline(always)]
+    pub(crate) fn shared(&self) -> &Shared<u8, View, K, WordRule>
+        ensures { result.now.table_id ≡ self.now.table_id }
+    {
+        &self.table.shared
+    }
+}
 
 /// A token with which a port steps on the words.
 pub type WordSeat = Seat<u8, View>;
@@ -102,7 +136,9 @@ pub fn load<K: Opening, M: Doing>(
     ensures port { seat.new.me ≡ single (stepped M.port (access.Load word) result M.after) }
     ensures told { ToldBy M.port (access.Load word) result }
 {
-    words.load::<Loads<M>>(seat, sizes.number(word) as usize)
+    words
+        .shared()
+        .load::<Loads<M>>(seat, sizes.number(word) as usize)
 }
 
 /// Stores into a word that the port may store, and stores next.
@@ -120,7 +156,9 @@ pub fn store<K: Opening, M: Doing>(
     ensures table { (seat.new.table_id ≡ seat.old.table_id) × (seat.new.id ≡ seat.old.id) }
     ensures port { seat.new.me ≡ single (stepped M.port (access.Store word new) 0 M.after) }
 {
-    words.store::<Stores<M>>(seat, sizes.number(word) as usize, new);
+    words
+        .shared()
+        .store::<Stores<M>>(seat, sizes.number(word) as usize, new);
 }
 
 /// Makes an exchange that the port may make, and makes next, and gives what the word held.
@@ -140,7 +178,9 @@ pub fn exchange<K: Opening, M: Doing>(
     ensures port { seat.new.me ≡ single (stepped M.port (access.Exchange word old new) result M.after) }
     ensures told { ToldBy M.port (access.Exchange word old new) result }
 {
-    words.compare_exchange::<Exchanges<M>>(seat, sizes.number(word) as usize, old, new)
+    words
+        .shared()
+        .compare_exchange::<Exchanges<M>>(seat, sizes.number(word) as usize, old, new)
 }
 
 /// Makes the access of a port that may make it, and makes it next, and gives its answer; stores and local steps are answered 0.

@@ -1,10 +1,23 @@
-//! Ports that come back to one seat, and what they have in common then.
+//! Ports that get seats of their own, those that come back to one seat, and what they have in common then.
 ghost use Rattle.std.specs.Prelude.{◌≡◌, ◌<◌, []};
+ghost use Rattle.iox_lanes_threads_rule.specs.Acts.{first_port, single};
 ghost use Rattle.iox_lanes_threads_rule.specs.Gathered.{both_views, Agree};
+ghost use Rattle.iox_lanes_threads_rule.specs.Seats.{others_wait, IsWaiting};
 
 use crate::board::{Opening, WordSeat, Words};
 use crate::view::View;
-use atomic_table::{Join, Play};
+use atomic_table::{Join, Play, Split};
+
+// The first port that waits gets a seat of its own.
+struct GiveOut;
+
+impl Split<View> for GiveOut {
+    ghost use Rattle.iox_lanes_threads_rule.specs.Seats.{others_wait, first_seated};
+
+    ghost left = { others_wait };
+
+    ghost right = { first_seated };
+}
 
 // Two seats become one.
 struct Gathers;
@@ -26,6 +39,17 @@ impl Play<u8, View> for Agrees {
     ghost then = { agreed };
 }
 
+/// The first port that waits, with a seat of its own.
+pub fn give_out<K: Opening>(words: &Words<K>, home: &mut WordSeat) -> WordSeat
+    requires table { (home.old.table_id ≡ words.now.table_id) × (0 < words.now.table_id.words) }
+    requires waits { IsWaiting home.old.me }
+    ensures table { (home.new.table_id ≡ home.old.table_id) × (result.table_id ≡ home.old.table_id) }
+    ensures seat { result.me ≡ single (first_port home.old.me.0.waiting) }
+    ensures rest { home.new.me ≡ (others_wait home.old.me.0, []) }
+{
+    words.shared().split_seat::<GiveOut>(home)
+}
+
 /// The ports of another seat come to this one, behind those that it has.
 pub fn gather<K: Opening>(words: &Words<K>, seat: &mut WordSeat, other: WordSeat)
     requires table { (seat.old.table_id ≡ words.now.table_id) × (other.table_id ≡ words.now.table_id) × (0 < words.now.table_id.words) }
@@ -33,15 +57,13 @@ pub fn gather<K: Opening>(words: &Words<K>, seat: &mut WordSeat, other: WordSeat
     ensures table { seat.new.table_id ≡ seat.old.table_id }
     ensures ports { seat.new.me ≡ (both_views seat.old.me.0 other.me.0, seat.old.me.1) }
 {
-    words.join_seat::<Gathers>(seat, other);
+    words.shared().join_seat::<Gathers>(seat, other);
 }
 
-/// Loads a word, which tells what the ports of the seat have in common.
-pub fn agree<K: Opening>(words: &Words<K>, seat: &mut WordSeat)
-    requires table { (seat.old.table_id ≡ words.now.table_id) × (0 < words.now.table_id.words) }
-    ensures table { seat.new.table_id ≡ seat.old.table_id }
-    ensures same { seat.new.me ≡ seat.old.me }
-    ensures agree { Agree seat.old.me.0.ports }
+/// Loads a word for the last time that the seat steps, which tells what its ports have in common.
+pub fn agree<K: Opening>(words: &Words<K>, mut seat: WordSeat)
+    requires table { (seat.table_id ≡ words.now.table_id) × (0 < words.now.table_id.words) }
+    ensures agree { Agree seat.me.0.ports }
 {
-    words.load::<Agrees>(seat, 0);
+    words.shared().load::<Agrees>(&mut seat, 0);
 }

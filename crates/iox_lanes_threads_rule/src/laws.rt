@@ -35,8 +35,8 @@ pub fn slot_stores_are_of_loans()
     ensures { SlotStoresAreOfLoans }
 {}
 
-/// What a subscriber's view lists as loaded (`seen`) of a sample that it has is what the words of its slot hold and what its publisher's view has, as long
-/// as no write position comes to 3 * 2^62. So two reads of one sample find the same.
+/// What a subscriber's view lists as loaded (`seen`) of a sample that it has is what the words of its slot hold and what its
+/// publisher's view has, as long as no write position comes to 3 * 2^62. So a load of a listed word finds what the view knows of it.
 pub fn seen_words_stand()
     ensures { SeenWordsStand }
 {}

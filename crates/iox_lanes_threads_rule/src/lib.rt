@@ -4,7 +4,7 @@
 //! - [`view`]: what a port knows.
 //! - [`laws`]: each step that a port may make keeps the rule.
 //! - [`board`]: one step on one of the words.
-//! - [`gathering`]: ports that come back to one seat, and what they have in common.
+//! - [`gathering`]: ports that get seats of their own, or come back to one, and what they have in common.
 //!
 //! A first call: one access of a port, by its own seat of the table that all threads share. `iox_lanes_threads_ports` makes it.
 //!
@@ -20,6 +20,6 @@ pub mod service;
 pub mod view;
 
 pub use board::{Doing, Opening, WordRule, WordSeat, Words, act, exchange, load, store};
-pub use gathering::{agree, gather};
+pub use gathering::{agree, gather, give_out};
 pub use service::{Line, Service, SlotRange};
 pub use view::{Port, PortParty, View};

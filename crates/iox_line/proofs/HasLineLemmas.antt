@@ -14,7 +14,7 @@ use Rattle.iox_domain_values.specs.declared.backpressure.BackpressureAction.{Bac
 use Rattle.iox_domain_values.specs.declared.backpressure.BackpressureAction.TheVariants as handler
 use Rattle.iox_domain_values.specs.declared.degradation.DegradationAction.{DegradationAction}
 use Rattle.iox_domain_values.specs.declared.degradation.DegradationAction.TheVariants as degradation
-use Rattle.iox_line.specs.Words.{AreWords, has_no_space, AllOf}
+use Rattle.iox_line.specs.Words.{has_no_space}
 use Rattle.iox_line.specs.Numbers.{tag, IsNumber}
 use Rattle.iox_line.specs.Values.{strategy_word, allocation_word, handler_word, degradation_word}
 use Rattle.iox_line.proofs.NumberLemmas.{decimal_no_space}
@@ -26,10 +26,10 @@ use Rattle.iox_line.proofs.SpellingLemmas.{pairs_are_words, requirement_words, r
 use Rattle.iox_line.proofs.WrittenLemmas.{foreign_words, foreign_so, foreign_are_words, list_words, lists_so, lists_are_words}
 use Rattle.iox_command.specs.Patterns.{pattern_of}
 use Rattle.iox_line.proofs.VisibleLemmas.{visible_no_space}
-use Rattle.iox_line.specs.PortOptions.{publisher_words}
-use Rattle.iox_line.specs.PortOptions.{subscriber_words}
-use Rattle.iox_line.specs.Spelling.{port_word, IsPort, Fits, Writes, Spells}
-use Rattle.iox_line.proofs.Shorthands.{publisher_keys, publisher_values, subscriber_keys, subscriber_values}
+use Rattle.iox_line.specs.Spelling.{Fits, Writes, Spells}
+use Rattle.iox_line.proofs.Shorthands.{AllOf, AreWords, IsPort, port_word, publisher_keys, publisher_values, publisher_words}
+use Rattle.iox_line.proofs.Shorthands.{subscriber_keys, subscriber_words}
+use Rattle.iox_line.proofs.Shorthands.{subscriber_values}
 use Rattle.std.specs.Prelude.{IfSome}
 use Rattle.iox_line.proofs.Shorthands.{spaced, PublisherFits}
 
@@ -109,8 +109,10 @@ writes_so (command.GiveUp publisher) f = refl
 writes_so (command.Receive subscriber) f = refl
 writes_so (command.Read sample) f = refl
 writes_so (command.Release sample) f = refl
-writes_so (command.Update port) f = refl
-writes_so (command.Leave port) f = refl
+writes_so (command.Update (port.Publisher publisher)) f = refl
+writes_so (command.Update (port.Subscriber subscriber)) f = refl
+writes_so (command.Leave (port.Publisher publisher)) f = refl
+writes_so (command.Leave (port.Subscriber subscriber)) f = refl
 writes_so (command.Has subscriber) f = refl
 
 values_are_words : (ns : List ℕ) → AllOf IsNumber ns → AreWords (map decimal ns)

@@ -1,12 +1,12 @@
 -- A line is read as the command that it spells.
 use Rattle.std.proofs.Common.{◌≡◌, ℕ, ◌+◌, ◌≤◌, ◌==◌, Bool, true, false, List, [], ◌∷◌, None, Some, cond, sym, ap, ◌∙◌, length, arith}
 use Rattle.iox_command.specs.declared.command.Command.{Command}
-use Rattle.iox_line.specs.Words.{words_of, onto_first, AreWords}
+use Rattle.iox_line.specs.Words.{words_of, onto_first}
 use Rattle.iox_line.proofs.SpacedLemmas.{spaced-words_of, words_of-spaced, are_words}
 use Rattle.iox_line.specs.Reading.{of_words}
 use Rattle.iox_line.specs.Spelling.{Spells}
 use Rattle.iox_line.proofs.ReadingLemmas.{words_sound, words_complete}
-use Rattle.iox_line.proofs.Shorthands.{spaced}
+use Rattle.iox_line.proofs.Shorthands.{AreWords, spaced}
 
 onto_length : (b : ℕ) (ws : List (List ℕ)) → length (onto_first b ws) ≤ 1 + length ws
 onto_length b [] = omega arith

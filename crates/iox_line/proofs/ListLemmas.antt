@@ -7,6 +7,7 @@ use Rattle.iox_command.specs.DescribeBase.declared.pattern.MessagingPattern.{Mes
 use Rattle.iox_command.specs.declared.step.ForeignStep.{ForeignStep}
 use Rattle.iox_command.specs.declared.step.ForeignStep.TheVariants as step
 use Rattle.iox_command.specs.declared.step.StepBefore.{StepBefore}
+use Rattle.iox_line.proofs.Shorthands.{beginning}
 use Rattle.iox_line.specs.Numbers.{IsNumber, number_of}
 use Rattle.iox_line.specs.Options.{after}
 use Rattle.iox_line.specs.Memory.{prepend}
@@ -14,7 +15,7 @@ use Rattle.iox_line.proofs.MarkLemmas.{starts}
 use Rattle.iox_line.proofs.NumberLemmas.{number_some, number_own}
 use Rattle.iox_line.proofs.ChoiceLemmas.{map_some}
 use Rattle.iox_line.proofs.AfterLemmas.{after_some}
-use Rattle.iox_line.specs.Steps.{WritesStep, StepFits, beginning, WritesLists, ListsFit}
+use Rattle.iox_line.specs.Steps.{WritesStep, StepFits, WritesLists, ListsFit}
 use Rattle.iox_line.specs.StepsReading.{step_of, step_before, above, next_access, listed_step, and_then, bar_or_step, lists_from, lists_of}
 use Rattle.iox_line.proofs.StepLemmas.{prepend_some, step_some, step_own}
 

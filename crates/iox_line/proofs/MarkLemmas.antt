@@ -1,13 +1,13 @@
 -- The words before the first that begins with a mark, and the others.
 use Rattle.std.proofs.Common.{◌≡◌, ℕ, suc, ◌+◌, ◌<◌, ◌==◌, Bool, true, false, not, ◌&&◌, List, [], ◌∷◌, ◌++◌, Option, None, Some, refl}
 use Rattle.std.proofs.Common.{cond, sym, ap, ◌∙◌, arith, length, take, drop, eqb-true, subst}
-use Rattle.iox_line.specs.Words.{AllOf, lacks, pieces_of, onto_first, begins, front, back, marked_from}
+use Rattle.iox_line.specs.Words.{lacks, pieces_of, onto_first, begins, front, back, marked_from}
 use Rattle.std.specs.List.{list_all}
 use Rattle.iox_line.specs.Options.{AnyOrder, option_words}
 use Rattle.iox_line.proofs.AfterLemmas.{and_left, and_right}
 use Rattle.iox_line.proofs.WordLemmas.{other}
 use Rattle.iox_line.proofs.SpacedLemmas.{pieces_some, pieces_lack}
-use Rattle.iox_line.proofs.Shorthands.{AllLack}
+use Rattle.iox_line.proofs.Shorthands.{AllLack, AllOf}
 
 -- the first word, and of the others those before the mark
 abbrev pub first_and_front : ℕ → List (List ℕ) → List (List ℕ)

@@ -14,15 +14,15 @@ use Rattle.iox_command.specs.declared.service.RequestResponseOptions.{RequestRes
 use Rattle.iox_command.specs.declared.service.ServiceOptions.{ServiceOptions}
 use Rattle.iox_command.specs.declared.service.ServiceOptions.TheVariants as options
 use Rattle.iox_command.specs.Patterns.{pattern_of}
-use Rattle.iox_line.specs.Words.{AreWords, lacks, has_no_space}
+use Rattle.iox_line.specs.Words.{lacks, has_no_space}
 use Rattle.iox_line.specs.Numbers.{IsNumber, is_digit, tag}
 use Rattle.iox_line.specs.Options.{AnyOrder, option_words}
 use Rattle.iox_line.proofs.NumberLemmas.{decimal_lacks, decimal_no_space}
 use Rattle.iox_line.proofs.AfterLemmas.{and_left, and_right}
 use Rattle.iox_line.proofs.VisibleLemmas.{visible_no_space}
-use Rattle.iox_line.specs.Services.{pattern_word, IsName, switch_word, number_or_off_word, IsNumberOrOff}
+use Rattle.iox_line.specs.Services.{pattern_word, switch_word, number_or_off_word, IsNumberOrOff}
 use Rattle.iox_line.specs.Services.{service_words, ServiceFits, Names}
-use Rattle.iox_line.proofs.Shorthands.{PublishSubscribeFits, EventFits, RequestResponseFits, publish_subscribe_keys}
+use Rattle.iox_line.proofs.Shorthands.{AreWords, EventFits, IsName, PublishSubscribeFits, RequestResponseFits, publish_subscribe_keys}
 use Rattle.iox_line.proofs.Shorthands.{publish_subscribe_values, event_keys, event_values, request_response_keys}
 use Rattle.iox_line.proofs.Shorthands.{request_response_values}
 use Rattle.std.specs.Prelude.{IfSome}

@@ -20,10 +20,9 @@ use Rattle.iox_line.specs.Values.{degradations, strategy_of, allocation_of, hand
 use Rattle.iox_line.proofs.NumberLemmas.{number_some, number_own}
 use Rattle.iox_line.proofs.ChoiceLemmas.{choice_some, named_some, named_own, IfThere}
 use Rattle.iox_line.proofs.OptionLemmas.{options_sound, options_complete}
-use Rattle.iox_line.specs.PortOptions.{publisher_words}
-use Rattle.iox_line.specs.PortOptions.{subscriber_words}
 use Rattle.iox_line.specs.Reading.{bind, publisher_of, subscriber_of, publisher_options, subscriber_options}
-use Rattle.iox_line.proofs.Shorthands.{publisher_keys, publisher_values, subscriber_keys, subscriber_values}
+use Rattle.iox_line.proofs.Shorthands.{publisher_keys, publisher_values, publisher_words, subscriber_keys, subscriber_values}
+use Rattle.iox_line.proofs.Shorthands.{subscriber_words}
 use Rattle.std.specs.Prelude.{IfSome}
 use Rattle.iox_line.proofs.Shorthands.{PublisherFits}
 

@@ -11,18 +11,18 @@ use Rattle.iox_command.specs.declared.step.ForeignStep.{ForeignStep}
 use Rattle.iox_command.specs.declared.step.StepBefore.{StepBefore}
 use Rattle.iox_command.specs.Patterns.{pattern_of}
 use Rattle.iox_line.specs.declared.services.service.NamedService.{NamedService}
-use Rattle.iox_line.specs.Services.{pattern_word, IsName, ServiceFits, Names}
+use Rattle.iox_line.specs.Services.{pattern_word, ServiceFits, Names}
 use Rattle.iox_line.specs.ServicesReading.{pattern_named, name_of, named_service, service_of}
 use Rattle.iox_line.proofs.ServiceLemmas.{pattern_some, pattern_own, name_some, name_own, service_some, service_own}
-use Rattle.iox_line.specs.Attributes.{SpecifierFits, VerifierFits, Requires}
+use Rattle.iox_line.specs.Attributes.{Requires}
 use Rattle.iox_line.specs.AttributesReading.{specifier_of, verifier_of}
 use Rattle.iox_line.proofs.SpellingLemmas.{specifier_some, specifier_own, verifier_some, verifier_own, AreMarked, defined_marked}
 use Rattle.iox_line.proofs.SpellingLemmas.{required_marked, marked_unbarred, marked_starts}
-use Rattle.iox_line.specs.Steps.{StepFits, WritesSteps, WritesLists, ListsFit}
+use Rattle.iox_line.specs.Steps.{StepFits, WritesLists, ListsFit}
 use Rattle.iox_line.specs.StepsReading.{steps_of, lists_of}
 use Rattle.iox_line.proofs.StepLemmas.{steps_some, steps_own}
 use Rattle.iox_line.proofs.ListLemmas.{lists_some, lists_own, lists_start}
-use Rattle.iox_line.specs.Words.{AllOf, no_words, AreWritten}
+use Rattle.iox_line.specs.Words.{no_words, AreWritten}
 use Rattle.iox_line.specs.Numbers.{IsNumber, tag, number_of, tagged}
 use Rattle.iox_line.specs.Options.{or_else}
 use Rattle.iox_line.proofs.NumberLemmas.{number_some, number_own, tagged_some, tagged_own}
@@ -36,8 +36,8 @@ use Rattle.iox_line.specs.Reading.{bind, both, three, only, with_number, with_tw
 use Rattle.iox_line.specs.Reading.{subscriber_of, publisher_command, subscriber_command, service_command, create_command, open_command}
 use Rattle.iox_line.specs.Reading.{open_or_create_command, foreign_parts, foreign_command, of_service, of_verb, of_read, of_words}
 use Rattle.iox_line.proofs.PortOptionLemmas.{bind_some, publisher_some, publisher_own, subscriber_some, subscriber_own}
-use Rattle.iox_line.specs.Spelling.{port_word, IsPort, Fits, Writes}
-use Rattle.iox_line.proofs.Shorthands.{Defines}
+use Rattle.iox_line.specs.Spelling.{Fits, Writes}
+use Rattle.iox_line.proofs.Shorthands.{AllOf, Defines, IsName, IsPort, SpecifierFits, VerifierFits, WritesSteps, port_word}
 
 both_some : {X Y : Type 0} (x : Option X) (y : Option Y) (p : X × Y) → both x y ≡ Some p → (x ≡ Some p.0) × (y ≡ Some p.1)
 both_some None y p h = cc
@@ -312,6 +312,14 @@ named_sound service.Open ws c h = open_sound ws c h
 named_sound service.OpenOrCreate ws c h = open_or_create_sound ws c h
 named_sound service.Foreign ws c h = foreign_sound ws c h
 
+update_written : (p : PortNumber) → Writes (command.Update p) (codes "update" ∷ port_word p ∷ [])
+update_written (port.Publisher n) = refl
+update_written (port.Subscriber n) = refl
+
+leave_written : (p : PortNumber) → Writes (command.Leave p) (codes "leave" ∷ port_word p ∷ [])
+leave_written (port.Publisher n) = refl
+leave_written (port.Subscriber n) = refl
+
 -- a verb and the words after it write what they are read as
 verb_sound : (v : Verb) (ws : List (List ℕ)) (c : Command ℕ) → of_verb v ws ≡ Some c → Fits c × Writes c (verb_word v ∷ ws)
 verb_sound verb.Node ws c h = node_some ws c h
@@ -331,8 +339,12 @@ verb_sound verb.GiveUp ws c h = one_made (λ n. command.GiveUp n) 112 (codes "gi
 verb_sound verb.Receive ws c h = one_made (λ n. command.Receive n) 115 (codes "receive") ws c (λ n f. f) (λ n. refl) h
 verb_sound verb.Read ws c h = one_made (λ n. command.Read n) 109 (codes "read") ws c (λ n f. f) (λ n. refl) h
 verb_sound verb.Release ws c h = one_made (λ n. command.Release n) 109 (codes "release") ws c (λ n f. f) (λ n. refl) h
-verb_sound verb.Update ws c h = one_port (λ p. command.Update p) (codes "update") ws c (λ p f. f) (λ p. refl) h
-verb_sound verb.Leave ws c h = one_port (λ p. command.Leave p) (codes "leave") ws c (λ p f. f) (λ p. refl) h
+verb_sound verb.Update ws c h =
+    one_port (λ p. command.Update p) (codes "update") ws c (elim [ port.Publisher n ↦ λ f. f | port.Subscriber n ↦ λ f. f ])
+    update_written h
+verb_sound verb.Leave ws c h =
+    one_port (λ p. command.Leave p) (codes "leave") ws c (elim [ port.Publisher n ↦ λ f. f | port.Subscriber n ↦ λ f. f ])
+    leave_written h
 verb_sound verb.Has ws c h = one_made (λ n. command.Has n) 115 (codes "has") ws c (λ n f. f) (λ n. refl) h
 
 verbs_written : AreWritten verb_word verbs
@@ -395,8 +407,14 @@ words_complete (command.GiveUp n) ws f w = ap of_words w ∙ ap (option_map (λ 
 words_complete (command.Receive n) ws f w = ap of_words w ∙ ap (option_map (λ n. command.Receive n)) (tagged_own 115 n f)
 words_complete (command.Read n) ws f w = ap of_words w ∙ ap (option_map (λ n. command.Read n)) (tagged_own 109 n f)
 words_complete (command.Release n) ws f w = ap of_words w ∙ ap (option_map (λ n. command.Release n)) (tagged_own 109 n f)
-words_complete (command.Update p) ws f w = ap of_words w ∙ ap (option_map (λ p. command.Update p)) (port_own p f)
-words_complete (command.Leave p) ws f w = ap of_words w ∙ ap (option_map (λ p. command.Leave p)) (port_own p f)
+words_complete (command.Update (port.Publisher n)) ws f w =
+    ap of_words w ∙ ap (option_map (λ p. command.Update p)) (port_own (port.Publisher n) f)
+words_complete (command.Update (port.Subscriber n)) ws f w =
+    ap of_words w ∙ ap (option_map (λ p. command.Update p)) (port_own (port.Subscriber n) f)
+words_complete (command.Leave (port.Publisher n)) ws f w =
+    ap of_words w ∙ ap (option_map (λ p. command.Leave p)) (port_own (port.Publisher n) f)
+words_complete (command.Leave (port.Subscriber n)) ws f w =
+    ap of_words w ∙ ap (option_map (λ p. command.Leave p)) (port_own (port.Subscriber n) f)
 words_complete (command.Has n) ws f w = ap of_words w ∙ ap (option_map (λ n. command.Has n)) (tagged_own 115 n f)
 words_complete (command.Publisher n o) ws f w = ap of_words w.2 ∙ ap (option_map (λ p. command.Publisher p.0 p.1))
     (both_own (tagged 102 (tag 102 n)) (publisher_of w.0) n o (tagged_own 102 n f.0) (publisher_own w.0 o f.1 w.1))

@@ -15,13 +15,13 @@ use Rattle.iox_line.proofs.NumberLemmas.{tagged_some, tagged_own}
 use Rattle.iox_line.proofs.ChoiceLemmas.{choice_some, map_some}
 use Rattle.iox_line.proofs.VisibleLemmas.{visible_sound, visible_complete}
 use Rattle.iox_line.proofs.MarkLemmas.{Unmarked, starts, cut_own, cut_parts, all_anyhow, options_unmarked}
-use Rattle.iox_line.specs.Services.{pattern_word, IsName, service_words, ServiceFits, Names}
+use Rattle.iox_line.specs.Services.{pattern_word, service_words, ServiceFits, Names}
 use Rattle.iox_line.specs.declared.services.service.NamedService.{NamedService}
 use Rattle.iox_line.specs.ServicesReading.{patterns, pattern_named, name_of, named_service, publish_subscribe_of, event_of}
 use Rattle.iox_line.specs.ServicesReading.{request_response_of, options_of, three_parts, service_of}
 use Rattle.iox_line.proofs.ServiceOptionLemmas.{publish_subscribe_some, publish_subscribe_own, event_some, event_own}
 use Rattle.iox_line.proofs.ServiceOptionLemmas.{request_response_some, request_response_own}
-use Rattle.iox_line.proofs.Shorthands.{publish_subscribe_keys, publish_subscribe_values, event_keys, event_values}
+use Rattle.iox_line.proofs.Shorthands.{IsName, event_keys, event_values, publish_subscribe_keys, publish_subscribe_values}
 use Rattle.iox_line.proofs.Shorthands.{request_response_keys, request_response_values}
 
 name_at : (w n : List ℕ) (t : Bool) → is_visible_text 1 255 w ≡ t → cond t (Some w) None ≡ Some n → IsName n × (w ≡ n)

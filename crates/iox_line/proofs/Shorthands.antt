@@ -1,19 +1,27 @@
 -- Names for parts of definitions: the keys and the values of options, the limits of their numbers, and what is said of words and texts.
-use Rattle.std.proofs.Common.{◌≡◌, ◌≤◌, ℕ, true, List, [], ◌∷◌, Option, codes, decimal, map}
-use Rattle.std.specs.Prelude.{IfSome}
+use Rattle.std.proofs.Common.{◌≡◌, ◌≤◌, ℕ, true, List, [], ◌∷◌, ◌++◌, Option, codes, decimal, length, map}
+use Rattle.std.specs.Prelude.{◌==◌, IfSome, flat_map, if◌then◌else◌}
+use Rattle.std.specs.List.{AllByRecursion, AllZip}
 use Rattle.std.specs.Option.{option_map}
+use Rattle.iox_describe_base.specs.Attributes.{Required}
 use Rattle.iox_describe_base.specs.declared.attribute.Attribute.{Attribute}
+use Rattle.iox_command.specs.declared.port.PortNumber.{PortNumber}
+use Rattle.iox_command.specs.declared.port.PortNumber.TheVariants as port
 use Rattle.iox_command.specs.declared.port.PublisherOptions.{PublisherOptions}
 use Rattle.iox_command.specs.declared.port.SubscriberOptions.{SubscriberOptions}
 use Rattle.iox_command.specs.declared.service.PublishSubscribeOptions.{PublishSubscribeOptions}
 use Rattle.iox_command.specs.declared.service.EventOptions.{EventOptions}
 use Rattle.iox_command.specs.declared.service.RequestResponseOptions.{RequestResponseOptions}
-use Rattle.iox_line.specs.Attributes.{pair_word}
-use Rattle.iox_line.specs.Letters.{space}
+use Rattle.iox_command.specs.declared.step.ForeignStep.{ForeignStep}
+use Rattle.iox_line.specs.Attributes.{IsKey, IsPair, pair_word}
+use Rattle.iox_line.specs.Letters.{comma, space}
 use Rattle.iox_line.specs.Numbers.{IsNumber}
+use Rattle.iox_line.specs.Options.{option_words}
 use Rattle.iox_line.specs.Services.{IsNumberOrOff, number_or_off_word, switch_word}
+use Rattle.iox_line.specs.Steps.{WritesStep}
 use Rattle.iox_line.specs.Values.{strategy_word, allocation_word, handler_word, degradation_word}
-use Rattle.iox_line.specs.Words.{AllOf, joined, lacks}
+use Rattle.iox_line.specs.Visible.{IsVisibleText}
+use Rattle.iox_line.specs.Words.{joined, lacks}
 
 -- the keys of a publisher's options
 abbrev pub publisher_keys : List (List ℕ)
@@ -35,6 +43,18 @@ subscriber_keys = codes "buffer=" ∷ codes "degrade=" ∷ []
 -- their values
 abbrev pub subscriber_values : SubscriberOptions → List (Option (List ℕ))
 subscriber_values o = option_map decimal o.buffer_size ∷ option_map degradation_word o.degradation_handler ∷ []
+
+-- the options of a publisher that are named, each a word
+abbrev pub publisher_words : PublisherOptions → List (List ℕ)
+publisher_words o = option_words publisher_keys (publisher_values o)
+
+-- the options of a subscriber that are named, each a word
+abbrev pub subscriber_words : SubscriberOptions → List (List ℕ)
+subscriber_words o = option_words subscriber_keys (subscriber_values o)
+
+-- the words write these steps, in their order
+abbrev pub WritesSteps : List ForeignStep → List (List ℕ) → Type 0
+WritesSteps steps words = AllZip WritesStep steps words
 
 -- the keys of a publish-subscribe service's options
 abbrev pub publish_subscribe_keys : List (List ℕ)
@@ -103,6 +123,53 @@ Defines pairs words = words ≡ map pair_word pairs
 -- the numbers have 64 bits
 abbrev pub PublisherFits : PublisherOptions → Type 0
 PublisherFits o = IfSome o.max_loaned_samples IsNumber × IfSome o.preallocated_samples IsNumber × IfSome o.initial_max_slice_len IsNumber
+
+-- each of these keeps to it
+abbrev pub AllOf : {A : Type 0} → (A → Type 0) → List A → Type 0
+AllOf Good xs = AllByRecursion Good xs
+
+-- no byte of any of the words is a space
+abbrev pub AreWords : List (List ℕ) → Type 0
+AreWords words = AllByRecursion (λ word. lacks space word ≡ true) words
+
+-- a name: 1 to 255 bytes of 0x21 to 0x7E
+abbrev pub IsName : List ℕ → Type 0
+IsName name = IsVisibleText 1 255 name
+
+-- a key alone: @KEY
+abbrev pub key_word : List ℕ → List ℕ
+key_word key = codes "@" ++ key
+
+-- at most eight pairs
+abbrev pub SpecifierFits : List Attribute → Type 0
+SpecifierFits pairs = (length pairs ≤ 8) × AllByRecursion IsPair pairs
+
+-- at most eight pairs, and at most eight keys
+abbrev pub VerifierFits : Required → Type 0
+VerifierFits r = (length r.pairs ≤ 8) × AllByRecursion IsPair r.pairs × (length r.keys ≤ 8) × AllByRecursion IsKey r.keys
+
+-- how the number of a port is written
+abbrev pub port_word : PortNumber → List ℕ
+port_word (port.Publisher n) = codes "p" ++ decimal n
+port_word (port.Subscriber n) = codes "s" ++ decimal n
+
+-- the number of a port has 64 bits
+abbrev pub IsPort : PortNumber → Type 0
+IsPort (port.Publisher n) = IsNumber n
+IsPort (port.Subscriber n) = IsNumber n
+
+-- options after a colon, with a comma between each two; nothing where there are none
+abbrev pub option_tail : List (List ℕ) → List ℕ
+option_tail [] = []
+option_tail (w ∷ ws) = codes ":" ++ joined comma (w ∷ ws)
+
+-- what begins the list of an access, where the list that stands is that of another: a bar and the number
+abbrev pub beginning : ℕ → ℕ → List (List ℕ)
+beginning now access = if access == now then [] else (codes "|" ++ decimal access) ∷ []
+
+-- each value after a space
+abbrev pub values_text : List ℕ → List ℕ
+values_text values = flat_map (λ value. codes " " ++ decimal value) values
 
 -- none of the texts has this byte
 abbrev pub AllLack : ℕ → List (List ℕ) → Type 0

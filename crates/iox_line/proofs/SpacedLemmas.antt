@@ -3,9 +3,8 @@ use Rattle.std.proofs.lemmas.Grind.{common_steps}
 use Rattle.std.proofs.Common.{arith, length, ◌+◌, ◌<◌, ◌≡◌, ℕ, ◌==◌, Bool, true, false, List, [], ◌∷◌, not, ◌&&◌, refl, cond, sym, ap}
 use Rattle.std.proofs.Common.{◌∙◌, eqb-true}
 use Rattle.iox_line.specs.Words.{lacks, before, beyond, no_words, words_of, pieces_of, pieces_left, onto_first, joined}
-use Rattle.iox_line.specs.Words.{AreWords}
 use Rattle.iox_line.proofs.WordLemmas.{pieces_first, pieces_of-separated, pieces_of-alone}
-use Rattle.iox_line.proofs.Shorthands.{spaced, AllLack}
+use Rattle.iox_line.proofs.Shorthands.{AllLack, AreWords, spaced}
 
 joined-onto : (sep b : ℕ) (w : List ℕ) (ws : List (List ℕ)) → joined sep ((b ∷ w) ∷ ws) ≡ b ∷ joined sep (w ∷ ws)
 joined-onto sep b w [] = refl

@@ -5,7 +5,7 @@ use Rattle.std.specs.Prelude.{filter}
 use Rattle.std.proofs.lemmas.List.Folds.{list_all-append}
 use Rattle.iox_describe_base.specs.declared.attribute.Attribute.{Attribute}
 use Rattle.iox_describe_base.specs.Attributes.{attribute, Required, required}
-use Rattle.iox_line.specs.Words.{AllOf, AreWords, lacks, has_no_space, before, beyond, begins}
+use Rattle.iox_line.specs.Words.{lacks, has_no_space, before, beyond, begins}
 use Rattle.iox_line.specs.Options.{after}
 use Rattle.iox_line.specs.Visible.{IsVisibleText, is_visible_text}
 use Rattle.iox_line.specs.Memory.{prepend}
@@ -13,10 +13,10 @@ use Rattle.iox_line.proofs.WordLemmas.{whole, whole_text, before-separated, beyo
 use Rattle.iox_line.proofs.MarkLemmas.{Unmarked, starts}
 use Rattle.iox_line.proofs.AfterLemmas.{after_some, and_left, and_right}
 use Rattle.iox_line.proofs.VisibleLemmas.{at_most, at_most_own, visible_sound, visible_complete, visible_no_space, both_true}
-use Rattle.iox_line.specs.Attributes.{pair_word, key_word, IsKey, IsPair, SpecifierFits, VerifierFits, has_equals, Requires}
+use Rattle.iox_line.specs.Attributes.{pair_word, IsKey, IsPair, has_equals, Requires}
 use Rattle.iox_line.specs.AttributesReading.{pair_parts, pair_in, pair_of, key_parts, key_in, key_of, pairs_of, require, requirements_of}
 use Rattle.iox_line.specs.AttributesReading.{few_pairs, specifier_of, few_requirements, verifier_of}
-use Rattle.iox_line.proofs.Shorthands.{Defines}
+use Rattle.iox_line.proofs.Shorthands.{AllOf, AreWords, Defines, SpecifierFits, VerifierFits, key_word}
 
 -- one word
 

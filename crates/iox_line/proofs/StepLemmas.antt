@@ -7,7 +7,7 @@ use Rattle.iox_command.specs.declared.service.ServiceOptions.{ServiceOptions}
 use Rattle.iox_command.specs.declared.step.ForeignStep.{ForeignStep}
 use Rattle.iox_command.specs.declared.step.ForeignStep.TheVariants as step
 use Rattle.iox_command.specs.Patterns.{pattern_of}
-use Rattle.iox_line.specs.Words.{AllOf, AreWritten, lacks, joined, pieces_of, pieces_left, before, beyond}
+use Rattle.iox_line.specs.Words.{AreWritten, lacks, joined, pieces_of, pieces_left, before, beyond}
 use Rattle.iox_line.specs.Numbers.{IsNumber, tag, tagged}
 use Rattle.iox_line.specs.Options.{AnyOrder}
 use Rattle.iox_line.specs.Memory.{prepend}
@@ -22,10 +22,10 @@ use Rattle.iox_line.proofs.ServiceLemmas.{options_some, options_own}
 use Rattle.iox_line.proofs.NoSpaceLemmas.{service_lack_commas}
 use Rattle.iox_line.specs.declared.steps.step.StepVerb.{StepVerb}
 use Rattle.iox_line.specs.declared.steps.step.StepVerb.TheVariants as verb
-use Rattle.iox_line.specs.Steps.{option_tail, WritesStep, StepFits, WritesSteps}
+use Rattle.iox_line.specs.Steps.{WritesStep, StepFits}
 use Rattle.iox_line.specs.StepsReading.{step_verb_word, step_verbs, step_verb_of, published, step_at, step_with, step_of, each_step}
 use Rattle.iox_line.specs.StepsReading.{steps_of}
-use Rattle.iox_line.proofs.Shorthands.{AllLack}
+use Rattle.iox_line.proofs.Shorthands.{AllLack, AllOf, WritesSteps, option_tail}
 
 -- a step without options
 
@@ -146,22 +146,24 @@ prepend_some (Some a) (Some rest) l h = (a, rest, refl, refl, cc)
 
 each_some : (pattern : MessagingPattern) (ws : List (List ℕ)) (ss : List ForeignStep) → each_step pattern ws ≡ Some ss
     → AllOf (StepFits pattern) ss × WritesSteps ss ws
-each_some pattern [] ss h = let same : [] ≡ ss = cc in subst (λ l. AllOf (StepFits pattern) l × WritesSteps l []) same (tt, refl)
+each_some pattern [] ss h = let same : [] ≡ ss = cc in subst (λ l. AllOf (StepFits pattern) l × WritesSteps l []) same (tt, tt)
 each_some pattern (w ∷ ws) ss h =
     let r = prepend_some (step_of pattern w) (each_step pattern ws) ss h in
     let one = step_some pattern w r.0 r.2 in
     let rest = each_some pattern ws r.1 r.3 in
-    subst (λ l. AllOf (StepFits pattern) l × WritesSteps l (w ∷ ws)) r.4 ((one.0, rest.0), (w, ws, one.1, rest.1, refl))
+    subst (λ l. AllOf (StepFits pattern) l × WritesSteps l (w ∷ ws)) r.4 ((one.0, rest.0), (one.1, rest.1))
 
 each_own : (pattern : MessagingPattern) (ss : List ForeignStep) (ws : List (List ℕ)) → AllOf (StepFits pattern) ss → WritesSteps ss ws
     → each_step pattern ws ≡ Some ss
-each_own pattern [] ws f e = ap (each_step pattern) e
-each_own pattern (s ∷ ss) ws f e =
-    ap (each_step pattern) e.4 ∙ ap (λ o. prepend o (each_step pattern e.1)) (step_own pattern s e.0 f.0 e.2) ∙ ap
-    (λ o. prepend (Some s) o) (each_own pattern ss e.1 f.1 e.3)
+each_own pattern [] [] f e = refl
+each_own pattern [] (w ∷ ws) f e = absurd e
+each_own pattern (s ∷ ss) [] f e = absurd e
+each_own pattern (s ∷ ss) (w ∷ ws) f e =
+    ap (λ o. prepend o (each_step pattern ws)) (step_own pattern s w f.0 e.0) ∙ ap
+    (λ o. prepend (Some s) o) (each_own pattern ss ws f.1 e.1)
 
 some_length : (w : List ℕ) (ws : List (List ℕ)) (ss : List ForeignStep) → WritesSteps ss (w ∷ ws) → 0 < length ss
-some_length w ws [] e = cc
+some_length w ws [] e = absurd e
 some_length w ws (s ∷ ss) e = omega arith
 
 -- words that are read as steps write them
@@ -178,4 +180,5 @@ steps_at pattern ws w vs e = ap (steps_of pattern) e ∙ sym (ap (each_step patt
 pub steps_own : (pattern : MessagingPattern) (ss : List ForeignStep) (ws : List (List ℕ)) → 0 < length ss → AllOf (StepFits pattern) ss
     → WritesSteps ss ws → steps_of pattern ws ≡ Some ss
 steps_own pattern [] ws l f e = absurd (omega (arith, l))
-steps_own pattern (s ∷ ss) ws l f e = steps_at pattern ws e.0 e.1 e.4 ∙ each_own pattern (s ∷ ss) ws f e
+steps_own pattern (s ∷ ss) [] l f e = absurd e
+steps_own pattern (s ∷ ss) (w ∷ ws) l f e = steps_at pattern (w ∷ ws) w ws refl ∙ each_own pattern (s ∷ ss) (w ∷ ws) f e

@@ -4,12 +4,13 @@ use Rattle.iox_command.specs.DescribeBase.declared.pattern.MessagingPattern.{Mes
 use Rattle.iox_command.specs.declared.step.ForeignStep.{ForeignStep}
 use Rattle.iox_command.specs.declared.step.ForeignStep.TheVariants as step
 use Rattle.iox_command.specs.declared.step.StepBefore.{StepBefore}
-use Rattle.iox_line.specs.Words.{AllOf, AreWords, has_no_space, joined}
+use Rattle.iox_line.proofs.Shorthands.{AllOf, AreWords, WritesSteps, beginning, option_tail}
+use Rattle.iox_line.specs.Words.{has_no_space, joined}
 use Rattle.iox_line.specs.Numbers.{IsNumber, tag}
 use Rattle.iox_line.proofs.NumberLemmas.{decimal_no_space}
 use Rattle.iox_line.specs.Services.{service_words}
 use Rattle.iox_line.proofs.NoSpaceLemmas.{any_own, both_parts, both_words, service_are_words}
-use Rattle.iox_line.specs.Steps.{option_tail, WritesStep, StepFits, WritesSteps, beginning, WritesLists, ListsFit}
+use Rattle.iox_line.specs.Steps.{WritesStep, StepFits, WritesLists, ListsFit}
 
 -- a word for a step, with its options in their order
 abbrev pub step_word : ForeignStep → List ℕ
@@ -54,8 +55,8 @@ foreign_words (s ∷ ss) = step_word s ∷ foreign_words ss
 
 -- they write the steps
 pub foreign_so : (ss : List ForeignStep) → WritesSteps ss (foreign_words ss)
-foreign_so [] = refl
-foreign_so (s ∷ ss) = (step_word s, foreign_words ss, word_so s, foreign_so ss, refl)
+foreign_so [] = tt
+foreign_so (s ∷ ss) = (word_so s, foreign_so ss)
 
 -- they have no space
 pub foreign_are_words : (pattern : MessagingPattern) (ss : List ForeignStep) → AllOf (StepFits pattern) ss → AreWords (foreign_words ss)

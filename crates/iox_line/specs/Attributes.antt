@@ -1,18 +1,14 @@
 -- How attributes are written in a line.
-use Rattle.std.specs.Prelude.{ℕ, ◌≤◌, ◌≡◌, Bool, true, not, List, ◌∷◌, ◌++◌, codes, length, filter, map}
+use Rattle.std.specs.Prelude.{ℕ, ◌≡◌, Bool, true, not, List, ◌++◌, codes, filter, map}
 use Rattle.iox_describe_base.specs.declared.attribute.Attribute.{Attribute}
 use Rattle.iox_describe_base.specs.Attributes.{Required}
-use Rattle.iox_line.specs.Words.{AllOf, lacks}
+use Rattle.iox_line.specs.Words.{lacks}
 use Rattle.iox_line.specs.Visible.{IsVisibleText}
 use Rattle.iox_line.specs.Letters.{equals_sign}
 
 -- a pair: @KEY=VALUE
 abbrev pub pair_word : Attribute → List ℕ
 pair_word a = codes "@" ++ (a.key ++ (codes "=" ++ a.value))
-
--- a key alone: @KEY
-abbrev pub key_word : List ℕ → List ℕ
-key_word key = codes "@" ++ key
 
 -- a key: 1 to 64 bytes of 0x21 to 0x7E, none of them =
 abbrev pub IsKey : List ℕ → Type 0
@@ -22,18 +18,12 @@ IsKey key = IsVisibleText 1 64 key × (lacks equals_sign key ≡ true)
 abbrev pub IsPair : Attribute → Type 0
 IsPair a = IsKey a.key × IsVisibleText 0 256 a.value
 
--- at most eight pairs
-abbrev pub SpecifierFits : List Attribute → Type 0
-SpecifierFits pairs = (length pairs ≤ 8) × AllOf IsPair pairs
-
--- at most eight pairs, and at most eight keys
-abbrev pub VerifierFits : Required → Type 0
-VerifierFits r = (length r.pairs ≤ 8) × AllOf IsPair r.pairs × (length r.keys ≤ 8) × AllOf IsKey r.keys
-
 -- whether there is a = in a word
 abbrev pub has_equals : List ℕ → Bool
 has_equals word = not (lacks equals_sign word)
 
--- the words require this: those with a = the pairs, in their order, and the others the keys, in theirs
+-- the words require this: those with a = the pairs, in their order, and the others the keys, each as @KEY, in theirs
 abbrev pub Requires : Required → List (List ℕ) → Type 0
-Requires r words = (filter has_equals words ≡ map pair_word r.pairs) × (filter (λ w. not (has_equals w)) words ≡ map key_word r.keys)
+Requires r words =
+    (filter has_equals words ≡ map pair_word r.pairs)
+    × (filter (λ word. not (has_equals word)) words ≡ map (λ key. codes "@" ++ key) r.keys)

@@ -14,7 +14,6 @@ pub mod Steps
 pub mod StepsReading
 pub mod LineFault
 pub mod Verbs
-pub mod PortOptions
 pub mod Spelling
 pub mod Reading
 pub mod Outcome

@@ -9,7 +9,6 @@ use Rattle.iox_command.specs.declared.service.ServiceOptions.{ServiceOptions}
 use Rattle.iox_command.specs.declared.service.ServiceOptions.TheVariants as options
 use Rattle.iox_command.specs.Patterns.{pattern_of}
 use Rattle.iox_line.specs.Numbers.{IsNumber}
-use Rattle.iox_line.specs.Visible.{IsVisibleText}
 use Rattle.iox_line.specs.Options.{AnyOrder, option_words}
 
 -- how a pattern is written
@@ -17,10 +16,6 @@ abbrev pub pattern_word : MessagingPattern → List ℕ
 pattern_word pattern.PublishSubscribe = codes "ps"
 pattern_word pattern.Event = codes "ev"
 pattern_word pattern.RequestResponse = codes "rr"
-
--- a name: 1 to 255 bytes of 0x21 to 0x7E
-abbrev pub IsName : List ℕ → Type 0
-IsName name = IsVisibleText 1 255 name
 
 -- how a switch is written
 abbrev pub switch_word : Bool → List ℕ

@@ -1,55 +1,53 @@
 -- Which bytes spell a command: how a command is written, word for word.
-use Rattle.std.specs.Prelude.{ℕ, ◌<◌, ◌≡◌, List, [], ◌∷◌, ◌++◌, length, codes, decimal, map, IfSome}
+use Rattle.std.specs.Prelude.{ℕ, ◌<◌, ◌≤◌, ◌≡◌, true, List, [], ◌∷◌, ◌++◌, length, codes, decimal, map, IfSome}
+use Rattle.std.specs.List.{AllByRecursion, AllZip}
+use Rattle.std.specs.Option.{option_map}
 use Rattle.iox_command.specs.declared.command.Command.{Command}
 use Rattle.iox_command.specs.declared.command.Command.TheVariants as command
-use Rattle.iox_command.specs.declared.port.PortNumber.{PortNumber}
 use Rattle.iox_command.specs.declared.port.PortNumber.TheVariants as port
 use Rattle.iox_command.specs.Patterns.{pattern_of}
-use Rattle.iox_line.specs.Words.{AllOf, AreWords, joined}
+use Rattle.iox_line.specs.Words.{joined, lacks}
 use Rattle.iox_line.specs.Letters.{space}
 use Rattle.iox_line.specs.Numbers.{IsNumber}
-use Rattle.iox_line.specs.Options.{AnyOrder}
-use Rattle.iox_line.specs.Services.{pattern_word, IsName, ServiceFits, Names}
-use Rattle.iox_line.specs.Attributes.{pair_word, SpecifierFits, VerifierFits, Requires}
-use Rattle.iox_line.specs.Steps.{StepFits, WritesSteps, WritesLists, ListsFit}
-use Rattle.iox_line.specs.PortOptions.{publisher_words, subscriber_words}
+use Rattle.iox_line.specs.Options.{AnyOrder, option_words}
+use Rattle.iox_line.specs.Services.{pattern_word, ServiceFits, Names}
+use Rattle.iox_line.specs.Attributes.{pair_word, IsKey, IsPair, Requires}
+use Rattle.iox_line.specs.Steps.{StepFits, WritesStep, WritesLists, ListsFit}
+use Rattle.iox_line.specs.Values.{strategy_word, allocation_word, handler_word, degradation_word}
+use Rattle.iox_line.specs.Visible.{IsVisibleText}
 
--- how the number of a port is written
-abbrev pub port_word : PortNumber → List ℕ
-port_word (port.Publisher n) = codes "p" ++ decimal n
-port_word (port.Subscriber n) = codes "s" ++ decimal n
-
--- the number of a port has 64 bits
-abbrev pub IsPort : PortNumber → Type 0
-IsPort (port.Publisher n) = IsNumber n
-IsPort (port.Subscriber n) = IsNumber n
-
--- a command whose numbers have 64 bits, whose name and attributes are within the limits, whose lists are in their order, and
--- whose foreign steps are at least one
+-- a command whose numbers have 64 bits, whose name has 1 to 255 visible bytes, which has at most eight pairs and at most eight keys, whose
+-- lists are in their order, and whose foreign steps are at least one
 abbrev pub Fits : Command ℕ → Type 0
-Fits (command.Create node name options attributes steps) = IsNumber node × IsName name × ServiceFits options × SpecifierFits attributes
+Fits (command.Create node name options attributes steps) = IsNumber node × IsVisibleText 1 255 name × ServiceFits options
+    × ((length attributes ≤ 8) × AllByRecursion IsPair attributes)
     × ListsFit (pattern_of options) 0 steps
-Fits (command.Open node name options requirements steps) = IsNumber node × IsName name × ServiceFits options × VerifierFits requirements
+Fits (command.Open node name options required steps) = IsNumber node × IsVisibleText 1 255 name × ServiceFits options
+    × ((length required.pairs ≤ 8) × AllByRecursion IsPair required.pairs
+    × (length required.keys ≤ 8) × AllByRecursion IsKey required.keys)
     × ListsFit (pattern_of options) 0 steps
-Fits (command.OpenOrCreate node name options requirements steps) = IsNumber node × IsName name × ServiceFits options
-    × VerifierFits requirements
+Fits (command.OpenOrCreate node name options required steps) = IsNumber node × IsVisibleText 1 255 name × ServiceFits options
+    × ((length required.pairs ≤ 8) × AllByRecursion IsPair required.pairs
+    × (length required.keys ≤ 8) × AllByRecursion IsKey required.keys)
     × ListsFit (pattern_of options) 0 steps
-Fits (command.Foreign pattern name steps) = IsName name × (0 < length steps) × AllOf (StepFits pattern) steps
+Fits (command.Foreign pattern name steps) = IsVisibleText 1 255 name × (0 < length steps) × AllByRecursion (StepFits pattern) steps
 Fits (command.Close factory) = IsNumber factory
 Fits (command.Loan publisher long) = IsNumber publisher × IsNumber long
 Fits (command.LoanUninit publisher long) = IsNumber publisher × IsNumber long
 Fits (command.Set loan place value) = IsNumber loan × IsNumber place × IsNumber value
-Fits (command.Fill loan values) = IsNumber loan × AllOf IsNumber values
+Fits (command.Fill loan values) = IsNumber loan × AllByRecursion IsNumber values
 Fits (command.Drop loan) = IsNumber loan
 Fits (command.Send loan) = IsNumber loan
-Fits (command.Put publisher values) = IsNumber publisher × AllOf IsNumber values
+Fits (command.Put publisher values) = IsNumber publisher × AllByRecursion IsNumber values
 Fits (command.Retry publisher nanoseconds) = IsNumber publisher × IsNumber nanoseconds
 Fits (command.GiveUp publisher) = IsNumber publisher
 Fits (command.Receive subscriber) = IsNumber subscriber
 Fits (command.Read sample) = IsNumber sample
 Fits (command.Release sample) = IsNumber sample
-Fits (command.Update port) = IsPort port
-Fits (command.Leave port) = IsPort port
+Fits (command.Update (port.Publisher publisher)) = IsNumber publisher
+Fits (command.Update (port.Subscriber subscriber)) = IsNumber subscriber
+Fits (command.Leave (port.Publisher publisher)) = IsNumber publisher
+Fits (command.Leave (port.Subscriber subscriber)) = IsNumber subscriber
 Fits (command.Has subscriber) = IsNumber subscriber
 Fits (command.Publisher factory options) = IsNumber factory
     × (IfSome options.max_loaned_samples IsNumber × IfSome options.preallocated_samples IsNumber
@@ -72,7 +70,7 @@ Writes (command.OpenOrCreate node name options requirements steps) words = (attr
     × (named : List (List ℕ))
     × Requires requirements attributed × WritesLists 0 steps listed × Names node name options attributed listed named
     × (words ≡ codes "open_or_create" ∷ named)
-Writes (command.Foreign pattern name steps) words = (stepped : List (List ℕ)) × WritesSteps steps stepped
+Writes (command.Foreign pattern name steps) words = (stepped : List (List ℕ)) × AllZip WritesStep steps stepped
     × (words ≡ codes "foreign" ∷ pattern_word pattern ∷ name ∷ stepped)
 Writes (command.Close factory) words = words ≡ codes "close" ∷ (codes "f" ++ decimal factory) ∷ []
 Writes (command.Loan publisher long) words = words ≡ codes "loan" ∷ (codes "p" ++ decimal publisher) ∷ decimal long ∷ []
@@ -87,18 +85,28 @@ Writes (command.GiveUp publisher) words = words ≡ codes "giveup" ∷ (codes "p
 Writes (command.Receive subscriber) words = words ≡ codes "receive" ∷ (codes "s" ++ decimal subscriber) ∷ []
 Writes (command.Read sample) words = words ≡ codes "read" ∷ (codes "m" ++ decimal sample) ∷ []
 Writes (command.Release sample) words = words ≡ codes "release" ∷ (codes "m" ++ decimal sample) ∷ []
-Writes (command.Update port) words = words ≡ codes "update" ∷ port_word port ∷ []
-Writes (command.Leave port) words = words ≡ codes "leave" ∷ port_word port ∷ []
+Writes (command.Update (port.Publisher publisher)) words = words ≡ codes "update" ∷ (codes "p" ++ decimal publisher) ∷ []
+Writes (command.Update (port.Subscriber subscriber)) words = words ≡ codes "update" ∷ (codes "s" ++ decimal subscriber) ∷ []
+Writes (command.Leave (port.Publisher publisher)) words = words ≡ codes "leave" ∷ (codes "p" ++ decimal publisher) ∷ []
+Writes (command.Leave (port.Subscriber subscriber)) words = words ≡ codes "leave" ∷ (codes "s" ++ decimal subscriber) ∷ []
 Writes (command.Has subscriber) words = words ≡ codes "has" ∷ (codes "s" ++ decimal subscriber) ∷ []
-Writes (command.Publisher factory options) words = (chosen : List (List ℕ)) × AnyOrder chosen (publisher_words options)
+Writes (command.Publisher factory options) words = (chosen : List (List ℕ))
+    × AnyOrder chosen (option_words
+    (codes "loans=" ∷ codes "strategy=" ∷ codes "slots=" ∷ codes "slice=" ∷ codes "alloc=" ∷ codes "handler=" ∷ codes "degrade=" ∷ [])
+    (option_map decimal options.max_loaned_samples ∷ option_map strategy_word options.backpressure_strategy
+    ∷ option_map decimal options.preallocated_samples ∷ option_map decimal options.initial_max_slice_len
+    ∷ option_map allocation_word options.allocation_strategy ∷ option_map handler_word options.backpressure_handler
+    ∷ option_map degradation_word options.degradation_handler ∷ []))
     × (words ≡ codes "publisher" ∷ (codes "f" ++ decimal factory) ∷ chosen)
-Writes (command.Subscriber factory options) words = (chosen : List (List ℕ)) × AnyOrder chosen (subscriber_words options)
+Writes (command.Subscriber factory options) words = (chosen : List (List ℕ))
+    × AnyOrder chosen (option_words (codes "buffer=" ∷ codes "degrade=" ∷ [])
+    (option_map decimal options.buffer_size ∷ option_map degradation_word options.degradation_handler ∷ []))
     × (words ≡ codes "subscriber" ∷ (codes "f" ++ decimal factory) ∷ chosen)
 
--- the line is the words of the command, with one space between each two
+-- the line is the words of the command, none of which has a space, with one space between each two
 pub record Spells (line : List ℕ) (c : Command ℕ) : Type 0 where
   pub words : List (List ℕ)
   pub fits : Fits c
   pub writes : Writes c words
-  pub are_words : AreWords words
+  pub are_words : AllByRecursion (λ word. lacks space word ≡ true) words
   pub spaced_so : line ≡ joined space words

@@ -11,17 +11,13 @@ use Rattle.iox_line.specs.Options.{AnyOrder}
 use Rattle.iox_line.specs.Letters.{comma}
 use Rattle.iox_line.specs.Services.{service_words, ServiceFits}
 
--- options after a colon, with a comma between each two; nothing where there are none
-abbrev pub option_tail : List (List ℕ) → List ℕ
-option_tail [] = []
-option_tail (w ∷ ws) = codes ":" ++ joined comma (w ∷ ws)
-
--- the word writes the step: its verb, a colon, an x and the number of its node; to publish also options, in any order
+-- the word writes the step: its verb, a colon, an x and the number of its node; to publish also options, if there are any, in any order,
+-- after a colon and with a comma between each two
 abbrev pub WritesStep : ForeignStep → List ℕ → Type 0
 WritesStep (step.Lock node) word = word ≡ codes "lock:x" ++ decimal node
 WritesStep (step.GiveUp node) word = word ≡ codes "giveup:x" ++ decimal node
 WritesStep (step.Publish node options) word = (chosen : List (List ℕ)) × AnyOrder chosen (service_words options)
-    × (word ≡ codes "publish:x" ++ (decimal node ++ option_tail chosen))
+    × (word ≡ codes "publish:x" ++ (decimal node ++ elim chosen [ [] ↦ [] | one ∷ more ↦ codes ":" ++ joined comma (one ∷ more) ]))
 WritesStep (step.Register node) word = word ≡ codes "register:x" ++ decimal node
 WritesStep (step.Leave node) word = word ≡ codes "leave:x" ++ decimal node
 WritesStep (step.Remove node) word = word ≡ codes "remove:x" ++ decimal node
@@ -35,20 +31,12 @@ StepFits pattern (step.Register node) = IsNumber node
 StepFits pattern (step.Leave node) = IsNumber node
 StepFits pattern (step.Remove node) = IsNumber node
 
--- the words write these steps, in their order
-abbrev pub WritesSteps : List ForeignStep → List (List ℕ) → Type 0
-WritesSteps [] words = words ≡ []
-WritesSteps (s ∷ ss) words = (w : List ℕ) × (ws : List (List ℕ)) × WritesStep s w × WritesSteps ss ws × (words ≡ w ∷ ws)
-
--- what begins the list of an access, where the list that stands is that of another: a bar and the number
-abbrev pub beginning : ℕ → ℕ → List (List ℕ)
-beginning now access = if access == now then [] else (codes "|" ++ decimal access) ∷ []
-
--- the words write lists of steps: the steps in their order, and each list begins before its first step; the list of access `now` has begun
+-- the words write lists of steps: the steps in their order, and before the first one of a list a bar and the number of its access; the list
+-- of access `now` has begun
 abbrev pub WritesLists : ℕ → List StepBefore → List (List ℕ) → Type 0
 WritesLists now [] words = words ≡ []
 WritesLists now (t ∷ ts) words = (w : List ℕ) × (ws : List (List ℕ)) × WritesStep t.step w × WritesLists t.access ts ws
-    × (words ≡ beginning now t.access ++ w ∷ ws)
+    × (words ≡ (if t.access == now then [] else (codes "|" ++ decimal t.access) ∷ []) ++ w ∷ ws)
 
 -- the accesses are counted from 1 and never fall, from `now` on, and their numbers have 64 bits
 abbrev pub ListsFit : MessagingPattern → ℕ → List StepBefore → Type 0

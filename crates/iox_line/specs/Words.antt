@@ -5,11 +5,6 @@ use Rattle.std.specs.List.{list_all}
 use Rattle.std.specs.Cmp.Lexicographic.{pointwise}
 use Rattle.iox_line.specs.Letters.{space}
 
--- each of these keeps to it
-abbrev pub AllOf : {A : Type 0} → (A → Type 0) → List A → Type 0
-AllOf Good [] = Unit {0}
-AllOf Good (a ∷ as') = Good a × AllOf Good as'
-
 -- whether no byte is this one
 abbrev pub lacks : ℕ → List ℕ → Bool
 lacks byte text = list_all (λ b. not (b == byte)) text
@@ -17,10 +12,6 @@ lacks byte text = list_all (λ b. not (b == byte)) text
 -- whether no byte is a space
 abbrev pub has_no_space : List ℕ → Bool
 has_no_space word = lacks space word
-
--- no byte of any of the words is a space
-abbrev pub AreWords : List (List ℕ) → Type 0
-AreWords words = AllOf (λ word. lacks space word ≡ true) words
 
 -- pieces with one such byte between each two
 abbrev pub joined : ℕ → List (List ℕ) → List ℕ

@@ -1,6 +1,6 @@
 //! From a reply to the bytes of its line.
-ghost use Rattle.std.specs.Prelude.{◌≡◌, ◌++◌, length, take, codes, decimal, OnOk, OnErr};
-ghost use Rattle.iox_line.specs.ReplyText.{reply_text, values_text};
+ghost use Rattle.std.specs.Prelude.{◌≡◌, ◌++◌, length, take, flat_map, codes, decimal, OnOk, OnErr};
+ghost use Rattle.iox_line.specs.ReplyText.{reply_text};
 
 use iox_command::Reply;
 use itoa::Buffer;
@@ -74,7 +74,7 @@ fn append_made(kind: &[u8], number: u64, out: &mut Vec<u8>) -> Result<(), AllocE
 }
 
 fn append_values(values: &[u64], out: &mut Vec<u8>) -> Result<(), AllocError>
-    ensures ok { OnOk result (out.new.items ≡ out.old.items ++ values_text values.now) }
+    ensures ok { OnOk result (out.new.items ≡ out.old.items ++ flat_map (λ value. codes " " ++ decimal value) values.now) }
     ensures err { OnErr result (take (length out.old.items) out.new.items ≡ out.old.items) }
 {
     for &value in values {
@@ -84,7 +84,8 @@ fn append_values(values: &[u64], out: &mut Vec<u8>) -> Result<(), AllocError>
 }
 
 fn append_sample(sample: u64, values: &[u64], out: &mut Vec<u8>) -> Result<(), AllocError>
-    ensures ok { OnOk result (out.new.items ≡ out.old.items ++ ((codes "ok m" ++ decimal sample) ++ values_text values.now)) }
+    ensures ok { OnOk result (out.new.items ≡ out.old.items ++ ((codes "ok m" ++ decimal sample)
+        ++ flat_map (λ value. codes " " ++ decimal value) values.now)) }
     ensures err { OnErr result (take (length out.old.items) out.new.items ≡ out.old.items) }
 {
     append_made(b"ok m", sample, out)?;
@@ -92,7 +93,7 @@ fn append_sample(sample: u64, values: &[u64], out: &mut Vec<u8>) -> Result<(), A
 }
 
 fn append_read(values: &[u64], out: &mut Vec<u8>) -> Result<(), AllocError>
-    ensures ok { OnOk result (out.new.items ≡ out.old.items ++ (codes "ok" ++ values_text values.now)) }
+    ensures ok { OnOk result (out.new.items ≡ out.old.items ++ (codes "ok" ++ flat_map (λ value. codes " " ++ decimal value) values.now)) }
     ensures err { OnErr result (take (length out.old.items) out.new.items ≡ out.old.items) }
 {
     append(b"ok", out)?;

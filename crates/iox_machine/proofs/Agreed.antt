@@ -4,13 +4,14 @@ use Rattle.std.proofs.Common.{ap, subst, inl, inr, arith, ◌∙◌, true≢fals
 use Rattle.std.proofs.lemmas.Bool.{eqb-true, eq-eqb, false_from_ne_true}
 use Rattle.std.specs.List.{AllByRecursion, IsDistinct, list_any}
 use Rattle.std.specs.Prelude.{◌==◌, filter, find, fold, option_map}
+use Rattle.iox_machine.proofs.Shorthands.{factory_of}
 use Rattle.iox_machine.specs.Choices.{Choices}
 use Rattle.iox_machine.specs.AgreementLaws.{agreed_in, IsPublished, AreApart, IsAgreed, IsIn, OneAgreement}
 use Rattle.iox_machine.specs.Asked.{settings_of}
 use Rattle.iox_machine.specs.Factories.{with_open, CreatesService, OpensService, OpensOrCreatesService}
 use Rattle.iox_machine.specs.IndependenceLaws.{is_factory_of, is_of}
 use Rattle.iox_machine.specs.Phase.{Own, Phase, Absent, BeingMade, Published, Emptied, same_pattern, closed_by, acted}
-use Rattle.iox_machine.specs.Run.{Step, Runs, factory_of}
+use Rattle.iox_machine.specs.Run.{Step, Runs}
 use Rattle.iox_machine.specs.Service.{Service, new_service}
 use Rattle.iox_machine.specs.State.{State, Factory, new_state, counted, with_phase, is_service_of, same_name}
 use Rattle.iox_machine.specs.Table.{at, removed}

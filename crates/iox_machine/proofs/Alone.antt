@@ -6,6 +6,7 @@ use Rattle.std.specs.List.{list_any}
 use Rattle.std.specs.Option.{option_map_or}
 use Rattle.std.specs.Prelude.{◌==◌, nat_lt, nat_le, is_some, find, filter, fold, MatchBool, MatchOption, MatchResult}
 use Rattle.std.specs.Vec.{vec_items}
+use Rattle.iox_machine.proofs.Shorthands.{factory_of, left}
 use Rattle.iox_machine.specs.Choices.{Choices}
 use Rattle.iox_machine.specs.AgreementLaws.{agreed_in}
 use Rattle.iox_machine.specs.Agreement.{Agreement, unfit, event_verdict, publish_subscribe_verdict, request_response_verdict}
@@ -18,12 +19,11 @@ use Rattle.iox_machine.specs.IndependenceLaws.{is_factory_of, is_of, is_first, a
 use Rattle.iox_machine.specs.Message.{Loan, Sample, is_written}
 use Rattle.iox_machine.specs.Negotiation.{Call, Answer, Creates, Opens, OpensOrCreates}
 use Rattle.iox_machine.specs.Phase.{Own, Phase, Absent, same_pattern, closed_by, acted}
-use Rattle.iox_machine.specs.PortList.{left}
 use Rattle.iox_machine.specs.Ports.{AtFree, AtBlocked, publisher_in, subscriber_in, LendsLoan, Puts, SendsLoan, Writes, Releases}
 use Rattle.iox_machine.specs.PublisherUpdate as publishing
 use Rattle.iox_machine.specs.Receiving.{Receives, has_samples}
 use Rattle.iox_machine.specs.Replies.{IsSkipped, IsRefused}
-use Rattle.iox_machine.specs.Run.{Step, Runs, AtFactory, factory_of}
+use Rattle.iox_machine.specs.Run.{Step, Runs, AtFactory}
 use Rattle.iox_machine.specs.Sending.{GoesOn}
 use Rattle.iox_machine.specs.Service.{Service, Publisher, Subscriber, Send, with_publisher, with_subscriber}
 use Rattle.iox_machine.specs.State.{State, Factory, AtOne, new_state, with_phase, is_service_of, same_name, counted, replaced}

@@ -4,11 +4,12 @@ use Rattle.std.proofs.Common.{arith, ◌∙◌, true≢false}
 use Rattle.std.proofs.lemmas.Bool.{eqb-true, eq-eqb, false_from_ne_true}
 use Rattle.std.specs.List.{AllByRecursion, list_any}
 use Rattle.std.specs.Prelude.{◌==◌}
+use Rattle.iox_machine.proofs.Shorthands.{factory_of}
 use Rattle.iox_machine.specs.Choices.{Choices}
 use Rattle.iox_machine.specs.AgreementLaws.{AreAbove, IsLaterThan, LivesStartAnew}
 use Rattle.iox_machine.specs.NumberLaws.{publisher_told, subscriber_told, loan_told, sample_told}
 use Rattle.iox_machine.specs.Phase.{same_pattern}
-use Rattle.iox_machine.specs.Run.{Step, Runs, factory_of}
+use Rattle.iox_machine.specs.Run.{Step, Runs}
 use Rattle.iox_machine.specs.Service.{Service}
 use Rattle.iox_machine.specs.State.{State, Made, Factory, new_state, counted, is_service_of, same_name}
 use Rattle.iox_machine.proofs.Agreed.{new-stands, runs-stand}

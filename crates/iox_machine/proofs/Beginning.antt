@@ -1,9 +1,10 @@
 -- A service that stands after a command, and none of its name before, has nothing.
 use Rattle.std.proofs.Common.{◌≡◌, ◌⊎◌, ℕ, Bool, true, false, ◌||◌, List, [], ◌∷◌, refl, sym, subst, inl, inr}
 use Rattle.std.specs.List.{AllByRecursion, list_any}
+use Rattle.iox_machine.proofs.Shorthands.{factory_of}
 use Rattle.iox_machine.specs.Choices.{Choices}
 use Rattle.iox_machine.specs.AgreementLaws.{ServicesStartEmpty}
-use Rattle.iox_machine.specs.Run.{Step, factory_of}
+use Rattle.iox_machine.specs.Run.{Step}
 use Rattle.iox_machine.specs.Service.{Service, new_service}
 use Rattle.iox_machine.specs.State.{State, Factory, same_name}
 use Rattle.iox_machine.proofs.Lists.{all-weaker}

@@ -4,13 +4,14 @@ use Rattle.std.proofs.Common.{ap, subst, inl, inr, arith, ◌∙◌, true≢fals
 use Rattle.std.proofs.lemmas.Bool.{eqb-true, eq-eqb, false_from_ne_true}
 use Rattle.std.specs.List.{AllByRecursion, IsDistinct, cons_option, list_any}
 use Rattle.std.specs.Prelude.{◌==◌, not, filter, filter_map, find, flat_map, fold, take}
+use Rattle.iox_machine.proofs.Shorthands.{factory_of}
 use Rattle.iox_machine.specs.Choices.{Choices}
 use Rattle.iox_machine.specs.Factories.{with_open}
 use Rattle.iox_machine.specs.Message.{Loan, Sample}
 use Rattle.iox_machine.specs.NumberLaws.{GoOn, AreToldOnce, NumbersGoUp, NumbersNameOne, numbers_in, node_told, factory_told}
 use Rattle.iox_machine.specs.NumberLaws.{publisher_told, subscriber_told, loan_told, sample_told}
 use Rattle.iox_machine.specs.Phase.{Phase, Absent, BeingMade, Published, Emptied, acted, closed_by, same_pattern}
-use Rattle.iox_machine.specs.Run.{Step, Runs, factory_of}
+use Rattle.iox_machine.specs.Run.{Step, Runs}
 use Rattle.iox_machine.specs.Service.{Service, Publisher, Subscriber, new_service}
 use Rattle.iox_machine.specs.State.{State, Made, Factory, new_state, counted, is_service_of, replaced, same_name, with_phase}
 use Rattle.iox_machine.specs.Table.{contains, removed}

@@ -6,12 +6,14 @@ use Rattle.std.specs.List.{list_all}
 use Rattle.std.specs.Prelude.{◌^◌, ◌||◌, ◌==◌, nat_le, nat_lt, is_some, unwrap_or, option_map, option_and_then, fold, filter, slice_get}
 use Rattle.std.specs.Prelude.{MatchBool, drop, zip}
 use Rattle.std.specs.Option.{option_map_or}
+use Rattle.iox_machine.specs.RunLaws.{sent_as}
+use Rattle.iox_machine.proofs.Shorthands.{given_back, registered}
 use Rattle.iox_machine.specs.Choices.{Choices}
 use Rattle.iox_machine.proofs.Delivering.{Outcomes, by-outcome, first_of, offered, deliver, goes-on-so}
 use Rattle.iox_machine.specs.Arriving.{worst_case, PublisherArrives, SubscriberArrives}
-use Rattle.iox_machine.specs.Mailbox.{Mailbox, put, newest, given_back}
-use Rattle.iox_machine.specs.Message.{Message, Loan, is_written, sent_as}
-use Rattle.iox_machine.specs.PortList.{those, registered}
+use Rattle.iox_machine.specs.Mailbox.{Mailbox, put, newest}
+use Rattle.iox_machine.specs.Message.{Message, Loan, is_written}
+use Rattle.iox_machine.specs.PortList.{those}
 use Rattle.iox_machine.specs.Ports.{publisher_in, subscriber_in, LendsLoan, Puts, SendsLoan, Writes}
 use Rattle.iox_machine.specs.PublisherUpdate as publishing
 use Rattle.iox_machine.specs.Replies.{IsSkipped, IsRefused}

@@ -7,6 +7,7 @@ use Rattle.std.specs.List.{AllByRecursion, list_any, list_all}
 use Rattle.std.specs.Prelude.{◌==◌, nat_lt, nat_le, is_some, filter, find, fold, slice_get, unwrap_or, zip, MatchBool, MatchOption}
 use Rattle.std.specs.Prelude.{MatchResult}
 use Rattle.std.specs.Vec.{vec_items}
+use Rattle.iox_machine.proofs.Shorthands.{RefusesNode, factory_of, given_back, left, now_at, parting, registered, taken}
 use Rattle.iox_machine.specs.Choices.{Choices}
 use Rattle.iox_machine.proofs.AlwaysChosen.{answers-go, delivers-goes}
 use Rattle.iox_machine.proofs.Delivering.{Outcomes}
@@ -16,25 +17,25 @@ use Rattle.iox_machine.specs.Arriving.{PublisherArrives, SubscriberArrives, new_
 use Rattle.iox_machine.specs.Asked.{settings_of}
 use Rattle.iox_machine.specs.Closing.{Closes, is_used_by}
 use Rattle.iox_machine.specs.Factories.{Negotiates, Enters, CreatesService, OpensService, OpensOrCreatesService, create_refusal}
-use Rattle.iox_machine.specs.Factories.{RefusesNode, either_lacking}
+use Rattle.iox_machine.specs.Factories.{either_lacking}
 use Rattle.iox_machine.specs.GoingLaws.{EachIsAnswered, AlwaysChoose}
 use Rattle.iox_machine.specs.Lending.{Lends, LendsLonger, loan_refusal}
-use Rattle.iox_machine.specs.Mailbox.{Mailbox, has_data, newest, taken, given_back}
-use Rattle.iox_machine.specs.Message.{Message, Loan, Sample, is_written, sent_as}
+use Rattle.iox_machine.specs.Mailbox.{Mailbox, has_data, newest}
+use Rattle.iox_machine.specs.Message.{Message, Loan, Sample, is_written}
 use Rattle.iox_machine.specs.Negotiation.{Call, Answer, Creates, Opens, OpensOrCreates}
 use Rattle.iox_machine.specs.Phase.{Own, acted, closed_by, same_pattern}
-use Rattle.iox_machine.specs.PortList.{those, unless, left, registered}
+use Rattle.iox_machine.specs.PortList.{those, unless}
 use Rattle.iox_machine.specs.Ports.{AtFree, AtBlocked, publisher_in, subscriber_in, LendsLoan, Puts, SendsLoan, Writes, Releases}
 use Rattle.iox_machine.specs.PublisherUpdate as publishing
 use Rattle.iox_machine.specs.Receiving.{Receives, Takes, IsGiver, gives, has_samples, lasting}
 use Rattle.iox_machine.specs.Replies.{IsSkipped, IsRefused}
-use Rattle.iox_machine.specs.Run.{Step, AtFactory, factory_of}
-use Rattle.iox_machine.specs.RunLaws.{AllMessages}
+use Rattle.iox_machine.specs.Run.{Step, AtFactory}
+use Rattle.iox_machine.specs.RunLaws.{AllMessages, sent_as}
 use Rattle.iox_machine.specs.Sending.{GoesOn, Begins, Sends}
 use Rattle.iox_machine.specs.Service.{Service, Publisher, Subscriber, Send, with_publisher, with_subscriber, mailbox, with_mailbox, connect}
 use Rattle.iox_machine.specs.State.{State, Factory, AtOne, is_service_of, counted, replaced, same_name, with_phase}
 use Rattle.iox_machine.specs.SubscriberUpdate as subscribing
-use Rattle.iox_machine.specs.SubscriberUpdate.{Parted, now_at, parting, part, gone_from}
+use Rattle.iox_machine.specs.SubscriberUpdate.{Parted, part, gone_from}
 use Rattle.iox_machine.specs.Table.{at, changed, contains, removed}
 use Rattle.iox_machine.proofs.Cases.{both-true}
 use Rattle.iox_machine.proofs.Lists.{all-at, first-of, fold-keeps}
@@ -68,7 +69,6 @@ use Rattle.iox_command.specs.declared.reply.Reply.TheVariants as reply
 use Rattle.iox_command.specs.declared.service.ServiceOptions.{ServiceOptions}
 use Rattle.iox_command.specs.declared.service.ServiceOptions.TheVariants as options
 use Rattle.iox_command.specs.declared.step.StepBefore.{StepBefore}
-use Rattle.iox_command.specs.DomainValues.declared.backpressure.BackpressureDecision.TheVariants.{Retry}
 use Rattle.iox_command.specs.DomainValues.declared.degradation.DegradationAction.{DegradationAction}
 
 -- ---- cases

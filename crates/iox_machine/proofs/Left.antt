@@ -5,11 +5,12 @@ use Rattle.std.proofs.lemmas.Bool.{eqb-true, eq-eqb, false_from_ne_true}
 use Rattle.std.specs.List.{list_any}
 use Rattle.std.specs.Option.{option_map_or}
 use Rattle.std.specs.Prelude.{◌==◌, find, filter, fold, take, option_map}
+use Rattle.iox_machine.proofs.Shorthands.{factory_of}
 use Rattle.iox_machine.specs.Choices.{Choices}
 use Rattle.iox_machine.specs.Factories.{with_open}
 use Rattle.iox_machine.specs.IndependenceLaws.{is_factory_of, is_of, asks, AsksNothing, IsLeft, OthersAreLeft}
 use Rattle.iox_machine.specs.Phase.{Phase, same_pattern, closed_by, acted}
-use Rattle.iox_machine.specs.Run.{Step, Runs, factory_of}
+use Rattle.iox_machine.specs.Run.{Step, Runs}
 use Rattle.iox_machine.specs.Service.{Service, new_service}
 use Rattle.iox_machine.specs.State.{State, Factory, new_state, with_phase, replaced, same_name, is_service_of}
 use Rattle.iox_machine.specs.Table.{at, removed}

@@ -5,13 +5,15 @@ use Rattle.std.proofs.Common.{refl, sym, ap, subst, inl, inr, ◌∙◌}
 use Rattle.std.proofs.lemmas.Bool.{eqb-true, eqb-false, cases_Bool}
 use Rattle.std.specs.Option.{option_map_or}
 use Rattle.std.specs.Prelude.{◌==◌, nat_lt, is_some, filter, fold, slice_get, MatchBool, drop, zip}
+use Rattle.iox_machine.proofs.Shorthands.{registered}
+use Rattle.iox_machine.specs.RunLaws.{sent_as}
 use Rattle.iox_machine.specs.Choices.{Choices}
 use Rattle.iox_machine.proofs.Delivering.{Outcomes, by-outcome, first_of, offered, deliver, goes-on-so}
 use Rattle.iox_machine.specs.Arriving.{PublisherArrives}
 use Rattle.iox_machine.specs.Lending.{Lends, LendsLonger, loan_refusal}
 use Rattle.iox_machine.specs.Mailbox.{Mailbox, newest, put}
-use Rattle.iox_machine.specs.Message.{Loan, Message, is_written, sent_as}
-use Rattle.iox_machine.specs.PortList.{those, registered}
+use Rattle.iox_machine.specs.Message.{Loan, Message, is_written}
+use Rattle.iox_machine.specs.PortList.{those}
 use Rattle.iox_machine.specs.Ports.{LendsLoan, Puts, SendsLoan, Writes}
 use Rattle.iox_machine.specs.PublisherUpdate as publishing
 use Rattle.iox_machine.specs.Replies.{IsRefused, IsSkipped}

@@ -1,3 +1,4 @@
+pub mod Shorthands
 mod Skipping
 mod Overflow
 pub mod Cases

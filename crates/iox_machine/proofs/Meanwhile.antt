@@ -2,6 +2,7 @@
 use Rattle.std.proofs.Common.{◌≡◌, ◌⊎◌, ◌+◌, ℕ, zero, suc, Bool, true, false, cond, ◌&&◌, ◌||◌, List, [], ◌∷◌, ◌++◌, length, take, None}
 use Rattle.std.proofs.Common.{Some, Result, Ok, Err, refl, sym, ap, subst, inl, inr, arith, ◌∙◌, append-nil, true≢false}
 use Rattle.std.specs.Prelude.{◌==◌, nat_le, nat_lt, fold, MatchResult}
+use Rattle.iox_machine.proofs.Shorthands.{factory_of}
 use Rattle.iox_machine.specs.Choices.{Choices}
 use Rattle.iox_machine.specs.Agreement.{Agreement, unfit, event_verdict, publish_subscribe_verdict, request_response_verdict}
 use Rattle.iox_machine.specs.Asked.{settings_of}
@@ -11,7 +12,6 @@ use Rattle.iox_machine.specs.Negotiation.{EitherLooks, OpensOrCreates, registere
 use Rattle.iox_machine.specs.Phase.{Own, Phase, Absent, BeingMade, Published, Emptied, is_in, entered, acted, closed_by}
 use Rattle.iox_machine.specs.RefusalLaws.{IsAsBefore, IsLeftBySteps, RefusedCallsLeaveSteps, steps_at, steps_through}
 use Rattle.iox_machine.specs.Replies.{IsSkipped, IsRefused}
-use Rattle.iox_machine.specs.Run.{factory_of}
 use Rattle.iox_machine.specs.State.{State, Factory, new_state, with_phase}
 use Rattle.iox_machine.proofs.Cases.{by-bool, by-option, by-result}
 use Rattle.iox_machine.proofs.Unfit.{by-fitness}

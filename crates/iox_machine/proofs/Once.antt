@@ -5,21 +5,21 @@ use Rattle.std.specs.Global.{Vec}
 use Rattle.std.specs.List.{cons_option, list_any}
 use Rattle.std.specs.Prelude.{◌==◌, nat_lt, find, is_some, filter, filter_map, fold, option_and_then, option_map, take, MatchOption}
 use Rattle.std.specs.Vec.{vec_items}
+use Rattle.iox_machine.proofs.Shorthands.{factory_of, left}
 use Rattle.iox_machine.specs.Choices.{Choices}
 use Rattle.iox_machine.specs.Arriving.{PublisherArrives, SubscriberArrives, new_publisher, new_subscriber}
 use Rattle.iox_machine.specs.Factories.{with_open}
-use Rattle.iox_machine.specs.Message.{Loan, Message, Sample, sent_as, is_written}
+use Rattle.iox_machine.specs.Message.{Loan, Message, Sample, is_written}
 use Rattle.iox_machine.specs.MessageLaws.{IsPartOf, begun_by, first_in, next_message, received_from, sent_by, with_one}
 use Rattle.iox_machine.specs.NumberLaws.{loan_told, numbers_in, publisher_told}
 use Rattle.iox_machine.specs.OnceLaws.{MessagesGoOnce}
 use Rattle.iox_machine.specs.Phase.{acted, closed_by, same_pattern}
-use Rattle.iox_machine.specs.PortList.{left}
 use Rattle.iox_machine.specs.Ports.{AtFree, AtBlocked, LendsLoan, Puts, Releases, SendsLoan, Writes, publisher_in, subscriber_in}
 use Rattle.iox_machine.specs.PublisherUpdate as publishing
 use Rattle.iox_machine.specs.Receiving.{Receives, has_samples}
 use Rattle.iox_machine.specs.Replies.{IsSkipped}
-use Rattle.iox_machine.specs.Run.{AtFactory, Runs, Step, factory_of}
-use Rattle.iox_machine.specs.RunLaws.{has_begun}
+use Rattle.iox_machine.specs.Run.{AtFactory, Runs, Step}
+use Rattle.iox_machine.specs.RunLaws.{has_begun, sent_as}
 use Rattle.iox_machine.specs.Sending.{GoesOn}
 use Rattle.iox_machine.specs.Service.{Publisher, Send, Service, Subscriber, with_publisher, with_subscriber}
 use Rattle.iox_machine.specs.State.{AtOne, Factory, State, counted, is_service_of, new_state, same_name, with_phase}

@@ -4,10 +4,11 @@ use Rattle.std.proofs.Common.{set, drop, replicate, Option, None, Some, refl, sy
 use Rattle.std.proofs.lemmas.Bool.{eqb-true, eqb-false, and_cases, cases_Bool, true≢false}
 use Rattle.std.specs.List.{AllByRecursion}
 use Rattle.std.specs.Prelude.{⊤, ◌==◌, is_some, find, slice_get}
+use Rattle.iox_machine.proofs.Shorthands.{left, registered, taken}
 use Rattle.iox_machine.specs.Arriving.{SubscriberArrives, new_publisher}
-use Rattle.iox_machine.specs.Mailbox.{Mailbox, taken}
+use Rattle.iox_machine.specs.Mailbox.{Mailbox}
 use Rattle.iox_machine.specs.Message.{Message, Sample}
-use Rattle.iox_machine.specs.PortList.{PortList, those, unless, registered, left}
+use Rattle.iox_machine.specs.PortList.{PortList, those, unless}
 use Rattle.iox_machine.specs.PublisherUpdate as publishing
 use Rattle.iox_machine.specs.Receiving.{Takes}
 use Rattle.iox_machine.specs.Service.{Service, Publisher, Subscriber, with_subscriber, mailbox, with_mailbox}

@@ -5,12 +5,12 @@ use Rattle.std.proofs.lemmas.Bool.{eqb-true, eqb-false, and_from, and_right, cas
 use Rattle.std.specs.List.{AllByRecursion}
 use Rattle.std.specs.Prelude.{⊤, ◌==◌, is_some, find, option_map, option_and_then, MatchBool, MatchOption}
 use Rattle.iox_machine.specs.Choices.{Choices}
-use Rattle.iox_machine.specs.Message.{Message, Loan, Sample, is_written, sent_as}
+use Rattle.iox_machine.specs.Message.{Message, Loan, Sample, is_written}
 use Rattle.iox_machine.specs.MessageLaws.{first_in, next_message, begun_by, received_by}
 use Rattle.iox_machine.specs.Ports.{publisher_in, subscriber_in, Puts, SendsLoan}
 use Rattle.iox_machine.specs.Receiving.{Receives, has_samples, lasting}
 use Rattle.iox_machine.specs.Replies.{IsSkipped}
-use Rattle.iox_machine.specs.RunLaws.{BeginsToSend, has_begun}
+use Rattle.iox_machine.specs.RunLaws.{BeginsToSend, has_begun, sent_as}
 use Rattle.iox_machine.specs.Sending.{Sends}
 use Rattle.iox_machine.specs.Service.{Service, Publisher, Subscriber, Send, with_subscriber}
 use Rattle.iox_machine.specs.State.{State, Made, replaced, counted}

@@ -2,9 +2,10 @@
 use Rattle.std.proofs.Common.{◌≡◌, ◌≤◌, ℕ, List, [], ◌∷◌, length, None, Some, Option, refl, sym, ap, subst, inl, inr, arith, ◌∙◌}
 use Rattle.std.proofs.lemmas.List.{length-replicate}
 use Rattle.std.specs.List.{AllByRecursion}
+use Rattle.iox_machine.proofs.Shorthands.{factory_of}
 use Rattle.iox_machine.specs.Choices.{Choices}
 use Rattle.iox_machine.specs.PortList.{those}
-use Rattle.iox_machine.specs.Run.{Runs, Step, factory_of}
+use Rattle.iox_machine.specs.Run.{Runs, Step}
 use Rattle.iox_machine.specs.Service.{Service, new_service}
 use Rattle.iox_machine.specs.State.{Made, State}
 use Rattle.iox_machine.proofs.Kept.{Kept}

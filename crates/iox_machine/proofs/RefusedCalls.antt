@@ -1,9 +1,9 @@
 -- A call that is refused changes nothing but the phase of its pattern and name.
 use Rattle.std.proofs.Common.{◌≡◌, ◌⊎◌, ◌+◌, ℕ, Bool, true, false, List, refl, ap, subst, inl, inr, ◌∙◌, true≢false}
 use Rattle.std.specs.Prelude.{fold, take}
+use Rattle.iox_machine.proofs.Shorthands.{factory_of}
 use Rattle.iox_machine.specs.Choices.{Choices}
 use Rattle.iox_machine.specs.Phase.{Phase, acted}
-use Rattle.iox_machine.specs.Run.{factory_of}
 use Rattle.iox_machine.specs.RunLaws.{RefusedCallsLeaveServices}
 use Rattle.iox_machine.specs.State.{Factory, State, with_phase}
 use Rattle.iox_machine.proofs.Moving.{IsNegotiated, creates, opens, opens-or-creates}

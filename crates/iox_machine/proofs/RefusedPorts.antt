@@ -3,10 +3,11 @@ use Rattle.std.proofs.Common.{◌≡◌, ◌+◌, ℕ, Bool, true, false, cond, 
 use Rattle.std.proofs.Common.{ap, subst, inl, inr, ◌∙◌, true≢false}
 use Rattle.std.specs.Option.{option_map_or}
 use Rattle.std.specs.Prelude.{◌==◌, find, is_some, nat_lt, option_map, slice_get, MatchBool, MatchOption, zip}
+use Rattle.iox_machine.specs.RunLaws.{sent_as}
 use Rattle.iox_machine.specs.Choices.{Choices}
 use Rattle.iox_machine.proofs.Delivering.{Outcomes, by-outcome}
 use Rattle.iox_machine.specs.Lending.{Lends, LendsLonger, loan_refusal}
-use Rattle.iox_machine.specs.Message.{Loan, Message, is_written, sent_as}
+use Rattle.iox_machine.specs.Message.{Loan, Message, is_written}
 use Rattle.iox_machine.specs.PortList.{those}
 use Rattle.iox_machine.specs.Ports.{AtFree, Puts, SendsLoan, publisher_in, subscriber_in}
 use Rattle.iox_machine.specs.PublisherUpdate as publishing

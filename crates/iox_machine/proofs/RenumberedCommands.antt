@@ -3,6 +3,7 @@ use Rattle.std.proofs.Common.{◌≡◌, ◌+◌, ℕ, ◌&&◌, length, map, se
 use Rattle.std.specs.Global.{Vec}
 use Rattle.std.specs.Prelude.{◌==◌, nat_le, nat_lt}
 use Rattle.std.specs.Vec.{vec_items}
+use Rattle.iox_machine.proofs.Shorthands.{factory_of, left}
 use Rattle.iox_machine.specs.Choices.{Choices}
 use Rattle.iox_machine.specs.Arriving.{PublisherArrives, SubscriberArrives, new_publisher, new_subscriber}
 use Rattle.iox_machine.specs.Asked.{settings_of}
@@ -11,12 +12,11 @@ use Rattle.iox_machine.specs.Factories.{create_refusal}
 use Rattle.iox_machine.specs.Message.{Loan, Sample, is_written}
 use Rattle.iox_machine.specs.Negotiation.{Creates}
 use Rattle.iox_machine.specs.Phase.{Own}
-use Rattle.iox_machine.specs.PortList.{left}
 use Rattle.iox_machine.specs.Ports.{LendsLoan, Puts, SendsLoan, Writes, Releases}
 use Rattle.iox_machine.specs.PublisherUpdate as publishing
 use Rattle.iox_machine.specs.Receiving.{Receives, has_samples}
 use Rattle.iox_machine.specs.Renaming.{renamed}
-use Rattle.iox_machine.specs.Run.{Step, factory_of}
+use Rattle.iox_machine.specs.Run.{Step}
 use Rattle.iox_machine.specs.Sending.{GoesOn}
 use Rattle.iox_machine.specs.Service.{Service, Publisher, Subscriber, Send, with_publisher, with_subscriber}
 use Rattle.iox_machine.specs.State.{State, Made}

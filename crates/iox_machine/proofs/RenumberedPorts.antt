@@ -4,11 +4,13 @@ use Rattle.std.proofs.Common.{refl, sym, ap, ap₂, subst, inl, inr, ◌∙◌}
 use Rattle.std.proofs.lemmas.List.{map-append, map-set}
 use Rattle.std.specs.List.{list_all}
 use Rattle.std.specs.Prelude.{nat_lt, nat_le, option_map, is_some, slice_get, replicate, MatchBool}
+use Rattle.iox_machine.specs.RunLaws.{sent_as}
+use Rattle.iox_machine.proofs.Shorthands.{given_back, left, registered}
 use Rattle.iox_machine.specs.Choices.{Choices}
 use Rattle.iox_machine.specs.Arriving.{worst_case, new_publisher, new_subscriber, PublisherArrives, SubscriberArrives}
-use Rattle.iox_machine.specs.Mailbox.{Mailbox, given_back}
-use Rattle.iox_machine.specs.Message.{Loan, Sample, is_written, sent_as}
-use Rattle.iox_machine.specs.PortList.{PortList, registered, left}
+use Rattle.iox_machine.specs.Mailbox.{Mailbox}
+use Rattle.iox_machine.specs.Message.{Loan, Sample, is_written}
+use Rattle.iox_machine.specs.PortList.{PortList}
 use Rattle.iox_machine.specs.Ports.{LendsLoan, Puts, SendsLoan, Writes, Releases}
 use Rattle.iox_machine.specs.PublisherUpdate as publishing
 use Rattle.iox_machine.specs.Replies.{IsSkipped, IsRefused}

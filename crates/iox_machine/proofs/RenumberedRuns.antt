@@ -3,11 +3,12 @@ use Rattle.std.proofs.Common.{◌≡◌, ◌≤◌, ◌<◌, ◌+◌, ℕ, Bool,
 use Rattle.std.proofs.Common.{arith, ◌∙◌, true≢false, eq-or-lt_of_le}
 use Rattle.std.proofs.lemmas.Bool.{eqb-true, eq-eqb, ne_eqb}
 use Rattle.std.specs.Prelude.{◌==◌, filter}
+use Rattle.iox_machine.proofs.Shorthands.{factory_of}
 use Rattle.iox_machine.specs.Choices.{Choices}
 use Rattle.iox_machine.specs.IndependenceLaws.{is_of, concerns, commands_concerning, answers_concerning, NumbersAreCountedAnew}
 use Rattle.iox_machine.specs.NumberLaws.{node_told}
 use Rattle.iox_machine.specs.Renaming.{IsOneToOne, renamed}
-use Rattle.iox_machine.specs.Run.{Step, Runs, factory_of}
+use Rattle.iox_machine.specs.Run.{Step, Runs}
 use Rattle.iox_machine.specs.State.{State, Made, Factory, new_state, counted}
 use Rattle.iox_machine.proofs.Agreed.{step-stands, new-stands}
 use Rattle.iox_machine.proofs.Alone.{own_of, own-phase, own-left, own-step, left-asks, own-new}

@@ -4,11 +4,12 @@ use Rattle.std.proofs.Common.{drop, Option, None, Some, refl, sym, ap, subst, in
 use Rattle.std.proofs.lemmas.Bool.{eq-eqb, eqb-false, eqb-true, leb-false, or_right}
 use Rattle.std.specs.Option.{option_map_or}
 use Rattle.std.specs.Prelude.{◌==◌, find, is_some, nat_le, slice_get, unwrap_or, MatchBool, MatchOption, zip}
+use Rattle.iox_machine.specs.RunLaws.{sent_as}
 use Rattle.iox_machine.specs.Choices.{Choices}
 use Rattle.iox_machine.proofs.Delivering.{Outcomes, by-outcome}
 use Rattle.iox_machine.specs.Sending.{Delivers, MayDecide}
 use Rattle.iox_machine.specs.Mailbox.{Mailbox, newest, put}
-use Rattle.iox_machine.specs.Message.{Loan, Message, is_written, sent_as}
+use Rattle.iox_machine.specs.Message.{Loan, Message, is_written}
 use Rattle.iox_machine.specs.PortList.{those}
 use Rattle.iox_machine.specs.Ports.{Puts, SendsLoan, publisher_in}
 use Rattle.iox_machine.specs.PublisherUpdate as publishing

@@ -6,6 +6,7 @@ use Rattle.std.proofs.lemmas.List.{length-map}
 use Rattle.std.specs.List.{AllByRecursion, cons_option, list_all}
 use Rattle.std.specs.Option.{option_map_or}
 use Rattle.std.specs.Prelude.{◌==◌, nat_lt, max, is_some, option_map, option_and_then, filter, find, fold, zip, unwrap_or, MatchOption}
+use Rattle.iox_machine.proofs.Shorthands.{now_at, parting}
 use Rattle.iox_machine.specs.Choices.{Choices}
 use Rattle.iox_machine.proofs.Delivering.{Outcomes, by-outcome}
 use Rattle.iox_machine.specs.PublisherUpdate.{UpdateAnswers}
@@ -18,7 +19,7 @@ use Rattle.iox_machine.specs.Replies.{IsSkipped, IsRefused}
 use Rattle.iox_machine.specs.Service.{Service, Publisher, Subscriber, with_publisher, with_subscriber, mailbox, with_mailbox, connect}
 use Rattle.iox_machine.specs.State.{State, AtOne, replaced}
 use Rattle.iox_machine.specs.SubscriberUpdate as subscribing
-use Rattle.iox_machine.specs.SubscriberUpdate.{Parted, is_unborrowed, now_at, part, parting, room_for}
+use Rattle.iox_machine.specs.SubscriberUpdate.{Parted, is_unborrowed, part, room_for}
 use Rattle.iox_machine.specs.Table.{at, changed, contains}
 use Rattle.iox_machine.specs.UpdateLaws.{IsFollowed, IsFollowedOrStays, PublisherIsUpdated, SubscriberIsUpdated}
 use Rattle.iox_machine.proofs.Cases.{by-bool, by-option, same-some, never-some, chosen, both-true}

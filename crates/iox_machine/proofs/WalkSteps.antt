@@ -5,17 +5,17 @@ use Rattle.std.specs.Global.{Vec}
 use Rattle.std.specs.List.{list_all, list_any}
 use Rattle.std.specs.Prelude.{◌^◌, ◌==◌, nat_le, nat_lt, is_some, filter, find, fold, slice_get, take, MatchBool, MatchOption}
 use Rattle.std.specs.Vec.{vec_items}
+use Rattle.iox_machine.proofs.Shorthands.{factory_of, left, registered}
 use Rattle.iox_machine.specs.Choices.{Choices}
 use Rattle.iox_machine.specs.Arriving.{PublisherArrives, SubscriberArrives, new_publisher, new_subscriber, worst_case}
 use Rattle.iox_machine.specs.Factories.{with_open}
 use Rattle.iox_machine.specs.Message.{Loan, Sample, is_written}
 use Rattle.iox_machine.specs.Phase.{Phase, acted, same_pattern}
-use Rattle.iox_machine.specs.PortList.{left, registered}
 use Rattle.iox_machine.specs.Ports.{AtFree, AtBlocked, LendsLoan, Puts, Releases, SendsLoan, Writes, publisher_in, subscriber_in}
 use Rattle.iox_machine.specs.PublisherUpdate as publishing
 use Rattle.iox_machine.specs.Receiving.{Receives, has_samples}
 use Rattle.iox_machine.specs.Replies.{IsRefused, IsSkipped}
-use Rattle.iox_machine.specs.Run.{AtFactory, Step, factory_of}
+use Rattle.iox_machine.specs.Run.{AtFactory, Step}
 use Rattle.iox_machine.specs.Sending.{GoesOn}
 use Rattle.iox_machine.specs.Service.{Publisher, Send, Service, Subscriber, with_publisher, with_subscriber}
 use Rattle.iox_machine.specs.State.{AtOne, Factory, Made, State, counted, is_service_of, replaced, same_name, with_phase}

@@ -2,11 +2,13 @@
 use Rattle.std.proofs.Common.{◌≡◌, ◌+◌, ℕ, Bool, true, false, cond, not, ◌&&◌, List, [], ◌∷◌, ◌++◌, Option, None, Some, refl, sym, ap}
 use Rattle.std.proofs.Common.{subst, inl, inr, ◌∙◌}
 use Rattle.std.specs.Prelude.{◌==◌, nat_lt, length, is_some, replicate, slice_get, MatchBool, drop, zip}
+use Rattle.iox_machine.specs.RunLaws.{sent_as}
+use Rattle.iox_machine.proofs.Shorthands.{given_back, taken}
 use Rattle.iox_machine.specs.Choices.{Choices}
 use Rattle.iox_machine.proofs.Delivering.{Outcomes, by-outcome, first_of, offered, deliver, goes-on-so}
 use Rattle.iox_machine.specs.Lending.{Lends, LendsLonger, loan_refusal}
-use Rattle.iox_machine.specs.Mailbox.{Mailbox, given_back, newest, put, taken}
-use Rattle.iox_machine.specs.Message.{Loan, Message, Sample, is_written, sent_as}
+use Rattle.iox_machine.specs.Mailbox.{Mailbox, newest, put}
+use Rattle.iox_machine.specs.Message.{Loan, Message, Sample, is_written}
 use Rattle.iox_machine.specs.PortList.{those}
 use Rattle.iox_machine.specs.Ports.{LendsLoan, Puts, Releases, SendsLoan, Writes}
 use Rattle.iox_machine.specs.PublisherUpdate as publishing

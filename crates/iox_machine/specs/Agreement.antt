@@ -1,22 +1,27 @@
 -- What the nodes of a service agree on, and whether that can be and is as it was asked for.
-use Rattle.std.specs.Prelude.{◌^◌, Bool, not, ◌&&◌, nat_lt, List, Option, None, Some, Result, if◌then◌else◌}
-use Rattle.iox_machine.specs.Asked.{asked_event, asked_publish_subscribe, asked_request_response}
+use Rattle.std.specs.Prelude.{ℕ, ◌^◌, Bool, true, false, not, ◌&&◌, ◌==◌, nat_eq, nat_lt, nat_le, List, [], ◌∷◌, Option, None, Some}
+use Rattle.std.specs.Prelude.{Result, Ok, Err, if◌then◌else◌}
+use Rattle.std.specs.Cmp.Lexicographic.{pointwise}
+use Rattle.std.specs.List.{list_any, list_all}
 use Rattle.iox_command.specs.NegotiateBase.DescribeBase.Attributes.{Required}
+use Rattle.iox_command.specs.NegotiateBase.DescribeBase.Compatible.{is_compatible}
 use Rattle.iox_command.specs.NegotiateBase.DescribeBase.declared.attribute.Attribute.{Attribute}
 use Rattle.iox_command.specs.NegotiateBase.DescribeBase.declared.message_type.MessageTypeDetails.{MessageTypeDetails}
 use Rattle.iox_command.specs.NegotiateBase.DescribeSettings.declared.static_config.Settings.{Settings}
 use Rattle.iox_command.specs.NegotiateBase.DescribeSettings.declared.static_config.Settings.TheVariants as settings
-use Rattle.iox_command.specs.NegotiateBase.DescribeVerdict.EventClauses as event_clauses
-use Rattle.iox_command.specs.NegotiateBase.DescribeVerdict.PublishSubscribeClauses as publish_subscribe_clauses
-use Rattle.iox_command.specs.NegotiateBase.DescribeVerdict.RequestResponseClauses as request_response_clauses
-use Rattle.iox_command.specs.NegotiateBase.DescribeVerdict.Verdict.{first_unmet}
 use Rattle.iox_command.specs.NegotiateBase.DescribeVerdict.declared.requirement.event.ClauseError.{ClauseError as EventClause}
+use Rattle.iox_command.specs.NegotiateBase.DescribeVerdict.declared.requirement.event.ClauseError.TheVariants as event
 use Rattle.iox_command.specs.NegotiateBase.DescribeVerdict.declared.requirement.publish_subscribe.ClauseError.{ClauseError as PublishSubscribeClause}
+use Rattle.iox_command.specs.NegotiateBase.DescribeVerdict.declared.requirement.publish_subscribe.ClauseError.TheVariants as
+    publish_subscribe
 use Rattle.iox_command.specs.NegotiateBase.DescribeVerdict.declared.requirement.request_response.ClauseError.{ClauseError as RequestResponseClause}
+use Rattle.iox_command.specs.NegotiateBase.DescribeVerdict.declared.requirement.request_response.ClauseError.TheVariants as request_response
 use Rattle.iox_command.specs.NegotiateBase.declared.failure.CreateFailure.{CreateFailure}
 use Rattle.iox_command.specs.NegotiateBase.declared.failure.CreateFailure.TheVariants.{InternalFailure}
 use Rattle.iox_command.specs.NegotiateBase.declared.failure.CreateFailure.TheVariants.{SubscriberBufferMustBeLargerThanHistorySize}
 use Rattle.iox_command.specs.declared.service.EventOptions.{EventOptions}
+use Rattle.iox_command.specs.declared.service.NumberOrOff.{NumberOrOff}
+use Rattle.iox_command.specs.declared.service.NumberOrOff.TheVariants.{Number, Off}
 use Rattle.iox_command.specs.declared.service.PublishSubscribeOptions.{PublishSubscribeOptions}
 use Rattle.iox_command.specs.declared.service.RequestResponseOptions.{RequestResponseOptions}
 
@@ -43,18 +48,116 @@ unfit (settings.PublishSubscribe c) =
     then Some SubscriberBufferMustBeLargerThanHistorySize else None)
 unfit other = if are_within_limits other then None else Some InternalFailure
 
--- whether a publish-subscribe service meets what is asked of it, or the first clause that it doesn't meet
+-- whether a number is at least what is named, if something is
+abbrev pub is_enough : Option ℕ → ℕ → Bool
+is_enough None given = true
+is_enough (Some least) given = nat_le least given
+
+-- whether a switch is as it is named, if it is
+abbrev pub is_switched : Option Bool → Bool → Bool
+is_switched None given = true
+is_switched (Some true) given = given
+is_switched (Some false) given = not given
+
+-- whether a setting that may be off is as it is named, if it is
+abbrev pub is_as_named : Option NumberOrOff → Option ℕ → Bool
+is_as_named None given = true
+is_as_named (Some (Number number)) (Some given) = number == given
+is_as_named (Some Off) None = true
+is_as_named named given = false
+
+-- whether attributes have all that is required of them: each pair, and each key with some value
+abbrev pub have_required : Required → List Attribute → Bool
+have_required required attributes =
+    list_all (λ pair. list_any (λ one. pointwise nat_eq one.key pair.key && pointwise nat_eq one.value pair.value) attributes)
+    required.pairs
+    && list_all (λ key. list_any (λ one. pointwise nat_eq one.key key) attributes) required.keys
+
+-- what clauses come to, each with whether it is met: that all are, or the first that isn't
+abbrev pub verdict_on : {E : Type 0} → List (Bool × E) → Result (Unit {0}) E
+verdict_on [] = Ok tt
+verdict_on (clause ∷ more) = if clause.0 then verdict_on more else Err clause.1
+
+-- whether a service meets what is asked of a publish-subscribe service, or the first clause that it doesn't meet; its pattern comes first
 abbrev pub publish_subscribe_verdict : MessageTypeDetails → Required → PublishSubscribeOptions → Agreement → Result
     (Unit {0}) PublishSubscribeClause
 publish_subscribe_verdict types required named agreed =
-    first_unmet (publish_subscribe_clauses.clauses_of (asked_publish_subscribe types required named) agreed.attributes agreed.settings)
+    elim agreed.settings [
+      | settings.PublishSubscribe c ↦ verdict_on ((is_compatible types c.types, publish_subscribe.IncompatibleTypes)
+          ∷ (have_required required agreed.attributes, publish_subscribe.IncompatibleAttributes)
+          ∷ (is_switched named.enable_safe_overflow c.enable_safe_overflow, publish_subscribe.IncompatibleOverflowBehavior)
+          ∷ (is_enough named.max_publishers c.max_publishers, publish_subscribe.DoesNotSupportRequestedAmountOfPublishers)
+          ∷ (is_enough named.max_subscribers c.max_subscribers, publish_subscribe.DoesNotSupportRequestedAmountOfSubscribers)
+          ∷ (
+            is_enough named.subscriber_max_buffer_size c.subscriber_max_buffer_size,
+            publish_subscribe.DoesNotSupportRequestedMinBufferSize,
+          )
+          ∷ (is_enough named.history_size c.history_size, publish_subscribe.DoesNotSupportRequestedMinHistorySize)
+          ∷ (
+            is_enough named.subscriber_max_borrowed_samples c.subscriber_max_borrowed_samples,
+            publish_subscribe.DoesNotSupportRequestedMinSubscriberBorrowedSamples,
+          )
+          ∷ (is_enough named.max_nodes c.max_nodes, publish_subscribe.DoesNotSupportRequestedAmountOfNodes) ∷ [])
+      | settings.Event c ↦ Err publish_subscribe.IncompatibleMessagingPattern
+      | settings.RequestResponse c ↦ Err publish_subscribe.IncompatibleMessagingPattern
+    ]
 
--- so of an event service
+-- so of what is asked of an event service
 abbrev pub event_verdict : Required → EventOptions → Agreement → Result (Unit {0}) EventClause
-event_verdict required named agreed = first_unmet (event_clauses.clauses_of (asked_event required named) agreed.attributes agreed.settings)
+event_verdict required named agreed =
+    elim agreed.settings [
+      | settings.PublishSubscribe c ↦ Err event.IncompatibleMessagingPattern
+      | settings.Event c ↦ verdict_on ((have_required required agreed.attributes, event.IncompatibleAttributes)
+          ∷ (is_as_named named.deadline c.deadline, event.IncompatibleDeadline)
+          ∷ (is_enough named.max_notifiers c.max_notifiers, event.DoesNotSupportRequestedAmountOfNotifiers)
+          ∷ (is_enough named.max_listeners c.max_listeners, event.DoesNotSupportRequestedAmountOfListeners)
+          ∷ (is_enough named.event_id_max_value c.event_id_max_value, event.DoesNotSupportRequestedMaxEventId)
+          ∷ (is_as_named named.notifier_created_event c.notifier_created_event, event.IncompatibleNotifierCreatedEvent)
+          ∷ (is_as_named named.notifier_dropped_event c.notifier_dropped_event, event.IncompatibleNotifierDroppedEvent)
+          ∷ (is_as_named named.notifier_dead_event c.notifier_dead_event, event.IncompatibleNotifierDeadEvent)
+          ∷ (is_enough named.max_nodes c.max_nodes, event.DoesNotSupportRequestedAmountOfNodes) ∷ [])
+      | settings.RequestResponse c ↦ Err event.IncompatibleMessagingPattern
+    ]
 
--- so of a request-response service
+-- so of what is asked of a request-response service
 abbrev pub request_response_verdict : MessageTypeDetails → Required → RequestResponseOptions → Agreement → Result
     (Unit {0}) RequestResponseClause
 request_response_verdict types required named agreed =
-    first_unmet (request_response_clauses.clauses_of (asked_request_response types required named) agreed.attributes agreed.settings)
+    elim agreed.settings [
+      | settings.PublishSubscribe c ↦ Err request_response.IncompatibleMessagingPattern
+      | settings.Event c ↦ Err request_response.IncompatibleMessagingPattern
+      | settings.RequestResponse c ↦ verdict_on ((is_compatible types c.request_types, request_response.IncompatibleRequestType)
+          ∷ (is_compatible types c.response_types, request_response.IncompatibleResponseType)
+          ∷ (have_required required agreed.attributes, request_response.IncompatibleAttributes)
+          ∷ (
+            is_switched named.enable_safe_overflow_for_requests c.enable_safe_overflow_for_requests,
+            request_response.IncompatibleOverflowBehaviorForRequests,
+          )
+          ∷ (
+            is_switched named.enable_safe_overflow_for_responses c.enable_safe_overflow_for_responses,
+            request_response.IncompatibleOverflowBehaviorForResponses,
+          )
+          ∷ (
+            is_switched named.enable_fire_and_forget_requests c.enable_fire_and_forget_requests,
+            request_response.IncompatibleBehaviorForFireAndForgetRequests,
+          )
+          ∷ (
+            is_enough named.max_loaned_requests c.max_loaned_requests,
+            request_response.DoesNotSupportRequestedAmountOfClientRequestLoans,
+          )
+          ∷ (
+            is_enough named.max_active_requests_per_client c.max_active_requests_per_client,
+            request_response.DoesNotSupportRequestedAmountOfActiveRequestsPerClient,
+          )
+          ∷ (
+            is_enough named.max_response_buffer_size c.max_response_buffer_size,
+            request_response.DoesNotSupportRequestedResponseBufferSize,
+          )
+          ∷ (is_enough named.max_servers c.max_servers, request_response.DoesNotSupportRequestedAmountOfServers)
+          ∷ (is_enough named.max_clients c.max_clients, request_response.DoesNotSupportRequestedAmountOfClients)
+          ∷ (
+            is_enough named.max_borrowed_responses_per_pending_response c.max_borrowed_responses_per_pending_response,
+            request_response.DoesNotSupportRequestedAmountOfBorrowedResponsesPerPendingResponse,
+          )
+          ∷ (is_enough named.max_nodes c.max_nodes, request_response.DoesNotSupportRequestedAmountOfNodes) ∷ [])
+    ]

@@ -1,8 +1,8 @@
 -- How publishers and subscribers come.
-use Rattle.std.specs.Prelude.{ℕ, ◌+◌, ◌*◌, ◌^◌, ◌≡◌, ◌⊎◌, ◌||◌, true, false, nat_lt, nat_le, min, max, [], ◌∷◌, ◌++◌, replicate}
+use Rattle.std.specs.Prelude.{ℕ, ◌+◌, ◌*◌, ◌^◌, ◌≡◌, ◌⊎◌, ◌||◌, true, false, nat_lt, nat_le, min, max, [], ◌∷◌, ◌++◌, replicate, set}
 use Rattle.std.specs.Prelude.{slice_get, None, Some, is_some, unwrap_or, MatchBool}
 use Rattle.std.specs.List.{list_all}
-use Rattle.iox_machine.specs.PortList.{registered}
+use Rattle.iox_machine.specs.PortList.{relisted}
 use Rattle.iox_machine.specs.PublisherUpdate as publishing
 use Rattle.iox_machine.specs.Service.{Service, Publisher, Subscriber}
 use Rattle.iox_machine.specs.SubscriberUpdate as subscribing
@@ -74,7 +74,8 @@ module _ {T : Type 0} where
       ((IsRefused (refusal.Publisher publisher_error.UnableToCreateDataSegment) old answer new)
       ⊎ ((place : ℕ) × (slice_get old.publisher_list.places place ≡ Some None) × (after : Publisher T) × (mid : Service T)
       × publishing.Follows number publisher (record old { publishers = old.publishers ++ (number, publisher) ∷ [] }) after mid
-      × (answer ≡ reply.PublisherMade number) × (new ≡ record mid { publisher_list = registered place number mid.publisher_list }))))
+      × (answer ≡ reply.PublisherMade number)
+      × (new ≡ record mid { publisher_list = relisted (set mid.publisher_list.places place (Some number)) mid.publisher_list }))))
 
   -- A subscriber comes: it follows the list of publishers, and registers at any free place. It is refused where more may wait for it than
   -- the service allows, then where no place is free, then for want of memory. A connection that fails doesn't keep it from coming.
@@ -87,4 +88,5 @@ module _ {T : Type 0} where
       ((IsRefused (refusal.Subscriber subscriber_error.OutOfMemory) old answer new)
       ⊎ ((place : ℕ) × (slice_get old.subscriber_list.places place ≡ Some None) × (after : Subscriber) × (mid : Service T)
       × subscribing.Follows buffer number subscriber (record old { subscribers = old.subscribers ++ (number, subscriber) ∷ [] }) after mid
-      × (answer ≡ reply.SubscriberMade number) × (new ≡ record mid { subscriber_list = registered place number mid.subscriber_list }))))
+      × (answer ≡ reply.SubscriberMade number)
+      × (new ≡ record mid { subscriber_list = relisted (set mid.subscriber_list.places place (Some number)) mid.subscriber_list }))))

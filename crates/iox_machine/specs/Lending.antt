@@ -1,10 +1,11 @@
 -- How a publisher lends.
-use Rattle.std.specs.Prelude.{ℕ, ◌+◌, ◌≡◌, ◌⊎◌, Bool, true, false, ◌&&◌, ◌==◌, nat_lt, nat_le, List, [], ◌∷◌, ◌++◌, length, map, filter}
+use Rattle.std.specs.Prelude.{ℕ, ◌+◌, ◌^◌, ◌<◌, ◌≡◌, ◌⊎◌, Bool, true, false, ◌&&◌, ◌==◌, nat_lt, nat_le, List, [], ◌∷◌, ◌++◌, length, map}
+use Rattle.std.specs.Prelude.{filter}
 use Rattle.std.specs.Prelude.{flat_map, Option, None, Some, MatchBool, MatchOption, if◌then◌else◌}
+use Rattle.std.specs.Int.{IsNextPowerOfTwo}
 use Rattle.iox_machine.specs.Message.{Loan}
 use Rattle.iox_machine.specs.Service.{Service, Publisher, mailbox}
 use Rattle.iox_machine.specs.Table.{contains}
-use Rattle.iox_command.specs.DomainValues.Segments.{SegmentLength}
 use Rattle.iox_command.specs.DomainValues.declared.data_segment.AllocationStrategy.{AllocationStrategy}
 use Rattle.iox_command.specs.DomainValues.declared.data_segment.AllocationStrategy.TheVariants.{BestFit, PowerOfTwo, Static}
 use Rattle.iox_command.specs.DomainValues.declared.port_error.LoanError.{LoanError}
@@ -21,6 +22,13 @@ is_static BestFit = false
 is_static PowerOfTwo = false
 is_static Static = true
 
+-- For how many values a new segment has room, where a loan is longer than the current one allows: for just as many, or for the least power
+-- of two that is at least as many.
+abbrev pub IsRoomFor : AllocationStrategy → ℕ → ℕ → Type 0
+IsRoomFor BestFit values room = room ≡ values
+IsRoomFor PowerOfTwo values room = IsNextPowerOfTwo values room
+IsRoomFor Static values room = ⊥
+
 module _ {T : Type 0} (number : ℕ) where
   -- the loans of a publisher that are out
   abbrev pub loans_of : Service T → List (Loan T)
@@ -35,12 +43,13 @@ module _ {T : Type 0} (number : ℕ) where
       (publisher.history ++ flat_map (λ entry. (mailbox number entry.0 service).waiting ++
       (mailbox number entry.0 service).borrowed) service.subscribers)
 
-  -- A loan that is longer than the current segment allows opens a new one, if there are fewer than 255 and the length is allowed; or no
-  -- memory is found.
+  -- A loan that is longer than the current segment allows opens a new one, if there are fewer than 255 and it has room for fewer than 2^32
+  -- values; or no memory is found.
   abbrev pub LendsLonger : ℕ → Publisher T → Option LoanError → Publisher T → Type 0
   LendsLonger values publisher refusal after =
       ((refusal ≡ Some OutOfMemory) × (after ≡ publisher))
-      ⊎ ((room : ℕ) × SegmentLength publisher.allocation values (Some room) × (nat_lt publisher.segments 255 ≡ true) × (refusal ≡ None)
+      ⊎ ((room : ℕ) × (IsRoomFor publisher.allocation values room × (room < 2 ^ 32)) × (nat_lt publisher.segments 255 ≡ true)
+      × (refusal ≡ None)
       × (after ≡ record publisher { room = room; segments = publisher.segments + 1; first = publisher.next; next = publisher.next + 1 }))
 
   -- Why a loan of so many values is refused, but for want of memory: one that is too long, then where as many loans are out as may be,

@@ -1,5 +1,5 @@
 -- The mailbox of a connection.
-use Rattle.std.specs.Prelude.{ℕ, ◌-◌, Bool, not, ◌&&◌, ◌==◌, nat_le, nat_lt, List, [], ◌∷◌, ◌++◌, length, take, drop, filter, Option}
+use Rattle.std.specs.Prelude.{ℕ, ◌-◌, Bool, not, ◌&&◌, ◌==◌, nat_le, nat_lt, List, [], ◌∷◌, ◌++◌, length, drop, Option}
 use Rattle.std.specs.Prelude.{None, Some, if◌then◌else◌}
 use Rattle.iox_machine.specs.Message.{Message}
 
@@ -28,11 +28,3 @@ module _ {T : Type 0} where
   put overflows message box =
       if not overflows && nat_le box.limit (length box.waiting) then None
       else Some (record box { waiting = newest box.limit (box.waiting ++ message ∷ []) })
-
-  -- the oldest message that waits is borrowed
-  abbrev pub taken : Mailbox T → Mailbox T
-  taken box = record box { waiting = drop 1 box.waiting; borrowed = box.borrowed ++ take 1 box.waiting }
-
-  -- a borrowed message is given back
-  abbrev pub given_back : ℕ → Mailbox T → Mailbox T
-  given_back number box = record box { borrowed = filter (λ message. not (message.number == number)) box.borrowed }

@@ -6,11 +6,11 @@ use Rattle.std.specs.List.{list_any}
 use Rattle.std.specs.Vec.{vec_items}
 use Rattle.iox_machine.specs.Choices.{Choices, as_named}
 use Rattle.iox_machine.specs.Laws.{number_types, plain_publisher, unnamed}
-use Rattle.iox_machine.specs.Message.{Message, sent_as}
+use Rattle.iox_machine.specs.Message.{Message}
 use Rattle.iox_machine.specs.PortList.{those}
 use Rattle.iox_machine.specs.Ports.{publisher_in, subscriber_in}
 use Rattle.iox_machine.specs.Run.{Answers, Step, Runs}
-use Rattle.iox_machine.specs.RunLaws.{BeginsToSend, has_begun}
+use Rattle.iox_machine.specs.RunLaws.{BeginsToSend, has_begun, sent_as}
 use Rattle.iox_machine.specs.Service.{Service, Publisher, Subscriber, mailbox}
 use Rattle.iox_machine.specs.State.{State, new_state}
 use Rattle.iox_machine.specs.Table.{at, contains}

@@ -1,11 +1,11 @@
 -- How a subscriber receives.
-use Rattle.std.specs.Prelude.{ℕ, ◌≡◌, Bool, true, false, ◌&&◌, nat_lt, List, [], ◌∷◌, ◌++◌, length, find, slice_get, Option, None, Some}
-use Rattle.std.specs.Prelude.{MatchOption, if◌then◌else◌}
+use Rattle.std.specs.Prelude.{ℕ, ◌≡◌, Bool, true, false, ◌&&◌, nat_lt, List, [], ◌∷◌, ◌++◌, length, take, drop, find, slice_get, Option}
+use Rattle.std.specs.Prelude.{None, Some, MatchOption, if◌then◌else◌}
 use Rattle.std.specs.Global.{Vec}
 use Rattle.std.specs.List.{list_any}
 use Rattle.std.specs.Vec.{vec_items}
 use Rattle.iox_machine.specs.Message.{Message}
-use Rattle.iox_machine.specs.Mailbox.{has_data, is_idle, taken}
+use Rattle.iox_machine.specs.Mailbox.{has_data, is_idle}
 use Rattle.iox_machine.specs.PortList.{those}
 use Rattle.iox_machine.specs.Service.{Service, Subscriber, with_subscriber, mailbox, with_mailbox}
 use Rattle.iox_machine.specs.Table.{contains}
@@ -42,10 +42,11 @@ module _ {T : Type 0} (number : ℕ) where
   -- The oldest message of a connection is borrowed, and held under this number.
   abbrev pub Takes : ℕ → ℕ → Service T → Reply T → Service T → Type 0
   Takes sample publisher old answer new =
+      let box = mailbox publisher number old in
       (message : Message T) × (values : Vec T)
-      × (slice_get (mailbox publisher number old).waiting 0 ≡ Some message) × (vec_items values ≡ message.values) ×
-      (answer ≡ reply.Received sample values)
-      × (new ≡ with_mailbox publisher number (taken (mailbox publisher number old))
+      × (slice_get box.waiting 0 ≡ Some message) × (vec_items values ≡ message.values) × (answer ≡ reply.Received sample values)
+      × (new ≡ with_mailbox publisher number
+      (record box { waiting = drop 1 box.waiting; borrowed = box.borrowed ++ take 1 box.waiting })
       (record old { samples = old.samples ++ (sample, record { publisher = publisher; subscriber = number; message = message }) ∷ [] }))
 
   -- A subscriber receives. Where no connection gives it is told whether some has data, of which as much is borrowed as may be.

@@ -8,13 +8,13 @@ use Rattle.iox_machine.specs.Arriving.{PublisherArrives, SubscriberArrives, new_
 use Rattle.iox_machine.specs.Closing.{Closes}
 use Rattle.iox_machine.specs.Factories.{Acts, CreatesService, OpensService, OpensOrCreatesService}
 use Rattle.iox_machine.specs.Message.{is_written}
-use Rattle.iox_machine.specs.PortList.{left}
+use Rattle.iox_machine.specs.PortList.{unless, relisted}
 use Rattle.iox_machine.specs.Ports.{AtFree, AtBlocked, subscriber_in, LendsLoan, Puts, SendsLoan, Writes, Releases}
 use Rattle.iox_machine.specs.PublisherUpdate as publishing
 use Rattle.iox_machine.specs.Receiving.{Receives, has_samples}
 use Rattle.iox_machine.specs.Sending.{GoesOn}
 use Rattle.iox_machine.specs.Service.{Service, with_publisher, with_subscriber}
-use Rattle.iox_machine.specs.State.{State, Factory, new_state, counted, is_service_of, AtOne}
+use Rattle.iox_machine.specs.State.{State, new_state, counted, is_service_of, AtOne}
 use Rattle.iox_machine.specs.SubscriberUpdate as subscribing
 use Rattle.iox_machine.specs.Table.{at, removed}
 use Rattle.iox_machine.specs.Replies.{IsSkipped, IsRefused}
@@ -28,11 +28,6 @@ use Rattle.iox_command.specs.declared.refusal.HubError.TheVariants.{OutOfMemory}
 use Rattle.iox_command.specs.declared.refusal.Refusal.TheVariants as refusal
 use Rattle.iox_command.specs.declared.reply.Reply.{Reply}
 use Rattle.iox_command.specs.declared.reply.Reply.TheVariants as reply
-use Rattle.iox_command.specs.declared.service.ServiceOptions.{ServiceOptions}
-
--- the factory that a node gets of the service of a name
-abbrev pub factory_of : ℕ → List ℕ → ServiceOptions → Factory
-factory_of node name options = record { pattern = pattern_of options; name = name; node = node }
 
 module _ {T : Type 0} where
   -- A run may stop where these commands are left and these answers were given: some command is left; and nothing was answered, or the next
@@ -59,11 +54,11 @@ module _ {T : Type 0} (types : MessageTypeDetails) (choices : Choices T) (buffer
       ((answer ≡ reply.NodeMade (old.made.nodes + 1)) × (new ≡ record old { made = counted answer old.made }))
       ⊎ (IsRefused (refusal.Hub OutOfMemory) old answer new)
   Step (command.Create node name options attributes steps) old answer new =
-      CreatesService types steps (factory_of node name options) options attributes old answer new
+      CreatesService types steps (record { pattern = pattern_of options; name = name; node = node }) options attributes old answer new
   Step (command.Open node name options required steps) old answer new =
-      OpensService types steps (factory_of node name options) options required old answer new
+      OpensService types steps (record { pattern = pattern_of options; name = name; node = node }) options required old answer new
   Step (command.OpenOrCreate node name options required steps) old answer new =
-      OpensOrCreatesService types steps (factory_of node name options) options required old answer new
+      OpensOrCreatesService types steps (record { pattern = pattern_of options; name = name; node = node }) options required old answer new
   Step (command.Foreign pattern name steps) old answer new = Acts types pattern name steps old answer new
   Step (command.Close factory) old answer new = Closes factory old answer new
   Step (command.Publisher factory options) old answer new =
@@ -117,12 +112,14 @@ module _ {T : Type 0} (types : MessageTypeDetails) (choices : Choices T) (buffer
       AtFree number
       (λ one service answered after. (answered ≡ reply.Done)
       × (after ≡ with_publisher number (record one { stands = false })
-      (record service { publisher_list = left number service.publisher_list }))) old answer new
+      (record service { publisher_list = relisted (map (unless (number ∷ [])) service.publisher_list.places) service.publisher_list })))
+      old answer new
   Step (command.Leave (port.Subscriber number)) old answer new =
       AtOne (subscriber_in number)
       (λ one service answered after. (answered ≡ reply.Done)
       × (after ≡ with_subscriber number (record one { stands = false })
-      (record service { subscriber_list = left number service.subscriber_list }))) old answer new
+      (record service { subscriber_list = relisted (map (unless (number ∷ [])) service.subscriber_list.places) service.subscriber_list })))
+      old answer new
   Step (command.Has subscriber) old answer new =
       AtOne (subscriber_in subscriber)
       (subscribing.UpdatesFirst choices buffer subscriber refusal.Connection

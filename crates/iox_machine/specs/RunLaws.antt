@@ -1,11 +1,11 @@
 -- Laws of every run of the machine.
-use Rattle.std.specs.Prelude.{ℕ, ◌≡◌, ◌≤◌, ◌⊎◌, Bool, true, false, List, [], ◌∷◌, length, find, is_some, Some}
+use Rattle.std.specs.Prelude.{ℕ, ◌≡◌, ◌≤◌, ◌⊎◌, Bool, true, false, List, [], ◌∷◌, length, filter_map, find, is_some, Some}
 use Rattle.std.specs.Global.{Vec}
 use Rattle.std.specs.List.{AllByRecursion}
 use Rattle.std.specs.Vec.{vec_items}
 use Rattle.iox_machine.specs.Choices.{Choices}
 use Rattle.iox_machine.specs.Mailbox.{Mailbox}
-use Rattle.iox_machine.specs.Message.{Message, Loan, is_written, sent_as}
+use Rattle.iox_machine.specs.Message.{Message, Loan, is_written}
 use Rattle.iox_machine.specs.Phase.{Phase}
 use Rattle.iox_machine.specs.PortList.{those}
 use Rattle.iox_machine.specs.Run.{Step, Runs}
@@ -29,6 +29,10 @@ has_begun reply.Blocked = true
 has_begun (reply.Delivered count) = true
 has_begun (reply.Refused (refusal.Send error.UnableToDeliver)) = true
 has_begun other = false
+
+-- the message that a written loan becomes when it is sent
+abbrev pub sent_as : {T : Type 0} → Loan T → Message T
+sent_as loan = record { number = loan.number; values = filter_map (λ value. value) loan.values }
 
 -- A command began the send of a message of these values, by a publisher.
 abbrev pub BeginsToSend : {T : Type 0} → ℕ → List T → Command T → State T → Reply T → Type 0

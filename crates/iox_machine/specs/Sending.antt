@@ -54,15 +54,8 @@ module _ {T : Type 0} (choices : Choices T) (number : ℕ) where
   abbrev pub Begins : Message T → Publisher T → Service T → Reply T → Service T → Type 0
   Begins message publisher old answer new =
       GoesOn (record publisher { history = newest old.settings.history_size (publisher.history ++ message ∷ []) })
-      (record {
-        message = message;
-        left = those publisher.connected;
-        retries = 0;
-        elapsed = 0;
-        delivered = 0;
-        fails =
-            false;
-      }) old answer new
+      (record { message = message; left = those publisher.connected; retries = 0; elapsed = 0; delivered = 0; fails = false })
+      old answer new
 
   -- A publisher sends a message, unless it left: it brings its connections up to date first.
   abbrev pub Sends : Message T → Publisher T → Service T → Reply T → Service T → Type 0

@@ -21,7 +21,7 @@ pub record Send (T : Type 0) : Type 0 where
   pub fails : Bool
 
 -- A publisher. A loan of more values than there is `room` for needs a new segment. Of the current segment are its messages from number
--- `first` on, and at most `slots` of these may be in use at once.
+-- `first` on, and at most `slots` of these may be in use at once. Its next message has the number `next`.
 pub record Publisher (T : Type 0) : Type 0 where
   pub factory : ℕ
   pub stands : Bool

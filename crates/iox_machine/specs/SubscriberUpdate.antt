@@ -14,17 +14,9 @@ use Rattle.iox_command.specs.DomainValues.declared.connection_failure.Connection
 use Rattle.iox_command.specs.declared.refusal.Refusal.{Refusal}
 use Rattle.iox_command.specs.declared.reply.Reply.{Reply}
 
--- the publisher that is connected at a place and isn't listed there any longer
+-- of who is connected at a place and who is listed there, the first, if it isn't listed there any longer
 abbrev pub gone_from : Option ℕ × Option ℕ → Option ℕ
 gone_from place = unless (those (place.1 ∷ [])) place.0
-
--- The publishers that left, in the order in which their connections part: first where another is listed now, then where none is.
-abbrev pub parting : List (Option ℕ × Option ℕ) → List ℕ
-parting places = filter_map gone_from (filter (λ place. is_some place.1) places ++ filter (λ place. not (is_some place.1)) places)
-
--- who is connected at a place after an update: the one that stays there, else the one that is listed there, unless it was refused
-abbrev pub now_at : List ℕ → List ℕ → Option ℕ × Option ℕ → Option ℕ
-now_at staying refused place = if option_map_or (contains staying) place.0 false then place.0 else unless refused place.1
 
 -- The expired connections, the first one first, and those that stay at their places since no more may be expired.
 pub record Parted : Type 0 where
@@ -55,15 +47,20 @@ module _ {T : Type 0} (buffer number : ℕ) where
         | None ↦ if is_unborrowed service publisher then parted else record parted { staying = parted.staying ++ publisher ∷ [] }
       ])
 
-  -- A subscriber follows the list of publishers. To some that are new no connection may be made, for want of memory.
+  -- A subscriber follows the list of publishers. Connections of publishers that left part first where another is listed now, then where
+  -- none is. Connected at a place is then who stays there, else who is listed there, unless it was refused. To some that are new no
+  -- connection may be made, for want of memory.
   abbrev pub Follows : Subscriber → Service T → Subscriber → Service T → Type 0
   Follows subscriber old after new =
       let places = zip subscriber.connected old.publisher_list.places in
-      let parted = fold (part old) (record { expired = subscriber.expired; staying = [] }) (parting places) in
+      let parting = filter_map gone_from (filter (λ place. is_some place.1) places ++ filter (λ place. not (is_some place.1)) places) in
+      let parted = fold (part old) (record { expired = subscriber.expired; staying = [] }) parting in
       (refused : List ℕ)
       × (list_all (λ publisher. contains (those old.publisher_list.places) publisher && not
       (is_some (old.mailboxes publisher number))) refused ≡ true)
-      × (connected : List (Option ℕ)) × (connected ≡ map (now_at parted.staying refused) places)
+      × (connected : List (Option ℕ))
+      × (connected ≡ map (λ place. if option_map_or (contains parted.staying) place.0 false then place.0 else unless refused place.1)
+      places)
       × (after ≡ record subscriber {
         seen = old.publisher_list.changes;
         again = list_any (λ place. is_some place.1 && is_some (gone_from place)) (zip connected old.publisher_list.places);

@@ -1,5 +1,6 @@
 pub mod Beginning
 pub mod Seats
+pub mod Saying
 pub mod Limits
 pub mod Acting
 pub mod Acted

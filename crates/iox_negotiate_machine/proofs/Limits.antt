@@ -1,13 +1,15 @@
 -- Whether settings are within the limits, for the machine and for a description.
-use Rattle.std.proofs.Common.{◌≡◌, Bool, true, false, ◌&&◌, refl, arith}
+use Rattle.std.proofs.Common.{◌≡◌, Bool, true, false, ◌&&◌, [], refl, subst, arith}
 use Rattle.std.proofs.lemmas.Bool.{ltb-true, lt-ltb}
 use Rattle.std.proofs.lemmas.List.Elements.{All-from_recursion}
+use Rattle.iox_command.specs.NegotiateBase.DescribeBase.Attributes.{required}
 use Rattle.iox_command.specs.NegotiateBase.DescribeBase.declared.message_type.MessageTypeDetails.{MessageTypeDetails}
 use Rattle.iox_command.specs.NegotiateBase.DescribeSettings.Agreement.{AreWithinLimits}
 use Rattle.iox_command.specs.NegotiateBase.DescribeSettings.EventSettings as event
 use Rattle.iox_command.specs.NegotiateBase.DescribeSettings.PublishSubscribeSettings as publish_subscribe
 use Rattle.iox_command.specs.NegotiateBase.DescribeSettings.RequestResponseSettings as request_response
 use Rattle.iox_command.specs.NegotiateBase.DescribeSettings.Setting.{IsAllowed}
+use Rattle.iox_command.specs.NegotiateBase.DescribeSettings.declared.static_config.Settings.{Settings}
 use Rattle.iox_command.specs.NegotiateBase.DescribeSettings.declared.static_config.Settings.TheVariants as settings
 use Rattle.iox_command.specs.NegotiateBase.DescribeSettings.declared.static_config.event.Setting.{Setting as EventSetting}
 use Rattle.iox_command.specs.NegotiateBase.DescribeSettings.declared.static_config.event.Setting.TheVariants as event_setting
@@ -25,6 +27,7 @@ use Rattle.iox_command.specs.declared.service.ServiceOptions.TheVariants as opti
 use Rattle.iox_machine.specs.Agreement.{are_within_limits}
 use Rattle.iox_machine.specs.Asked.{settings_of}
 use Rattle.iox_negotiate.proofs.Maps.{no}
+use Rattle.iox_negotiate_machine.proofs.Saying.{ruled_settings, settings-are}
 
 event-within : (c : Event) → are_within_limits (settings.Event (event.adjusted c)) ≡ true → event.IsWithinLimits (event.adjusted c)
 event-within c is =
@@ -114,15 +117,27 @@ publish_subscribe-back c within =
     (and-true _ _ (lt-ltb _ _ (within 5 publish_subscribe_setting.MaxNodes (omega arith)).1)
     (lt-ltb _ _ (within 1 publish_subscribe_setting.MaxNodes (omega arith)).1)))))
 
+ruled-within : (types : MessageTypeDetails) (named : ServiceOptions)
+    → are_within_limits (ruled_settings types (required [] []) named) ≡ true → AreWithinLimits (ruled_settings types (required [] []) named)
+ruled-within types (options.PublishSubscribe named) is = publish_subscribe-within _ is
+ruled-within types (options.Event named) is = event-within _ is
+ruled-within types (options.RequestResponse named) is = request_response-within _ is
+
+ruled-back : (types : MessageTypeDetails) (named : ServiceOptions) → AreWithinLimits (ruled_settings types (required [] []) named)
+    → are_within_limits (ruled_settings types (required [] []) named) ≡ true
+ruled-back types (options.PublishSubscribe named) within = publish_subscribe-back _ within
+ruled-back types (options.Event named) within = event-back _ within
+ruled-back types (options.RequestResponse named) within = request_response-back _ within
+
 -- what is asked for is within the limits of the machine just if it is within those of a description
 pub limits-within : (types : MessageTypeDetails) (named : ServiceOptions) → are_within_limits (settings_of types named) ≡ true
     → AreWithinLimits (settings_of types named)
-limits-within types (options.PublishSubscribe named) is = publish_subscribe-within _ is
-limits-within types (options.Event named) is = event-within _ is
-limits-within types (options.RequestResponse named) is = request_response-within _ is
+limits-within types named =
+    subst (λ (s : Settings). are_within_limits s ≡ true → AreWithinLimits s) (settings-are types (required [] []) named)
+    (ruled-within types named)
 
 pub limits-back : (types : MessageTypeDetails) (named : ServiceOptions) → AreWithinLimits (settings_of types named)
     → are_within_limits (settings_of types named) ≡ true
-limits-back types (options.PublishSubscribe named) within = publish_subscribe-back _ within
-limits-back types (options.Event named) within = event-back _ within
-limits-back types (options.RequestResponse named) within = request_response-back _ within
+limits-back types named =
+    subst (λ (s : Settings). AreWithinLimits s → are_within_limits s ≡ true) (settings-are types (required [] []) named)
+    (ruled-back types named)

@@ -1,19 +1,17 @@
 -- Why a service can't be created with its settings, for the machine and for a builder.
-use Rattle.std.proofs.Common.{◌≡◌, Bool, true, false, cond, not, ◌&&◌, [], Option, None, Some, nat_lt, refl, ◌∙◌}
+use Rattle.std.proofs.Common.{◌≡◌, Bool, true, false, cond, not, ◌&&◌, Option, None, Some, nat_lt, refl, ◌∙◌}
 use Rattle.std.proofs.lemmas.Bool.{lt-ltb, ltb-true}
-use Rattle.iox_command.specs.NegotiateBase.DescribeBase.Attributes.{required}
 use Rattle.iox_command.specs.NegotiateBase.DescribeBase.declared.message_type.MessageTypeDetails.{MessageTypeDetails}
 use Rattle.iox_command.specs.NegotiateBase.DescribeSettings.Agreement.{AreWithinLimits}
 use Rattle.iox_command.specs.NegotiateBase.DescribeSettings.PublishSubscribeSettings as publish_subscribe
+use Rattle.iox_command.specs.NegotiateBase.DescribeSettings.declared.static_config.Settings.{Settings}
 use Rattle.iox_command.specs.NegotiateBase.DescribeSettings.declared.static_config.Settings.TheVariants as settings
 use Rattle.iox_command.specs.NegotiateBase.DescribeSettings.declared.static_config.publish_subscribe.StaticConfig.{StaticConfig}
-use Rattle.iox_command.specs.NegotiateBase.DescribeVerdict.PublishSubscribeClauses as clauses
 use Rattle.iox_command.specs.NegotiateBase.declared.failure.CreateFailure.{CreateFailure}
 use Rattle.iox_command.specs.NegotiateBase.declared.failure.CreateFailure.TheVariants as uncreated
 use Rattle.iox_command.specs.declared.service.ServiceOptions.{ServiceOptions}
-use Rattle.iox_command.specs.declared.service.ServiceOptions.TheVariants as options
 use Rattle.iox_machine.specs.Agreement.{are_within_limits, unfit}
-use Rattle.iox_machine.specs.Asked.{asked_publish_subscribe, settings_of}
+use Rattle.iox_machine.specs.Asked.{settings_of}
 use Rattle.iox_negotiate.proofs.Maps.{no, on}
 use Rattle.iox_negotiate.specs.Asked.{IsRefusal}
 use Rattle.iox_negotiate_machine.proofs.Limits.{and-true, both, limits-back, limits-within}
@@ -71,26 +69,20 @@ refused-as c to from refusal is =
     (are_within_limits (settings.PublishSubscribe c))
     (not c.enable_safe_overflow && nat_lt c.subscriber_max_buffer_size c.history_size) to from (short-to c) (short-from c) refusal is
 
+plain : (within : Bool) → cond within None (Some uncreated.InternalFailure) ≡ refused_by within false
+plain true = refl
+plain false = refl
+
+any-unfit : (s : Settings) → (are_within_limits s ≡ true → AreWithinLimits s) → (AreWithinLimits s → are_within_limits s ≡ true)
+    → (refusal : Option CreateFailure) → IsRefusal (AreWithinLimits s) (HasNoRoomForHistory s) refusal → unfit s ≡ refusal
+any-unfit (settings.PublishSubscribe c) to from refusal is = refused-as c to from refusal is
+any-unfit (settings.Event c) to from refusal is =
+    plain (are_within_limits (settings.Event c)) ∙ tells _ _ _ false to from no (λ never. absurd never) refusal is
+any-unfit (settings.RequestResponse c) to from refusal is =
+    plain (are_within_limits (settings.RequestResponse c)) ∙ tells _ _ _ false to from no (λ never. absurd never) refusal is
+
 -- a builder refuses settings just as the machine does
 pub unfit-is : (types : MessageTypeDetails) (named : ServiceOptions) (refusal : Option CreateFailure)
     → IsRefusal (AreWithinLimits (settings_of types named)) (HasNoRoomForHistory (settings_of types named)) refusal
     → unfit (settings_of types named) ≡ refusal
-unfit-is types (options.PublishSubscribe named) refusal is =
-    refused-as (publish_subscribe.adjusted (clauses.asked (asked_publish_subscribe types (required [] []) named)))
-    (limits-within types (options.PublishSubscribe named)) (limits-back types (options.PublishSubscribe named)) refusal is
-unfit-is types (options.Event named) refusal is =
-    plain (are_within_limits (settings_of types (options.Event named)))
-    ∙ tells _ _ _ false (limits-within types (options.Event named)) (limits-back types (options.Event named)) no (λ never. absurd never)
-    refusal is
-  where
-    plain : (b : Bool) → cond b None (Some uncreated.InternalFailure) ≡ refused_by b false
-    plain true = refl
-    plain false = refl
-unfit-is types (options.RequestResponse named) refusal is =
-    plain (are_within_limits (settings_of types (options.RequestResponse named)))
-    ∙ tells _ _ _ false (limits-within types (options.RequestResponse named)) (limits-back types (options.RequestResponse named))
-    no (λ never. absurd never) refusal is
-  where
-    plain : (b : Bool) → cond b None (Some uncreated.InternalFailure) ≡ refused_by b false
-    plain true = refl
-    plain false = refl
+unfit-is types named = any-unfit (settings_of types named) (limits-within types named) (limits-back types named)

@@ -6,6 +6,7 @@ pub mod Recorded
 pub mod Seats
 pub mod Asked
 pub mod Spans
+pub mod Turns
 pub mod OfCalls
 pub mod Acts
 pub mod Keeping

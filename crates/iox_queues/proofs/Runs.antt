@@ -1,19 +1,18 @@
 -- Every step of a set's machine keeps what the machine keeps.
-use Rattle.std.proofs.Common.{◌≡◌, ℕ, ◌+◌, ◌<◌, ◌≤◌, ◌^◌, inl, inr, Bool, true, false, ◌==◌, ◌&&◌, nat_lt}
+use Rattle.std.proofs.Common.{◌≡◌, ℕ, ◌+◌, ◌<◌, ◌≤◌, ◌^◌, Bool, true, false, ◌==◌, ◌&&◌, nat_lt}
 use Rattle.std.proofs.Common.{List, [], ◌∷◌, ◌++◌, length, set, slice_index, drop, replicate, refl, sym}
 use Rattle.std.proofs.Common.{◌∙◌, ap, subst, arith, length-append}
 use Rattle.std.proofs.Math.Seq.{take-append_seam, drop-append_seam}
 use Rattle.std.proofs.lemmas.Bool.{ltb-true, eqb-true, eqb-false}
 use Rattle.std.proofs.lemmas.List.{length-replicate, get_or-replicate, take-append-le}
 use Rattle.iox_queues_steps.specs.Access.{answer_of, after_access}
-use Rattle.iox_queues_steps.specs.Schedule.{count_of, is_stopped_of}
 use Rattle.iox_queues_steps.specs.declared.access.Access.TheVariants.{Local}
 use Rattle.iox_queues_steps.specs.declared.schedule.Stepped.{Stepped}
 use Rattle.iox_queues_steps.specs.declared.schedule.Stepped.TheVariants as stepped
 use Rattle.iox_queues.specs.Steps.{call_begun, call_is_idle, call_next, call_take}
 use Rattle.iox_queues.specs.Sums.{increments, taken_out, cleared, raised_by, taken_by}
 use Rattle.iox_queues.specs.Told.{Tells, own}
-use Rattle.iox_queues.specs.Machine.{SetState, IsBalanced, IsToldBy, AreTold, StepsTo, RunsTo, begun, call_ended, fits, happens, is_within}
+use Rattle.iox_queues.specs.Machine.{SetState, IsBalanced, IsToldBy, AreTold, StepsTo, begun, call_ended, fits, happens, is_within}
 use Rattle.iox_queues.specs.Machine.{seat_at, stage_at, start, went}
 use Rattle.iox_queues.specs.Kept.{Knows, IsKept}
 use Rattle.iox_queues.proofs.Knowing.{more_increments, more_taken, more_cleared, knows_on, knows_begun}
@@ -282,30 +281,3 @@ start_kept max capacity parties few small =
   where
     below : (capacity i : ℕ) → i < length (replicate {A = ℕ} capacity 0) → i < capacity
     below capacity i h = omega (arith, length-replicate {A = ℕ} capacity 0)
-
-pub run_more : (m : SetState) (step : Move) (steps : List Move) (r : Stepped) (m' n : SetState) (k made : ℕ) → StepsTo m step r m'
-    → is_stopped_of r ≡ false → made ≡ count_of r + k → RunsTo m' steps k n → RunsTo m (step ∷ steps) made n
-run_more m step steps stepped.Went m' n k made h go e g
-    = inr (inl (h.0, (k, omega arith, subst (λ (x : SetState). RunsTo x steps k n) h.2 g)))
-run_more m step steps stepped.Finished m' n k made h go e g
-    = inr (inl (h.0, (k, omega arith, subst (λ (x : SetState). RunsTo x steps k n) h.2 g)))
-run_more m step steps stepped.Skipped m' n k made h go e g =
-    inl (h.0, subst (λ (i : ℕ). RunsTo m steps i n) (omega arith) (subst (λ (x : SetState). RunsTo x steps k n) h.1 g))
-run_more m step steps stepped.NoMemory m' n k made h go e g = absurd (cc)
-
-pub run_stops : (m : SetState) (step : Move) (steps : List Move) (r : Stepped) (m' : SetState) → StepsTo m step r m'
-    → is_stopped_of r ≡ true → RunsTo m (step ∷ steps) 0 m'
-run_stops m step steps stepped.Went m' h go = absurd (cc)
-run_stops m step steps stepped.Finished m' h go = absurd (cc)
-run_stops m step steps stepped.Skipped m' h go = absurd (cc)
-run_stops m step steps stepped.NoMemory m' h go = inr (inr (h.0, refl, h.1))
-
-pub counts_one : (r : Stepped) (n : ℕ) → n ≡ count_of r → n ≤ 1
-counts_one stepped.Went n e = omega arith
-counts_one stepped.Finished n e = omega arith
-counts_one stepped.Skipped n e = omega arith
-counts_one stepped.NoMemory n e = omega arith
-
-pub none_left : (xs : List Move) → length xs ≡ 0 → xs ≡ []
-none_left [] h = refl
-none_left (x ∷ xs) h = absurd (omega arith)

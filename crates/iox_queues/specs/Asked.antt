@@ -3,12 +3,12 @@ use Rattle.std.specs.Prelude.{ℕ, ◌≡◌, ◌+◌, ◌<◌, Bool, true, fals
 use Rattle.std.specs.Prelude.{length, slice_index, take, drop}
 use Rattle.iox_queues_steps.specs.Access.{RingWords, after_access}
 use Rattle.iox_queues_steps.specs.declared.schedule.Stepped.{Stepped}
-use Rattle.iox_queues_steps.specs.declared.schedule.Stepped.TheVariants as stepped
 use Rattle.iox_queues.specs.Steps.{call_begun, call_is_idle, call_next, call_take}
 use Rattle.iox_queues.specs.Sums.{raised_by, taken_by}
 use Rattle.iox_queues.specs.Told.{own}
 use Rattle.iox_queues.specs.Recorded.{Answered, IsAskedFrom, LiesWithin}
-use Rattle.iox_queues.specs.Spans.{AddsOne, AreOfCalls, Span}
+use Rattle.iox_queues.specs.Spans.{AreOfCalls, Span}
+use Rattle.iox_queues.specs.Turns.{CallsOf, TellsCalls}
 use Rattle.iox_queues.specs.Machine.{SetState, seat_at, stage_at, start_words}
 use Rattle.iox_queues.specs.declared.bits.call.Call.{Call}
 use Rattle.iox_queues.specs.declared.bits.call.Call.TheVariants as call
@@ -111,16 +111,26 @@ abbrev pub party_of : Move → ℕ
 party_of (Begin party c) = party
 party_of (GoOn party) = party
 
--- a begin leaves its party in the call that was asked for
-abbrev pub LeavesBegun : Move → SetState → Type 0
-LeavesBegun (Begin party c) n = call_in_hand (stage_at n.seats party) ≡ Some c
-LeavesBegun (GoOn party) n = Unit {0}
+-- the call that each party is in
+abbrev pub hands : SetState → ℕ → Option Call
+hands m party = call_in_hand (stage_at m.seats party)
 
--- a step that was made is one event of the party that was asked; the last one of a call is that of one more call that ended
+-- the call that a step is of: the one that it begins, or the one that was begun
+abbrev pub call_of_step : SetState → Move → Option Call
+call_of_step m (Begin party c) = Some c
+call_of_step m (GoOn party) = hands m party
+
+-- where this machine has its steps and its calls
+abbrev pub calls_of : CallsOf SetState Call Finished
+calls_of = record {
+  events = λ (m : SetState). m.events;
+  finished = λ (m : SetState). m.finished;
+  whose = λ (f : Finished). f.party;
+  which = λ (f : Finished). f.call;
+  hands = hands;
+}
+
+-- a step that was made is one event of the party that was asked, and leaves it in the call that the step is of. The last one of that
+-- call leaves it in none, and ends just that call; each other party stays in its own
 abbrev pub TellsStep : SetState → Move → Stepped → SetState → Type 0
-TellsStep m step stepped.Went n =
-    AddsOne m.events n.events (party_of step) × LeavesBegun step n × (length n.finished ≡ length m.finished)
-TellsStep m step stepped.Finished n =
-    AddsOne m.events n.events (party_of step) × LeavesBegun step n × (length n.finished ≡ length m.finished + 1)
-TellsStep m step stepped.Skipped n = n ≡ m
-TellsStep m step stepped.NoMemory n = n ≡ m
+TellsStep m step r n = TellsCalls SetState Call Finished calls_of m (party_of step) (call_of_step m step) r n

@@ -1,13 +1,13 @@
 -- A bit set or counting bit set as a machine: its steps, and what they add up to.
-use Rattle.std.specs.Prelude.{ℕ, ◌≡◌, ◌+◌, ◌<◌, ◌≤◌, ◌⊎◌, Bool, true, false, not, ◌&&◌, nat_lt, Option, Some, None, List, [], ◌∷◌, ◌++◌}
+use Rattle.std.specs.Prelude.{ℕ, ◌≡◌, ◌+◌, ◌<◌, ◌≤◌, Bool, true, false, not, ◌&&◌, nat_lt, Option, Some, None, List, [], ◌∷◌, ◌++◌}
 use Rattle.std.specs.Prelude.{length, set, slice_get, slice_index, take, drop, replicate}
 use Rattle.iox_queues_steps.specs.Access.{RingWords, answer_of, after_access}
 use Rattle.iox_queues_steps.specs.declared.access.Access.TheVariants.{Local}
 use Rattle.iox_queues_steps.specs.declared.schedule.Stepped.{Stepped}
-use Rattle.iox_queues_steps.specs.declared.schedule.Stepped.TheVariants as stepped
 use Rattle.iox_queues.specs.Steps.{call_begun, call_next, call_take, call_is_idle, call_is_over}
 use Rattle.iox_queues.specs.Sums.{increments, taken_out, cleared}
 use Rattle.iox_queues.specs.Told.{Tells, own}
+use Rattle.iox_queues.specs.Turns.{RunsBy, StepsBy}
 use Rattle.iox_queues.specs.declared.bits.call.Call.{Call}
 use Rattle.iox_queues.specs.declared.bits.call.Call.TheVariants as call
 use Rattle.iox_queues.specs.declared.bits.call.SetCall.{SetCall}
@@ -100,18 +100,11 @@ happens m (GoOn party) = went m party
 
 -- what a step answers, and what it leaves
 abbrev pub StepsTo : SetState → Move → Stepped → SetState → Type 0
-StepsTo m step stepped.Went n = (fits m step ≡ true) × (ends m step ≡ false) × (n ≡ happens m step)
-StepsTo m step stepped.Finished n = (fits m step ≡ true) × (ends m step ≡ true) × (n ≡ happens m step)
-StepsTo m step stepped.Skipped n = (fits m step ≡ false) × (n ≡ m)
-StepsTo m step stepped.NoMemory n = (fits m step ≡ true) × (n ≡ m)
+StepsTo m step r n = StepsBy fits ends happens m step r n
 
 -- a list of steps, of which `made` were made; it may stop where a step that fits finds no memory
 abbrev pub RunsTo : SetState → List Move → ℕ → SetState → Type 0
-RunsTo m [] made n = (made ≡ 0) × (n ≡ m)
-RunsTo m (step ∷ steps) made n =
-    ((fits m step ≡ false) × RunsTo m steps made n)
-    ⊎ (((fits m step ≡ true) × ((fewer : ℕ) × (made ≡ fewer + 1) × RunsTo (happens m step) steps fewer n))
-    ⊎ ((fits m step ≡ true) × (made ≡ 0) × (n ≡ m)))
+RunsTo m steps made n = RunsBy fits happens m steps made n
 
 -- for each place: increments are the counts taken out and the count now, and no count passes the
 -- largest. In a bit set: it went from clear to set as often as it was cleared, plus one if it is set

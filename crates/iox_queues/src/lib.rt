@@ -2,6 +2,7 @@
 //!
 //! - [`shared`]: queues and single values that threads share, over atomics.
 //! - [`bits`]: bit sets one word at a time (also [`sets`]).
+//! - [`values`]: values that calls by steps name by a number.
 //! - The plain forms come from `iox_queues_base`, the vocabulary of steps and rings by steps from `iox_queues_steps` (here
 //!   [`rings`], with the ends of each kind in [`overflowing`] and [`refusing`]).
 //!
@@ -33,6 +34,7 @@ pub mod refusing;
 pub mod rings;
 pub mod sets;
 pub mod shared;
+pub mod values;
 
 pub use iox_queues_base::{
     BitSet, BitState, CountingBitSet, FixedSizeBitSet, FixedSizeCountingBitSet,

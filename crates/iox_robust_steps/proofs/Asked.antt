@@ -1,6 +1,6 @@
 -- The steps of each call are those that its value asked for, after one more step.
 use Rattle.std.proofs.Common.{◌≡◌, ℕ, ◌<◌, ◌≤◌, Bool, true, false, if◌then◌else◌, ◌==◌, nat_lt, Option, Some, None, List, []}
-use Rattle.std.proofs.Common.{◌∷◌, ◌++◌, length, set, drop, refl, sym, ◌∙◌, subst, arith}
+use Rattle.std.proofs.Common.{◌∷◌, ◌++◌, length, set, drop, refl, sym, ◌∙◌, ap, subst, arith}
 use Rattle.std.specs.Global.{Vec}
 use Rattle.std.proofs.Math.Seq.{take-append_seam}
 use Rattle.std.proofs.lemmas.List.{take-append-le}
@@ -73,6 +73,31 @@ same_call n decisions (stage.Lock d count) answer c h over =
     either_call (is_marked_by count answer) (stage.Done d (Settled Locked)) (stage.Done d (Settled Unlocked)) (Some d) refl refl ∙ h
 same_call n decisions (stage.Done d a) answer c h over = absurd (cc)
 
+-- where no call is in hand none comes
+none_in_hand : (n : ℕ) (decisions : List (Vec Bool)) (answer : ℕ) (s : RobustCall) → call_in_hand s ≡ None
+    → call_take n decisions s answer ≡ stage.Idle
+none_in_hand n decisions answer (stage.Idle) h = refl
+none_in_hand n decisions answer (stage.Acquire owner) h = absurd (cc)
+none_in_hand n decisions answer (stage.Claim owner place count) h = absurd (cc)
+none_in_hand n decisions answer (stage.Count owner place count) h = absurd (cc)
+none_in_hand n decisions answer (stage.Confirm owner place) h = absurd (cc)
+none_in_hand n decisions answer (stage.Undo owner place) h = absurd (cc)
+none_in_hand n decisions answer (stage.Free owner index mode) h = absurd (cc)
+none_in_hand n decisions answer (stage.Look owner number mode place) h = absurd (cc)
+none_in_hand n decisions answer (stage.Clear owner number mode place seen) h = absurd (cc)
+none_in_hand n decisions answer (stage.Settle c) h = absurd (cc)
+none_in_hand n decisions answer (stage.Scan c place count) h = absurd (cc)
+none_in_hand n decisions answer (stage.Lock c count) h = absurd (cc)
+none_in_hand n decisions answer (stage.Done c a) h = absurd (cc)
+
+pub keeps_call : (n : ℕ) (decisions : List (Vec Bool)) (s : RobustCall) (answer : ℕ) → call_is_over s ≡ false
+    → call_in_hand (call_take n decisions s answer) ≡ call_in_hand s
+keeps_call n decisions s answer going = of (call_in_hand s) refl
+  where
+    of : (o : Option Call) → call_in_hand s ≡ o → call_in_hand (call_take n decisions s answer) ≡ call_in_hand s
+    of None h = ap call_in_hand (none_in_hand n decisions answer s h) ∙ sym h
+    of (Some c) h = same_call n decisions s answer c h going ∙ sym h
+
 module _ (n : ℕ) (decisions : List (Vec Bool)) where
   module _ (party : ℕ) (events : List Event) (e : Event) where
     asked_by : (c : Call) (s : RobustCall) → call_in_hand (call_take n decisions s e.answer) ≡ Some c → e.access ≡ call_next s
@@ -88,21 +113,6 @@ module _ (n : ℕ) (decisions : List (Vec Bool)) where
         (events ++ e ∷ [])
     asked_next s is a = of (call_in_hand s) refl (call_is_over s) refl a
       where
-        none_in_hand : (s : RobustCall) → call_in_hand s ≡ None → call_take n decisions s e.answer ≡ stage.Idle
-        none_in_hand stage.Idle h = refl
-        none_in_hand (stage.Acquire owner) h = absurd (cc)
-        none_in_hand (stage.Claim owner place count) h = absurd (cc)
-        none_in_hand (stage.Count owner place count) h = absurd (cc)
-        none_in_hand (stage.Confirm owner place) h = absurd (cc)
-        none_in_hand (stage.Undo owner place) h = absurd (cc)
-        none_in_hand (stage.Free owner index mode) h = absurd (cc)
-        none_in_hand (stage.Look owner number mode place) h = absurd (cc)
-        none_in_hand (stage.Clear owner number mode place seen) h = absurd (cc)
-        none_in_hand (stage.Settle c) h = absurd (cc)
-        none_in_hand (stage.Scan c place count) h = absurd (cc)
-        none_in_hand (stage.Lock c count) h = absurd (cc)
-        none_in_hand (stage.Done c answer) h = absurd (cc)
-
         over_is : (s : RobustCall) → call_is_over s ≡ true → call_take n decisions s e.answer ≡ stage.Idle
         over_is stage.Idle h = refl
         over_is (stage.Acquire owner) h = absurd (cc)
@@ -124,7 +134,7 @@ module _ (n : ℕ) (decisions : List (Vec Bool)) where
         of : (o : Option Call) → call_in_hand s ≡ o → (b : Bool) → call_is_over s ≡ b → IsAskedSoFar n decisions party o s events
             → IsAskedSoFar n decisions party (call_in_hand (call_take n decisions s e.answer)) (call_take n decisions s e.answer)
             (events ++ e ∷ [])
-        of None h b over a = idle_asked (call_take n decisions s e.answer) (none_in_hand s h)
+        of None h b over a = idle_asked (call_take n decisions s e.answer) (none_in_hand n decisions e.answer s h)
         of (Some c) h true over a = idle_asked (call_take n decisions s e.answer) (over_is s over)
         of (Some c) h false over a = asked_by c s (same_call n decisions s e.answer c h over) is a
 

@@ -20,7 +20,7 @@ use Rattle.iox_queues.specs.declared.bits.machine.Event.{Event}
 use Rattle.iox_robust_steps.specs.Steps.{call_is_idle, call_next, call_take, claims_from, decided, is_freed, lock_mark}
 use Rattle.iox_robust_steps.specs.Steps.{looks_from, reserved, scans_from, settles}
 use Rattle.iox_robust_steps.specs.Changes.{gave_by, is_owner, saw_filled, took_by}
-use Rattle.iox_robust_steps.specs.Told.{GiveNone, GiveOnly, MoveNone, TakeNone, Tells, has_locked, is_locking}
+use Rattle.iox_robust_steps.specs.Told.{GiveNone, GiveOnly, MoveNone, SawOther, TakeNone, Tells, has_locked, is_locking}
 use Rattle.iox_robust_steps.specs.Machine.{is_halted, is_lost, one_if_held, place_of, places_after}
 use Rattle.iox_robust_steps.specs.Kept.{CellFits, IsOwner, IsQuiet, Knows, QuietBelow, Settles, WordsFit}
 use Rattle.iox_robust_steps.specs.declared.call.Answer.TheVariants.{Acquired, Settled}
@@ -67,12 +67,12 @@ settled_locked n l (call.Release owner i Default) es locked k = k
 settled_locked n l (call.Recover owner number LockIfLastIndex) es locked k = (k, locked)
 settled_locked n l (call.Recover owner number Default) es locked k = k
 
-settled_unlocked : (n : ℕ) (l : Bool) (c : Call) (es : List Event) → Settles c es → Tells n l es c (Settled Unlocked)
-settled_unlocked n l (call.Acquire owner) es k = k
-settled_unlocked n l (call.Release owner i LockIfLastIndex) es k = k
-settled_unlocked n l (call.Release owner i Default) es k = absurd k
-settled_unlocked n l (call.Recover owner number LockIfLastIndex) es k = k
-settled_unlocked n l (call.Recover owner number Default) es k = absurd k
+settled_unlocked : (n : ℕ) (l : Bool) (c : Call) (es : List Event) → Settles c es → SawOther n es → Tells n l es c (Settled Unlocked)
+settled_unlocked n l (call.Acquire owner) es k saw = k
+settled_unlocked n l (call.Release owner i LockIfLastIndex) es k saw = (k, saw)
+settled_unlocked n l (call.Release owner i Default) es k saw = absurd k
+settled_unlocked n l (call.Recover owner number LockIfLastIndex) es k saw = (k, saw)
+settled_unlocked n l (call.Recover owner number Default) es k saw = absurd k
 
 locking : (c : Call) (es : List Event) → Settles c es → has_locked c (Settled Locked) ≡ true
 locking (call.Acquire owner) es k = absurd k
@@ -105,6 +105,9 @@ not_owner cell h = and_right (nat_lt 0 cell) (nat_lt cell (2 ^ 63)) (past (nat_l
     past : (b : Bool) → nat_lt cell (2 ^ 63) ≡ b → b ≡ false
     past true e = absurd (let low : cell < 2 ^ 63 = ltb-true cell (2 ^ 63) e in omega (arith, low, h))
     past false e = refl
+
+same_party : (p q : ℕ) → ◌≡◌ {A = Place} (place.Held p) (place.Held q) → p ≡ q
+same_party p q h = cc
 
 -- one step of a party at each stage
 module _ (n p : ℕ) (decisions : List (Vec Bool)) (words : RingWords) (places : List Place) (lost : List ℕ) (events es : List Event)
@@ -178,7 +181,8 @@ module _ (n p : ℕ) (decisions : List (Vec Bool)) (words : RingWords) (places :
   claim_made owner i count owns none within below saw = test (cell i == 0) refl
     where
       gave : (j : ℕ) → gave_by j (Exchange (Cell i) 0 (reserved owner)) (cell i) ≡ 0
-      gave j = zero_if (i == j) ((cell i == 0) && is_owner 0) (and_right (cell i == 0) (is_owner 0) refl)
+      gave j = zero_if (i == j) ((cell i == 0) && ((reserved owner == 0) && is_owner 0))
+          (and_right (cell i == 0) ((reserved owner == 0) && is_owner 0) (and_right (reserved owner == 0) (is_owner 0) refl))
 
       moves : MoveNone (es ++ of (Exchange (Cell i) 0 (reserved owner)) (cell i) ∷ [])
       moves = (
@@ -204,7 +208,7 @@ module _ (n p : ℕ) (decisions : List (Vec Bool)) (words : RingWords) (places :
           let e : Event = of (Exchange (Cell i) 0 (reserved owner)) (cell i) in
           record {
             whole = whole_set n words places events e w i (place.Claimed p) within many (reserved owner) (i % length words.cells)
-                (at_place i within) size (omega (arith, owns.0, owns.1)) (λ locked. tt)
+                (at_place i within) size (omega (arith, owns.0, owns.1)) (λ locked. tt) (λ q is. absurd (cc))
                 (omega (arith, gave i, ap one_if_held empty)) (λ j differs. (refl, gave j));
             leaves = λ q differs. leaves_set n words places events e w i (place.Claimed p) within many (reserved owner)
                 (i % length words.cells) (at_place i within) size q lost (λ quiet. tt)
@@ -276,7 +280,11 @@ module _ (n p : ℕ) (decisions : List (Vec Bool)) (words : RingWords) (places :
                 (inr (omega (arith, same, low, few, length-append events (e ∷ []))))
                 (each_place n words places events e w i (place.Counted p) within many
                 (λ (j : ℕ) (x : Place). 0 + one_if_held (place_of places j) ≡ 0 + one_if_held x)
-                (ap (λ (x : Place). 0 + one_if_held x) stands.0) (λ j differs. refl));
+                (ap (λ (x : Place). 0 + one_if_held x) stands.0) (λ j differs. refl))
+                (each_place n words places events e w i (place.Counted p) within many
+                (λ (j : ℕ) (x : Place). (q : ℕ) → x ≡ place.Held q
+                → (place_of places j ≡ place.Held q) ⊎ ((p ≡ q) × (◌≡◌ {A = ℕ} 0 1)))
+                (λ q is. absurd (cc)) (λ j differs q is. inl is));
             leaves = λ q differs. record {
               keeps = λ other j stand live owner its is holds. (
                 ⊎_elim (λ (at : j ≡ i). absurd (differs (its_party q stand (ap (place_of places) (sym at) ∙ is) its)))
@@ -323,6 +331,7 @@ module _ (n p : ℕ) (decisions : List (Vec Bool)) (words : RingWords) (places :
   confirm_made owner i owns none within stands = record {
     whole = whole_set n words places events (of (Store (Cell i) owner) 0) w i (place.Held p) within many owner (i % length words.cells)
         (at_place i within) size owns (λ locked. subst IsQuiet stands.0 (w.quiet locked i within))
+        (λ q is. inr (same_party p q is, took_own))
         (omega (arith, took_own, ap one_if_held stands.0)) (λ j differs. (took_else j differs, refl));
     leaves = λ q differs. leaves_set n words places events (of (Store (Cell i) owner) 0) w i (place.Held p) within many owner
         (i % length words.cells) (at_place i within) size q lost (λ quiet. absurd (subst IsQuiet stands.0 quiet))
@@ -360,7 +369,8 @@ module _ (n p : ℕ) (decisions : List (Vec Bool)) (words : RingWords) (places :
       (of (Store (Cell i) 0) 0) (stage.Done (call.Acquire owner) (Acquired (Err IsLocked)))
   undo_made owner i none within locked stands = record {
     whole = whole_set n words places events (of (Store (Cell i) 0) 0) w i place.Empty within many 0 (i % length words.cells)
-        (at_place i within) size refl (λ locked. tt) (omega (arith, took i, ap one_if_held stands)) (λ j differs. (took j, refl));
+        (at_place i within) size refl (λ locked. tt) (λ q is. absurd (cc)) (omega (arith, took i, ap one_if_held stands))
+        (λ j differs. (took j, refl));
     leaves = λ q differs. leaves_set n words places events (of (Store (Cell i) 0) 0) w i place.Empty within many 0
         (i % length words.cells) (at_place i within) size q lost (λ quiet. tt)
         (nobody_else i (place.Claimed p) stands (λ q same. same) q differs);
@@ -406,8 +416,8 @@ module _ (n p : ℕ) (decisions : List (Vec Bool)) (words : RingWords) (places :
           lost events es (of (Exchange (Cell i) owner 0) (cell i)) (settles mode (call.Release owner i mode))
       test true is = record {
         whole = whole_set n words places events (of (Exchange (Cell i) owner 0) (cell i)) w i place.Empty within many 0
-            (i % length words.cells) (at_place i within) size refl (λ locked. tt) (omega (arith, gave_own, ap one_if_held stands.0))
-            (λ j differs. (refl, gave_else j differs));
+            (i % length words.cells) (at_place i within) size refl (λ locked. tt) (λ q is. absurd (cc))
+            (omega (arith, gave_own, ap one_if_held stands.0)) (λ j differs. (refl, gave_else j differs));
         leaves = λ q differs. leaves_set n words places events (of (Exchange (Cell i) owner 0) (cell i)) w i place.Empty within many 0
             (i % length words.cells) (at_place i within) size q lost (λ quiet. tt)
             (nobody_else i (place.Held p) stands.0 (λ q same. same) q differs);
@@ -508,7 +518,7 @@ module _ (n p : ℕ) (decisions : List (Vec Bool)) (words : RingWords) (places :
           lost events es (of (Exchange (Cell i) seen 0) (cell i)) (looks_from n owner number mode (successor i))
       test true e = record {
         whole = whole_set n words places events (of (Exchange (Cell i) seen 0) (cell i)) w i place.Empty within many 0
-            (i % length words.cells) (at_place i within) size refl (λ locked. tt)
+            (i % length words.cells) (at_place i within) size refl (λ locked. tt) (λ q is. absurd (cc))
             (omega (arith, gave_own (cell i == seen) refl e)) (λ j differs. (refl, gave_else j differs));
         leaves = λ q differs. leaves_set n words places events (of (Exchange (Cell i) seen 0) (cell i)) w i place.Empty within many 0
             (i % length words.cells) (at_place i within) size q lost (λ quiet. tt)
@@ -581,7 +591,12 @@ module _ (n p : ℕ) (decisions : List (Vec Bool)) (words : RingWords) (places :
             (λ (differs : j ≡ i → ⊥). quiet.2 is j (omega (arith, below, on_by_one i within, differs)))
             (cases_eq j i),
       )
-      test false e = settled_unlocked n (words.read == lock_mark) c _ still
+      test false e = settled_unlocked n (words.read == lock_mark) c _ still (record {
+        before = es;
+        look = of (Load (Cell i)) (cell i);
+        whole = refl;
+        saw = ap (λ (b : Bool). b && not (cell i == 0)) (lt-ltb i n within) ∙ ap not e;
+      })
 
   lock_made : (c : Call) (count : ℕ) → Settles c es → QuietBelow words places count n
       → MadeStep n p words (after_access words (Exchange Read count lock_mark)) places places lost events es
@@ -599,7 +614,7 @@ module _ (n p : ℕ) (decisions : List (Vec Bool)) (words : RingWords) (places :
           let same : words.read ≡ count = eqb-true words.read count e in
           record {
             whole = whole_on n words places events (of (Exchange Read count lock_mark) words.read) w (record words { read = lock_mark })
-                places w.cells (λ locked i within. quiet.2 same i within) (inl refl) (λ i. refl);
+                places w.cells (λ locked i within. quiet.2 same i within) (inl refl) (λ i. refl) (λ i q is. inl is);
             leaves = λ q differs. record {
               keeps = λ owner i stand live owns its is holds. (is, refl);
               quiets = inr (omega (arith, same, quiet.0));
@@ -615,8 +630,9 @@ module _ (n p : ℕ) (decisions : List (Vec Bool)) (words : RingWords) (places :
           marked : (b : Bool) → (words.read == lock_mark) ≡ b
               → Knows n words places lost p (es ++ of (Exchange Read count lock_mark) words.read ∷ [])
               (if b then stage.Done c (Settled Locked) else stage.Done c (Settled Unlocked))
-          marked true e = settled_locked n (words.read == lock_mark) c _ e still
-          marked false e = settled_unlocked n (words.read == lock_mark) c _ still
+          marked true g = settled_locked n (words.read == lock_mark) c _ g still
+          marked false g = settled_unlocked n (words.read == lock_mark) c _ still
+              (record { before = es; look = of (Exchange Read count lock_mark) words.read; whole = refl; saw = ap not e })
 
   pub made : (s : RobustCall) → call_is_idle s ≡ false → is_halted lost s ≡ false → Knows n words places lost p es s
       → MadeStep n p words (after_access words (call_next s)) places (places_after places p s (answer_of words (call_next s))) lost

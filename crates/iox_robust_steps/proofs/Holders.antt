@@ -1,4 +1,5 @@
 -- No index has two holders, since it is taken and given back by turns.
+use Rattle.std.proofs.Common.{◌+◌}
 use Rattle.std.proofs.Common.{◌≡◌, ℕ, ◌<◌, ◌≤◌, ⊎_elim, List, [], ◌∷◌, ◌++◌, length, take, refl, sym, ◌∙◌, ap, subst}
 use Rattle.std.proofs.Common.{arith}
 use Rattle.std.proofs.Math.Seq.{take-append_seam}
@@ -9,6 +10,9 @@ use Rattle.iox_queues_steps.specs.declared.access.Word.TheVariants.{Write, Read,
 use Rattle.iox_queues.specs.declared.bits.machine.Event.{Event}
 use Rattle.iox_robust_steps.specs.Changes.{gave_by, times_given, times_taken, took_by}
 use Rattle.iox_robust_steps.specs.Told.{Holds, TakesTurns}
+use Rattle.iox_robust_steps.specs.Machine.{one_if_held}
+use Rattle.iox_robust_steps.specs.declared.state.Place.{Place}
+use Rattle.iox_robust_steps.specs.declared.state.Place.TheVariants as place
 use Rattle.iox_robust_steps.proofs.Counts.{more_given, more_taken}
 
 -- where one list is cut in two ways, the second taking lies in the first one's rest, or is the first one
@@ -107,3 +111,31 @@ one_holds i p q events turns h g = ⊎_elim
     sym h.its ∙ ap (λ (e : Event). e.party) same ∙ g.its)
     (cases_lt (length g.before) (length h.before)))
     (cases_lt (length h.before) (length g.before))
+
+-- who took an index, which nobody gave back since, is its holder
+pub holder_is : (i p : ℕ) (events : List Event) (x : Place) → ((k : ℕ) → TakesTurns i (take k events))
+    → times_taken i events ≡ times_given i events + one_if_held x → ((q : ℕ) → x ≡ place.Held q → Holds q i events) → Holds p i events
+    → x ≡ place.Held p
+holder_is i p events x turns balance holders h = of x balance holders
+  where
+    before : TakesTurns i h.before
+    before = subst (TakesTurns i) (ap (take (length h.before)) h.whole ∙ take-append_seam h.before (h.taking ∷ h.after))
+        (turns (length h.before))
+
+    more : times_given i events + 1 ≤ times_taken i events
+    more = omega (
+      arith,
+      before.0,
+      h.takes,
+      h.keeps,
+      none_given i h.taking h.takes,
+      ap (times_taken i) h.whole ∙ more_taken i h.before (h.taking ∷ h.after),
+      ap (times_given i) h.whole ∙ more_given i h.before (h.taking ∷ h.after),
+    )
+
+    of : (x : Place) → times_taken i events ≡ times_given i events + one_if_held x → ((q : ℕ) → x ≡ place.Held q → Holds q i events)
+        → x ≡ place.Held p
+    of place.Empty balance holders = absurd (omega (arith, more, balance))
+    of (place.Claimed q) balance holders = absurd (omega (arith, more, balance))
+    of (place.Counted q) balance holders = absurd (omega (arith, more, balance))
+    of (place.Held q) balance holders = ap (λ (r : ℕ). place.Held r) (one_holds i q p events turns (holders q refl) h)

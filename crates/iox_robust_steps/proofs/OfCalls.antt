@@ -1,18 +1,19 @@
 -- What a step of the machine of a set that knows its holders is to the calls of its party, and what it adds.
-use Rattle.std.proofs.Common.{◌≡◌, ℕ, ◌+◌, inl, inr, Bool, true, false, if◌then◌else◌, nat_lt, not, Option, Some, None, List, []}
-use Rattle.std.proofs.Common.{◌∷◌, ◌++◌, length, replicate, refl, sym, ◌∙◌, ap, subst, arith, append-nil, length-append}
+use Rattle.std.proofs.Common.{◌≡◌, ℕ, inl, inr, Bool, true, false, if◌then◌else◌, nat_lt, not, ◌<◌, ◌&&◌, Option, Some, None, List, []}
+use Rattle.std.proofs.Common.{◌∷◌, ◌++◌, length, set, replicate, refl, sym, ◌∙◌, ap, subst, append-nil}
 use Rattle.std.specs.Global.{Vec}
 use Rattle.std.proofs.lemmas.Bool.{and_parts, ltb-true}
 use Rattle.iox_queues_steps.specs.Access.{answer_of}
 use Rattle.iox_queues_steps.specs.declared.access.Access.TheVariants.{Local}
 use Rattle.iox_queues_steps.specs.declared.schedule.Stepped.{Stepped}
-use Rattle.iox_queues_steps.specs.declared.schedule.Stepped.TheVariants as stepped
 use Rattle.iox_queues.specs.Spans.{AddsOne, AreOfCalls, Span, bound_in_hand, span_in_hand}
+use Rattle.iox_queues.specs.Turns.{EndsOne, LeavesCalls}
 use Rattle.iox_queues.specs.declared.bits.machine.Event.{Event}
 use Rattle.iox_robust_steps.specs.Steps.{call_begun, call_in_hand, call_is_idle, call_is_over, call_next, call_take}
 use Rattle.iox_robust_steps.specs.Machine.{RobustSetState, StepsTo, begun, call_ended, ends, fits, happens, idle_seat, seat_at, stage_at}
 use Rattle.iox_robust_steps.specs.Machine.{start, went}
-use Rattle.iox_robust_steps.specs.OfCalls.{LeavesBegun, StepsAreOfCalls, TellsStep, begun_at, party_of, spans_ended}
+use Rattle.iox_robust_steps.specs.OfCalls.{StepsAreOfCalls, TellsStep, begun_at, call_of_step, calls_of, hands, party_of}
+use Rattle.iox_robust_steps.specs.OfCalls.{spans_ended}
 use Rattle.iox_robust_steps.specs.declared.call.Call.{Call}
 use Rattle.iox_robust_steps.specs.declared.call.Call.TheVariants as call
 use Rattle.iox_robust_steps.specs.declared.call.RobustCall.{RobustCall}
@@ -22,7 +23,8 @@ use Rattle.iox_robust_steps.specs.declared.machine.Move.{Move}
 use Rattle.iox_robust_steps.specs.declared.machine.Move.TheVariants.{Begin, GoOn}
 use Rattle.iox_robust_steps.specs.declared.state.Seat.{Seat}
 use Rattle.iox_queues.proofs.Spans.{IsOneOf, of_calls_on}
-use Rattle.iox_robust_steps.proofs.Asked.{looks_call, same_call}
+use Rattle.iox_queues.proofs.Turns.{steps_tell_calls}
+use Rattle.iox_robust_steps.proofs.Asked.{keeps_call, looks_call, same_call}
 use Rattle.iox_robust_steps.proofs.Seats.{all_idle, seat_else, seat_here}
 
 ended_more : (xs ys : List Finished) → spans_ended (xs ++ ys) ≡ spans_ended xs ++ spans_ended ys
@@ -153,47 +155,93 @@ made_step m (GoOn party) = record {
   its = refl;
 }
 
-leaves_begun : (m : RobustSetState) (step : Move) → fits m step ≡ true → LeavesBegun step (happens m step)
-leaves_begun m (Begin party c) fit = ap (λ (s : Seat). call_in_hand s.stage)
-    (seat_here m.seats party _ (ltb-true party (length m.seats) (and_parts (nat_lt party (length m.seats)) _ fit).0))
-    ∙ begun_call m.capacity c
-leaves_begun m (GoOn party) fit = tt
+-- a party has another seat
+leaves : (m n : RobustSetState) (party : ℕ) (seat : Seat) (hand : Option Call) → n.seats ≡ set m.seats party seat → party < length m.seats
+    → call_in_hand seat.stage ≡ hand → LeavesCalls Call (hands m) (hands n) party hand
+leaves m n party seat hand is_set within is = record {
+  its = ap (λ (seats : List Seat). call_in_hand (stage_at seats party)) is_set
+      ∙ ap (λ (s : Seat). call_in_hand s.stage) (seat_here m.seats party seat within) ∙ is;
+  others = λ q differs. ap (λ (seats : List Seat). call_in_hand (stage_at seats q)) is_set
+      ∙ ap (λ (s : Seat). call_in_hand s.stage) (seat_else m.seats party q seat differs);
+}
 
-how_many : (party first last : ℕ) (s : RobustCall) → length (call_ended party first last s) ≡ (if call_is_over s then 1 else 0)
-how_many party first last stage.Idle = refl
-how_many party first last (stage.Acquire owner) = refl
-how_many party first last (stage.Claim owner place count) = refl
-how_many party first last (stage.Count owner place count) = refl
-how_many party first last (stage.Confirm owner place) = refl
-how_many party first last (stage.Undo owner place) = refl
-how_many party first last (stage.Free owner index mode) = refl
-how_many party first last (stage.Look owner number mode place) = refl
-how_many party first last (stage.Clear owner number mode place seen) = refl
-how_many party first last (stage.Settle c) = refl
-how_many party first last (stage.Scan c place count) = refl
-how_many party first last (stage.Lock c count) = refl
-how_many party first last (stage.Done c answer) = refl
+is_there : (seats : List Seat) (party : ℕ) (b : Bool) → (nat_lt party (length seats) && b) ≡ true → party < length seats
+is_there seats party b fit = ltb-true party (length seats) (and_parts (nat_lt party (length seats)) b fit).0
 
-ended_count : (m : RobustSetState) (step : Move) → length (happens m step).finished ≡ length m.finished + (if ends m step then 1 else 0)
-ended_count m (Begin party c) = omega arith
-ended_count m (GoOn party) =
-    let ended : List Finished = call_ended party (seat_at m.seats party).first (length m.events) (stage_at m.seats party) in
-    omega (
-      arith,
-      length-append m.finished ended,
-      how_many party (seat_at m.seats party).first (length m.events) (stage_at m.seats party),
+none_ended : (party first last : ℕ) (s : RobustCall) → call_is_over s ≡ false → call_ended party first last s ≡ []
+none_ended party first last (stage.Idle) going = refl
+none_ended party first last (stage.Acquire owner) going = refl
+none_ended party first last (stage.Claim owner place count) going = refl
+none_ended party first last (stage.Count owner place count) going = refl
+none_ended party first last (stage.Confirm owner place) going = refl
+none_ended party first last (stage.Undo owner place) going = refl
+none_ended party first last (stage.Free owner index mode) going = refl
+none_ended party first last (stage.Look owner number mode place) going = refl
+none_ended party first last (stage.Clear owner number mode place seen) going = refl
+none_ended party first last (stage.Settle c) going = refl
+none_ended party first last (stage.Scan c place count) going = refl
+none_ended party first last (stage.Lock c count) going = refl
+none_ended party first last (stage.Done c a) going = absurd (cc)
+
+module _ (n : ℕ) (decisions : List (Vec Bool)) (before : List Finished) (party first last answer : ℕ) where
+  -- the last step of a call ends it, and no other one is in hand then
+  ends_it : (s : RobustCall) → call_is_over s ≡ true
+      → (call_in_hand (call_take n decisions s answer) ≡ None)
+      × EndsOne Call Finished calls_of.whose calls_of.which before (before ++ call_ended party first last s) party (call_in_hand s)
+  ends_it (stage.Idle) over = absurd (cc)
+  ends_it (stage.Acquire owner) over = absurd (cc)
+  ends_it (stage.Claim owner place count) over = absurd (cc)
+  ends_it (stage.Count owner place count) over = absurd (cc)
+  ends_it (stage.Confirm owner place) over = absurd (cc)
+  ends_it (stage.Undo owner place) over = absurd (cc)
+  ends_it (stage.Free owner index mode) over = absurd (cc)
+  ends_it (stage.Look owner number mode place) over = absurd (cc)
+  ends_it (stage.Clear owner number mode place seen) over = absurd (cc)
+  ends_it (stage.Settle c) over = absurd (cc)
+  ends_it (stage.Scan c place count) over = absurd (cc)
+  ends_it (stage.Lock c count) over = absurd (cc)
+  ends_it (stage.Done c a) over = (
+    refl,
+    record {
+      ended = record { party = party; call = c; answer = a; first = first; last = last };
+      added = refl;
+      its = refl;
+      is = refl;
+    },
+  )
+
+goes : (m : RobustSetState) (step : Move) → fits m step ≡ true → ends m step ≡ false
+    → LeavesCalls Call (hands m) (hands (happens m step)) (party_of step) (call_of_step m step)
+    × ((happens m step).finished ≡ m.finished)
+goes m (Begin party c) fit going = (
+  leaves m (begun m party c) party (record { stage = call_begun m.capacity c; first = length m.events }) (Some c) refl
+      (is_there m.seats party _ fit) (begun_call m.capacity c),
+  refl,
+)
+goes m (GoOn party) fit going =
+    let answer : ℕ = answer_of m.words (call_next (stage_at m.seats party)) in (
+      leaves m (went m party) party
+          (record { stage = call_take m.capacity m.decisions (stage_at m.seats party) answer; first = (seat_at m.seats party).first })
+          (hands m party) refl (is_there m.seats party _ fit) (keeps_call m.capacity m.decisions (stage_at m.seats party) answer going),
+      ap (λ (fs : List Finished). m.finished ++ fs)
+          (none_ended party (seat_at m.seats party).first (length m.events) (stage_at m.seats party) going) ∙ append-nil m.finished,
     )
 
-ends_none : (m : RobustSetState) (step : Move) → ends m step ≡ false → length (happens m step).finished ≡ length m.finished
-ends_none m step going = ended_count m step ∙ ap (λ (b : Bool). length m.finished + (if b then 1 else 0)) going ∙ omega arith
-
-ends_one : (m : RobustSetState) (step : Move) → ends m step ≡ true → length (happens m step).finished ≡ length m.finished + 1
-ends_one m step over = ended_count m step ∙ ap (λ (b : Bool). length m.finished + (if b then 1 else 0)) over
+ended : (m : RobustSetState) (step : Move) → fits m step ≡ true → ends m step ≡ true
+    → LeavesCalls Call (hands m) (hands (happens m step)) (party_of step) None
+    × EndsOne Call Finished calls_of.whose calls_of.which m.finished (happens m step).finished (party_of step) (call_of_step m step)
+ended m (Begin party c) fit over = absurd (cc)
+ended m (GoOn party) fit over =
+    let answer : ℕ = answer_of m.words (call_next (stage_at m.seats party)) in
+    let both : (call_in_hand (call_take m.capacity m.decisions (stage_at m.seats party) answer) ≡ None) × _
+    = ends_it m.capacity m.decisions m.finished party (seat_at m.seats party).first (length m.events) answer (stage_at m.seats party)
+    over in (
+      leaves m (went m party) party
+          (record { stage = call_take m.capacity m.decisions (stage_at m.seats party) answer; first = (seat_at m.seats party).first })
+          None refl (is_there m.seats party _ fit) both.0,
+      both.1,
+    )
 
 pub steps_tell : (m : RobustSetState) (step : Move) (r : Stepped) (n : RobustSetState) → StepsTo m step r n → TellsStep m step r n
-steps_tell m step stepped.Went n h = subst (TellsStep m step stepped.Went) (sym h.2)
-    (made_step m step, leaves_begun m step h.0, ends_none m step h.1)
-steps_tell m step stepped.Finished n h = subst (TellsStep m step stepped.Finished) (sym h.2)
-    (made_step m step, leaves_begun m step h.0, ends_one m step h.1)
-steps_tell m step stepped.Skipped n h = h.1
-steps_tell m step stepped.NoMemory n h = h.1
+steps_tell m step r n h = steps_tell_calls RobustSetState Move fits ends happens Call Finished calls_of m step (party_of step)
+    (call_of_step m step) (λ fit. made_step m step) (goes m step) (ended m step) r n h

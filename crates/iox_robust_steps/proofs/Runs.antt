@@ -9,7 +9,6 @@ use Rattle.std.proofs.lemmas.List.{get_or_past}
 use Rattle.iox_container.specs.declared.release.ReleaseMode.{ReleaseMode}
 use Rattle.iox_container.specs.declared.release.ReleaseMode.TheVariants.{LockIfLastIndex, Default}
 use Rattle.iox_queues_steps.specs.Access.{answer_of, after_access, word_of}
-use Rattle.iox_queues_steps.specs.Schedule.{count_of, is_stopped_of}
 use Rattle.iox_queues_steps.specs.declared.access.Access.TheVariants.{Local}
 use Rattle.iox_queues_steps.specs.declared.access.Word.TheVariants.{Cell}
 use Rattle.iox_queues_steps.specs.declared.schedule.Stepped.{Stepped}
@@ -18,8 +17,8 @@ use Rattle.iox_queues.specs.Told.{own}
 use Rattle.iox_queues.specs.declared.bits.machine.Event.{Event}
 use Rattle.iox_robust_steps.specs.Steps.{call_begun, call_in_hand, call_is_idle, call_next, call_take, lock_mark, settles}
 use Rattle.iox_robust_steps.specs.Changes.{is_owner}
-use Rattle.iox_robust_steps.specs.Told.{AreFreed, IsAskedSoFar, MoveNone, is_locking}
-use Rattle.iox_robust_steps.specs.Machine.{HasFewSteps, IsOrderly, RobustSetState, RunsTo, StaysLocked, StepsTo, begun, call_ended, fits}
+use Rattle.iox_robust_steps.specs.Told.{AreAsked, AreFreed, IsAskedSoFar, MoveNone, is_locking}
+use Rattle.iox_robust_steps.specs.Machine.{HasFewSteps, IsOrderly, RobustSetState, StaysLocked, StepsTo, begun, call_ended, fits}
 use Rattle.iox_robust_steps.specs.Machine.{happens, is_halted, is_holder, is_locked, is_lost, lost_begun, may_begin, one_if_held, place_of}
 use Rattle.iox_robust_steps.specs.Machine.{places_after, seat_at, stage_at, start_words, went}
 use Rattle.iox_robust_steps.specs.Kept.{FreesSoFar, IsConsistent, IsKept, IsOwner, IsQuiet, Knows}
@@ -40,10 +39,11 @@ use Rattle.iox_robust_steps.proofs.Ending.{same_places, told_append, told_on}
 use Rattle.iox_robust_steps.proofs.Freeing.{NothingNew, ended_freed, freed_append, freed_lost, freed_on, frees_lost, frees_next, frees_on}
 use Rattle.iox_robust_steps.proofs.Freeing.{looks_freed, nothing_new}
 use Rattle.iox_robust_steps.proofs.Going.{MadeStep, made}
-use Rattle.iox_robust_steps.proofs.Holders.{one_holds}
+use Rattle.iox_robust_steps.proofs.Holders.{holder_is, one_holds}
 use Rattle.iox_robust_steps.proofs.Knowing.{knows_else, knows_lost, mark_on, tells_locked}
 use Rattle.iox_robust_steps.proofs.OfCalls.{begun_call, begun_counted, went_counted}
 use Rattle.iox_robust_steps.proofs.Seats.{each_seat, seat_else, seat_here}
+use Rattle.iox_robust_steps.proofs.Theirs.{each_frees}
 use Rattle.iox_robust_steps.proofs.Whole.{whole_kept}
 
 not_is : (b : Bool) → not b ≡ true → b ≡ false
@@ -70,19 +70,19 @@ module _ (m : RobustSetState) (party : ℕ) (fit : fits m (GoOn party) ≡ true)
   within : party < length m.seats
   within = ltb-true party (length m.seats) parts.0
 
-  busy : call_is_idle s ≡ false
+  pub busy : call_is_idle s ≡ false
   busy = not_is (call_is_idle s) (and_parts (not (call_is_idle s)) (not (is_halted m.lost s)) parts.1).0
 
-  live : is_halted m.lost s ≡ false
+  pub live : is_halted m.lost s ≡ false
   live = not_is (is_halted m.lost s) (and_parts (not (call_is_idle s)) (not (is_halted m.lost s)) parts.1).1
 
   longer : length (m.events ++ event ∷ []) ≡ length m.events + 1
   longer = length-append m.events (event ∷ [])
 
-  fewer : HasFewSteps (went m party) → HasFewSteps m
+  pub fewer : HasFewSteps (went m party) → HasFewSteps m
   fewer few = omega (arith, few, longer)
 
-  went_made : HasFewSteps (went m party) → IsConsistent m
+  pub went_made : HasFewSteps (went m party) → IsConsistent m
       → MadeStep m.capacity party m.words (after_access m.words (call_next s)) m.places (places_after m.places party s answer) m.lost
       m.events (own party (drop (seat_at m.seats party).first m.events)) event seat.stage
   went_made few c = made m.capacity party m.decisions m.words m.places m.lost m.events
@@ -161,7 +161,13 @@ module _ (m : RobustSetState) (party : ℕ) (fit : fits m (GoOn party) ≡ true)
       new c = nothing_new m.capacity party m.words m.places m.lost k.cells (own party (drop (seat_at m.seats party).first m.events)) s live
           (c.knows party)
 
-  went_keeps : IsKept (went m party)
+  ended_asked : AreAsked m.capacity m.decisions (m.events ++ event ∷ []) (went m party).finished
+  ended_asked = asked_append m.capacity m.decisions (m.events ++ event ∷ []) m.finished
+      (call_ended party (seat_at m.seats party).first (length m.events) s)
+      (ended_asked_on m.capacity m.decisions m.events event m.finished k.recorded.among k.recorded.ended)
+      (call_asked m.capacity m.decisions party (seat_at m.seats party).first m.events event s (k.recorded.going party))
+
+  pub went_keeps : IsKept (went m party)
   went_keeps = record {
     small = k.small;
     cells = same_cells m.words (call_next s) ∙ k.cells;
@@ -173,10 +179,8 @@ module _ (m : RobustSetState) (party : ℕ) (fit : fits m (GoOn party) ≡ true)
       among = among_append (m.events ++ event ∷ []) m.finished (call_ended party (seat_at m.seats party).first (length m.events) s)
           (among_on m.events event m.finished k.recorded.among)
           (ended_among m.events event party (seat_at m.seats party).first s (k.began party));
-      ended = asked_append m.capacity m.decisions (m.events ++ event ∷ []) m.finished
-          (call_ended party (seat_at m.seats party).first (length m.events) s)
-          (ended_asked_on m.capacity m.decisions m.events event m.finished k.recorded.among k.recorded.ended)
-          (call_asked m.capacity m.decisions party (seat_at m.seats party).first m.events event s (k.recorded.going party));
+      ended = ended_asked;
+      frees = each_frees m.capacity m.decisions (m.events ++ event ∷ []) (went m party).finished ended_asked;
       going = asked_all m.capacity m.decisions m.seats m.events event seat within k.began k.recorded.going
           (subst (λ (es : List Event). IsAskedSoFar m.capacity m.decisions party (call_in_hand seat.stage) seat.stage es)
           (sym (own_more_since party (seat_at m.seats party).first m.events event (k.began party) refl))
@@ -210,7 +214,7 @@ module _ (m : RobustSetState) (party : ℕ) (c : Call) (fit : fits m (Begin part
   longer_begun : length (m.events ++ begin ∷ []) ≡ length m.events + 1
   longer_begun = length-append m.events (begin ∷ [])
 
-  fewer_begun : HasFewSteps (begun m party c) → HasFewSteps m
+  pub fewer_begun : HasFewSteps (begun m party c) → HasFewSteps m
   fewer_begun few = omega (arith, few, longer_begun)
 
   first_own : own party (drop (length m.events) (m.events ++ begin ∷ [])) ≡ begin ∷ []
@@ -328,7 +332,10 @@ module _ (m : RobustSetState) (party : ℕ) (c : Call) (fit : fits m (Begin part
       (own party (drop (length m.events) (m.events ++ begin ∷ [])))) (sym (begun_call m.capacity c))
       (record { between = []; whole = first_own; goes = refl })
 
-  begun_keeps : IsKept (begun m party c)
+  still_asked : AreAsked m.capacity m.decisions (m.events ++ begin ∷ []) m.finished
+  still_asked = ended_asked_on m.capacity m.decisions m.events begin m.finished k.recorded.among k.recorded.ended
+
+  pub begun_keeps : IsKept (begun m party c)
   begun_keeps = record {
     small = k.small;
     cells = k.cells;
@@ -338,7 +345,8 @@ module _ (m : RobustSetState) (party : ℕ) (c : Call) (fit : fits m (Begin part
     recorded = record {
       answered = answered_on (start_words m.capacity) m.words m.events begin refl k.recorded.answered;
       among = among_on m.events begin m.finished k.recorded.among;
-      ended = ended_asked_on m.capacity m.decisions m.events begin m.finished k.recorded.among k.recorded.ended;
+      ended = still_asked;
+      frees = each_frees m.capacity m.decisions (m.events ++ begin ∷ []) m.finished still_asked;
       going = asked_all m.capacity m.decisions m.seats m.events begin begun_seat there k.began k.recorded.going begun_asked;
     };
     counted = begun_counted m party c fit k.counted;
@@ -381,11 +389,15 @@ orderly m k few =
     let s : IsConsistent m = k.sound few in
     record {
       one_holder = λ i p q h g. one_holds i p q m.events (s.whole.turns i) h g;
+      holder = s.whole.holders;
+      held = λ i p h. holder_is i p m.events (place_of m.places i) (s.whole.turns i) (s.whole.balance i) (s.whole.holders i) h;
       turns = s.whole.turns;
       holds = s.whole.balance;
       locked_by = s.locked_by;
       none_out = λ locked i. omega (arith, s.whole.balance i, none i (eqb-true m.words.read lock_mark locked) s);
       told = s.told;
+      going = λ party c answer is. subst (Knows m.capacity m.words m.places m.lost party
+          (own party (drop (seat_at m.seats party).first m.events))) is (s.knows party);
       freed = s.freed;
     }
   where
@@ -394,35 +406,6 @@ orderly m k few =
         (λ (below : i < m.capacity). none_held (place_of m.places i) (s.whole.quiet locked i below))
         (λ (past : m.capacity ≤ i). ap one_if_held (get_or_past m.places i place.Empty (omega (arith, past, k.places))))
         (cases_lt i m.capacity)
-
--- one more step of a list
-pub run_more : (m : RobustSetState) (step : Move) (steps : List Move) (r : Stepped) (m' n : RobustSetState) (k made : ℕ)
-    → StepsTo m step r m' → is_stopped_of r ≡ false → made ≡ count_of r + k → RunsTo m' steps k n
-    → RunsTo m (step ∷ steps) made n
-run_more m step steps stepped.Went m' n k made h go e g
-    = inr (inl (h.0, (k, omega arith, subst (λ (x : RobustSetState). RunsTo x steps k n) h.2 g)))
-run_more m step steps stepped.Finished m' n k made h go e g
-    = inr (inl (h.0, (k, omega arith, subst (λ (x : RobustSetState). RunsTo x steps k n) h.2 g)))
-run_more m step steps stepped.Skipped m' n k made h go e g =
-    inl (h.0, subst (λ (i : ℕ). RunsTo m steps i n) (omega arith) (subst (λ (x : RobustSetState). RunsTo x steps k n) h.1 g))
-run_more m step steps stepped.NoMemory m' n k made h go e g = absurd (cc)
-
-pub run_stops : (m : RobustSetState) (step : Move) (steps : List Move) (r : Stepped) (m' : RobustSetState) → StepsTo m step r m'
-    → is_stopped_of r ≡ true → RunsTo m (step ∷ steps) 0 m'
-run_stops m step steps stepped.Went m' h go = absurd (cc)
-run_stops m step steps stepped.Finished m' h go = absurd (cc)
-run_stops m step steps stepped.Skipped m' h go = absurd (cc)
-run_stops m step steps stepped.NoMemory m' h go = inr (inr (h.0, refl, h.1))
-
-pub counts_one : (r : Stepped) (n : ℕ) → n ≡ count_of r → n ≤ 1
-counts_one stepped.Went n e = omega arith
-counts_one stepped.Finished n e = omega arith
-counts_one stepped.Skipped n e = omega arith
-counts_one stepped.NoMemory n e = omega arith
-
-pub no_more : (xs : List Move) → length xs ≡ 0 → xs ≡ []
-no_more [] h = refl
-no_more (x ∷ xs) h = absurd (omega arith)
 
 pub goes_on : (m n o : RobustSetState) → PassesTo m n → PassesTo n o → PassesTo m o
 goes_on m n o first second few =

@@ -1,4 +1,5 @@
 -- A new set that knows its holders keeps what every machine keeps.
+use Rattle.std.proofs.Common.{◌∙◌}
 use Rattle.std.proofs.Common.{◌≡◌, ℕ, zero, suc, ◌+◌, ◌^◌, ◌<◌, ◌≤◌, ⊎_elim, inr, Bool, List, [], take, drop, replicate}
 use Rattle.std.proofs.Common.{slice_index}
 use Rattle.std.proofs.Common.{refl, sym, ap, subst, arith}
@@ -35,6 +36,7 @@ start_kept capacity parties decisions small = record {
     answered = refl;
     among = tt;
     ended = tt;
+    frees = tt;
     going = λ q. subst (λ (s : Seat). IsAskedSoFar capacity decisions q (call_in_hand s.stage) s.stage (own q (drop s.first [])))
         (sym (all_idle parties q)) tt;
   };
@@ -47,6 +49,7 @@ start_kept capacity parties decisions small = record {
       count = inr (omega arith);
       balance = λ i. omega (arith, ap one_if_held (all_empty capacity i));
       turns = no_turns;
+      holders = λ i p is. absurd (let wrong : place.Empty ≡ place.Held p = sym (all_empty capacity i) ∙ is in cc);
     };
     knows = λ q. subst (λ (s : Seat). Knows capacity (start_words capacity) (replicate capacity place.Empty) [] q (own q (drop s.first []))
         s.stage) (sym (all_idle parties q)) tt;

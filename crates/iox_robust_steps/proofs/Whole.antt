@@ -4,14 +4,43 @@ use Rattle.std.proofs.Common.{set, slice_index, refl, sym, ◌∙◌, ap, subst,
 use Rattle.std.proofs.Math.Seq.{get_or-set_same, get_or-set_other}
 use Rattle.std.proofs.lemmas.Bool.{cases_eq}
 use Rattle.iox_queues_steps.specs.Access.{RingWords}
+use Rattle.iox_queues_steps.specs.declared.access.Access.{Access}
+use Rattle.iox_queues_steps.specs.declared.access.Access.TheVariants.{Load, Store, Exchange, Local}
+use Rattle.iox_queues_steps.specs.declared.access.Word.TheVariants.{Write, Read, Cell}
 use Rattle.iox_queues.specs.declared.bits.machine.Event.{Event}
 use Rattle.iox_robust_steps.specs.Steps.{lock_mark, reserved}
 use Rattle.iox_robust_steps.specs.Changes.{gave_by, times_given, times_taken, took_by}
+use Rattle.iox_robust_steps.specs.Told.{Holds}
 use Rattle.iox_robust_steps.specs.Machine.{is_lost, one_if_held, place_of}
 use Rattle.iox_robust_steps.specs.Kept.{CellFits, IsOwner, IsQuiet, WordsFit}
 use Rattle.iox_robust_steps.specs.declared.state.Place.{Place}
 use Rattle.iox_robust_steps.specs.declared.state.Place.TheVariants as place
 use Rattle.iox_robust_steps.proofs.Counts.{more_given, more_taken, turns_on}
+
+-- no step both takes an index and gives it back
+never_both : (i : ℕ) (access : Access) (answer : ℕ) → took_by i access ≡ gave_by i access answer → gave_by i access answer ≡ 0
+never_both i (Load word) answer h = refl
+never_both i (Store word value) answer h = refl
+never_both i (Exchange Write old new) answer h = refl
+never_both i (Exchange Read old new) answer h = refl
+never_both i (Exchange (Cell place) old new) answer h = sym h
+never_both i Local answer h = refl
+
+still_holds : (p i : ℕ) (events : List Event) (e : Event) → Holds p i events → gave_by i e.access e.answer ≡ 0
+    → Holds p i (events ++ e ∷ [])
+still_holds p i events e h gave = record {
+  before = h.before;
+  taking = h.taking;
+  after = h.after ++ e ∷ [];
+  whole = ap (λ (es : List Event). es ++ e ∷ []) h.whole ∙ behind h.before (h.taking ∷ h.after);
+  its = h.its;
+  takes = h.takes;
+  keeps = omega (arith, more_given i h.after (e ∷ []), h.keeps, gave);
+}
+  where
+    behind : (xs ys : List Event) → (xs ++ ys) ++ e ∷ [] ≡ xs ++ (ys ++ e ∷ [])
+    behind [] ys = refl
+    behind (x ∷ xs) ys = ap (λ (zs : List Event). x ∷ zs) (behind xs ys)
 
 at_most_one : (p : Place) → one_if_held p ≤ 1
 at_most_one place.Empty = omega arith
@@ -48,18 +77,30 @@ module _ (n : ℕ) (words : RingWords) (places : List Place) (events : List Even
   Adds places' = (i : ℕ)
       → took_by i e.access + one_if_held (place_of places i) ≡ gave_by i e.access e.answer + one_if_held (place_of places' i)
 
+  -- who holds an index after the step held it before, or took it by the step
+  abbrev HeldFrom : ℕ → Place → Place → Type 0
+  HeldFrom i before after =
+      (p : ℕ) → after ≡ place.Held p → (before ≡ place.Held p) ⊎ ((e.party ≡ p) × (took_by i e.access ≡ 1))
+
   pub whole_on : (words' : RingWords) (places' : List Place)
       → ((i : ℕ) → i < n → CellFits (place_of places' i) (slice_index words'.cells i))
       → (words'.read ≡ lock_mark → (i : ℕ) → i < n → IsQuiet (place_of places' i))
       → ((words'.read ≡ lock_mark) ⊎ (words'.read ≤ length (events ++ e ∷ []))) → Adds places'
+      → ((i : ℕ) → HeldFrom i (place_of places i) (place_of places' i))
       → WordsFit n words' places' (events ++ e ∷ [])
-  whole_on words' places' cells quiet count adds = record {
+  whole_on words' places' cells quiet count adds from = record {
     cells = cells;
     quiet = quiet;
     count = count;
     balance = balanced;
     turns = λ i k. turns_on i k events e (λ k. w.turns i k)
         (omega (arith, balanced i, at_most_one (place_of places' i)), omega (arith, balanced i, at_most_one (place_of places' i)));
+    holders = λ i p is. ⊎_elim
+        (λ (was : place_of places i ≡ place.Held p). still_holds p i events e (w.holders i p was) (never_both i e.access e.answer
+        (omega (arith, adds i, ap one_if_held was, ap one_if_held is))))
+        (λ (now : (e.party ≡ p) × (took_by i e.access ≡ 1)).
+        record { before = events; taking = e; after = []; whole = refl; its = now.0; takes = now.1; keeps = refl })
+        (from i p is);
   }
     where
       balanced : (i : ℕ) → times_taken i (events ++ e ∷ []) ≡ times_given i (events ++ e ∷ []) + one_if_held (place_of places' i)
@@ -75,7 +116,7 @@ module _ (n : ℕ) (words : RingWords) (places : List Place) (events : List Even
   -- a step that takes nothing and gives nothing back
   pub whole_kept : ((i : ℕ) → took_by i e.access ≡ 0) → ((i : ℕ) → gave_by i e.access e.answer ≡ 0)
       → WordsFit n words places (events ++ e ∷ [])
-  whole_kept took gave = whole_on words places w.cells w.quiet count_on (λ i. omega (arith, took i, gave i))
+  whole_kept took gave = whole_on words places w.cells w.quiet count_on (λ i. omega (arith, took i, gave i)) (λ i p is. inl is)
 
   -- a step that changes how far one index is taken, and maybe its cell
   module _ (j : ℕ) (x : Place) (within : j < n) (many : length places ≡ n) where
@@ -109,17 +150,18 @@ module _ (n : ℕ) (words : RingWords) (places : List Place) (events : List Even
           (subst (CellFits (place_of places i)) (sym (cell_else i differs)) (w.cells i below)))
           (cases_eq i j)
 
-      pub whole_set : CellFits x v → (words.read ≡ lock_mark → IsQuiet x)
+      pub whole_set : CellFits x v → (words.read ≡ lock_mark → IsQuiet x) → HeldFrom j (place_of places j) x
           → took_by j e.access + one_if_held (place_of places j) ≡ gave_by j e.access e.answer + one_if_held x
           → ((i : ℕ) → (i ≡ j → ⊥) → (took_by i e.access ≡ 0) × (gave_by i e.access e.answer ≡ 0))
           → WordsFit n (record words { cells = set words.cells pos v }) (set places j x) (events ++ e ∷ [])
-      whole_set fits quiet here others = whole_on (record words { cells = set words.cells pos v }) (set places j x) (cells_fit fits)
+      whole_set fits quiet from here others = whole_on (record words { cells = set words.cells pos v }) (set places j x) (cells_fit fits)
           (λ locked. each_place (λ (i : ℕ) (p : Place). i < n → IsQuiet p) (λ below. quiet locked)
           (λ i differs below. w.quiet locked i below))
           count_on
           (each_place (λ (i : ℕ) (p : Place). took_by i e.access + one_if_held (place_of places i)
           ≡ gave_by i e.access e.answer + one_if_held p) here
           (λ i differs. omega (arith, (others i differs).0, (others i differs).1)))
+          (each_place (λ (i : ℕ) (q : Place). HeldFrom i (place_of places i) q) from (λ i differs p is. inl is))
 
       pub leaves_set : (q : ℕ) (lost : List ℕ) → (IsQuiet (place_of places j) → IsQuiet x)
           → ((owner : ℕ) (stand : Place) → is_lost owner lost ≡ false → IsOwner owner → BelongsTo q stand → place_of places j ≡ stand

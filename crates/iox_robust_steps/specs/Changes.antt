@@ -18,13 +18,14 @@ took_by i (Store (Cell place) value) = if (place == i) && nat_lt 0 value then 1 
 took_by i (Exchange word old new) = 0
 took_by i Local = 0
 
--- 1 if the step gave index i back: its exchange found an owner in the cell, as it wanted
+-- 1 if the step gave index i back: its exchange found an owner in the cell, as it wanted, and left nothing there
 abbrev pub gave_by : ℕ → Access → ℕ → ℕ
 gave_by i (Load word) answer = 0
 gave_by i (Store word value) answer = 0
 gave_by i (Exchange Write old new) answer = 0
 gave_by i (Exchange Read old new) answer = 0
-gave_by i (Exchange (Cell place) old new) answer = if (place == i) && ((answer == old) && is_owner old) then 1 else 0
+gave_by i (Exchange (Cell place) old new) answer =
+    if (place == i) && ((answer == old) && ((new == 0) && is_owner old)) then 1 else 0
 gave_by i Local answer = 0
 
 -- how often some steps took index i
@@ -49,3 +50,15 @@ wanted_empty i Local answer = false
 -- so of an event
 abbrev pub saw_filled : ℕ → Event → Bool
 saw_filled i event = wanted_empty i event.access event.answer
+
+-- the step saw that an index is out, or about to be: it looked at the cell of one of n indices and found it filled, or wanted to change
+-- the count and found another one
+abbrev pub saw_other : ℕ → Access → ℕ → Bool
+saw_other n (Load Write) answer = false
+saw_other n (Load Read) answer = false
+saw_other n (Load (Cell place)) answer = nat_lt place n && not (answer == 0)
+saw_other n (Store word value) answer = false
+saw_other n (Exchange Write old new) answer = false
+saw_other n (Exchange Read old new) answer = not (answer == old)
+saw_other n (Exchange (Cell place) old new) answer = false
+saw_other n Local answer = false

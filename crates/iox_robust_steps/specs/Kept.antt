@@ -8,7 +8,7 @@ use Rattle.iox_queues.specs.Told.{own}
 use Rattle.iox_queues.specs.declared.bits.machine.Event.{Event}
 use Rattle.iox_robust_steps.specs.Steps.{lock_mark, reserved}
 use Rattle.iox_robust_steps.specs.Changes.{saw_filled, times_given, times_taken}
-use Rattle.iox_robust_steps.specs.Told.{AreFreed, AreTold, FreedBelow, FreedBy, GiveOnly, MoveNone, TakeNone, TakesTurns, Tells}
+use Rattle.iox_robust_steps.specs.Told.{AreFreed, AreTold, FreedBelow, FreedBy, GiveOnly, Holds, MoveNone, TakeNone, TakesTurns, Tells}
 use Rattle.iox_robust_steps.specs.Machine.{HasFewSteps, IsLockedByRelease, IsRecorded, RobustSetState, is_locked, is_lost, one_if_held}
 use Rattle.iox_robust_steps.specs.Machine.{place_of}
 use Rattle.iox_robust_steps.specs.Machine.{seat_at, stage_at}
@@ -34,13 +34,15 @@ IsQuiet (place.Claimed p) = Unit {0}
 IsQuiet (place.Counted p) = ⊥
 IsQuiet (place.Held p) = ⊥
 
--- the words and the steps fit how far each index is taken; of a locked set none is, nor about to be; the count is that of steps at most
+-- the words and the steps fit how far each index is taken, and who holds it took it; of a locked set none is, nor about to be; the count
+-- is that of steps at most
 pub record WordsFit (n : ℕ) (words : RingWords) (places : List Place) (events : List Event) : Type 0 where
   pub cells : (i : ℕ) → i < n → CellFits (place_of places i) (slice_index words.cells i)
   pub quiet : words.read ≡ lock_mark → (i : ℕ) → i < n → IsQuiet (place_of places i)
   pub count : (words.read ≡ lock_mark) ⊎ (words.read ≤ length events)
   pub balance : (i : ℕ) → times_taken i events ≡ times_given i events + one_if_held (place_of places i)
   pub turns : (i k : ℕ) → TakesTurns i (take k events)
+  pub holders : (i p : ℕ) → place_of places i ≡ place.Held p → Holds p i events
 
 -- the number names an owner
 abbrev pub IsOwner : ℕ → Type 0

@@ -6,3 +6,8 @@ pub mod Machine
 pub mod OfCalls
 pub mod Kept
 pub mod State
+pub mod ContainerSteps
+pub mod ContainerMachine
+pub mod ContainerTold
+pub mod ContainerKept
+pub mod ContainerView

@@ -7,14 +7,16 @@ use Rattle.iox_queues_steps.specs.Access.{RingWords, answer_of, after_access, wo
 use Rattle.iox_queues_steps.specs.declared.access.Word.TheVariants.{Cell}
 use Rattle.iox_queues_steps.specs.declared.access.Access.TheVariants.{Local}
 use Rattle.iox_queues_steps.specs.declared.schedule.Stepped.{Stepped}
-use Rattle.iox_queues_steps.specs.declared.schedule.Stepped.TheVariants as stepped
 use Rattle.iox_queues.specs.Recorded.{Answered}
 use Rattle.iox_queues.specs.Told.{own}
+use Rattle.iox_queues.specs.Turns.{RunsBy, StepsBy}
 use Rattle.iox_queues.specs.declared.bits.machine.Event.{Event}
 use Rattle.iox_robust_steps.specs.Steps.{call_begun, call_in_hand, call_is_idle, call_is_over, call_next, call_take, lock_mark}
 use Rattle.iox_robust_steps.specs.Changes.{is_owner, times_given, times_taken}
-use Rattle.iox_robust_steps.specs.Told.{AreAsked, AreFreed, AreTold, Holds, IsAskedSoFar, LieWithin, TakesTurns}
+use Rattle.iox_robust_steps.specs.Told.{AreAsked, AreFreed, AreTold, EachFreesItsOwn, Holds, IsAskedSoFar, LieWithin, TakesTurns}
+use Rattle.iox_robust_steps.specs.Told.{Tells}
 use Rattle.iox_robust_steps.specs.Told.{is_locking, some_has_locked}
+use Rattle.iox_robust_steps.specs.declared.call.Answer.{Answer}
 use Rattle.iox_robust_steps.specs.declared.call.Call.{Call}
 use Rattle.iox_robust_steps.specs.declared.call.Call.TheVariants as call
 use Rattle.iox_robust_steps.specs.declared.call.RobustCall.{RobustCall}
@@ -184,18 +186,11 @@ happens m (GoOn party) = went m party
 
 -- what a step answers, and what it leaves
 abbrev pub StepsTo : RobustSetState → Move → Stepped → RobustSetState → Type 0
-StepsTo m step stepped.Went n = (fits m step ≡ true) × (ends m step ≡ false) × (n ≡ happens m step)
-StepsTo m step stepped.Finished n = (fits m step ≡ true) × (ends m step ≡ true) × (n ≡ happens m step)
-StepsTo m step stepped.Skipped n = (fits m step ≡ false) × (n ≡ m)
-StepsTo m step stepped.NoMemory n = (fits m step ≡ true) × (n ≡ m)
+StepsTo m step r n = StepsBy fits ends happens m step r n
 
 -- a list of steps, of which `made` were made; it may stop where a step that fits finds no memory
 abbrev pub RunsTo : RobustSetState → List Move → ℕ → RobustSetState → Type 0
-RunsTo m [] made n = (made ≡ 0) × (n ≡ m)
-RunsTo m (step ∷ steps) made n =
-    ((fits m step ≡ false) × RunsTo m steps made n)
-    ⊎ (((fits m step ≡ true) × ((fewer : ℕ) × (made ≡ fewer + 1) × RunsTo (happens m step) steps fewer n))
-    ⊎ ((fits m step ≡ true) × (made ≡ 0) × (n ≡ m)))
+RunsTo m steps made n = RunsBy fits happens m steps made n
 
 -- the set is locked
 abbrev pub is_locked : RobustSetState → Bool
@@ -210,16 +205,21 @@ abbrev pub IsLockedByRelease : RobustSetState → Type 0
 IsLockedByRelease m =
     (some_has_locked m.finished ≡ true) ⊎ ((party : ℕ) × (is_locking (stage_at m.seats party) ≡ true))
 
--- what every list of steps keeps: no index has two holders; an index is taken and given back by turns, so that between two takings
--- lies its release or recovery; of a locked set none is taken, and only a call that was to lock it locked it; each call that ended
--- did what it answered, and a recovery left its owner no index that it was to free, for good
+-- what every list of steps keeps: no index has two holders; the holder is the party that took it, and nobody gave it back; an index is
+-- taken and given back by turns, so that between two takings lies its release or recovery; of a locked set none is taken, and only a call
+-- that was to lock it locked it; each call that ended did what it answered, so one in hand that has its answer; and a recovery left its
+-- owner no index that it was to free, for good
 pub record IsOrderly (m : RobustSetState) : Type 0 where
   pub one_holder : (i p q : ℕ) → Holds p i m.events → Holds q i m.events → p ≡ q
+  pub holder : (i p : ℕ) → place_of m.places i ≡ place.Held p → Holds p i m.events
+  pub held : (i p : ℕ) → Holds p i m.events → place_of m.places i ≡ place.Held p
   pub turns : (i k : ℕ) → TakesTurns i (take k m.events)
   pub holds : (i : ℕ) → times_taken i m.events ≡ times_given i m.events + one_if_held (place_of m.places i)
   pub locked_by : is_locked m ≡ true → IsLockedByRelease m
   pub none_out : is_locked m ≡ true → (i : ℕ) → times_taken i m.events ≡ times_given i m.events
   pub told : AreTold m.capacity (is_locked m) m.events m.finished
+  pub going : (party : ℕ) (c : Call) (answer : Answer) → stage_at m.seats party ≡ stage.Done c answer
+      → Tells m.capacity (is_locked m) (own party (drop (seat_at m.seats party).first m.events)) c answer
   pub freed : AreFreed m.decisions m.lost m.words.cells m.capacity m.finished
 
 -- a locked set stays locked
@@ -244,10 +244,12 @@ start capacity parties decisions = record {
 }
 
 -- what the steps that were made say, however many: each got what its word held, and they left the words as they are; each call that
--- ended lies among them; the steps of each call, ended or in hand, are those that its value asked for
+-- ended lies among them; the steps of each call, ended or in hand, are those that its value asked for; a recovery
+-- freed nothing but what it was to free of its owner
 pub record IsRecorded (m : RobustSetState) : Type 0 where
   pub answered : Answered (start_words m.capacity) m.events m.words
   pub among : LieWithin m.events m.finished
   pub ended : AreAsked m.capacity m.decisions m.events m.finished
+  pub frees : EachFreesItsOwn m.decisions m.events m.finished
   pub going : (party : ℕ) → IsAskedSoFar m.capacity m.decisions party (call_in_hand (stage_at m.seats party))
       (stage_at m.seats party) (own party (drop (seat_at m.seats party).first m.events))

@@ -1,16 +1,20 @@
 -- What the answer of a call says of the steps that were made.
-use Rattle.std.specs.Prelude.{ℕ, ◌≡◌, ◌+◌, ◌<◌, ◌≤◌, Bool, true, false, if◌then◌else◌, ◌==◌, ◌||◌, Ok, Err, Option, Some, None, List, []}
+use Rattle.std.specs.Prelude.{ℕ, ◌≡◌, ◌+◌, ◌<◌, ◌≤◌, ◌⊎◌, Bool, true, false, if◌then◌else◌, ◌==◌, ◌||◌, Ok, Err, Option, Some, None, List}
+use Rattle.std.specs.Prelude.{[]}
 use Rattle.std.specs.Prelude.{◌∷◌, ◌++◌, ◌^◌, slice_index, take, drop}
 use Rattle.std.specs.List.{list_any}
 use Rattle.std.specs.Global.{Vec}
 use Rattle.iox_container.specs.declared.error.UniqueIndexSetAcquireFailure.TheVariants.{OutOfIndices, IsLocked}
 use Rattle.iox_container.specs.declared.release.ReleaseMode.TheVariants.{LockIfLastIndex, Default}
 use Rattle.iox_container.specs.declared.release.ReleaseState.TheVariants.{Locked, Unlocked}
+use Rattle.iox_queues_steps.specs.declared.access.Access.{Access}
+use Rattle.iox_queues_steps.specs.declared.access.Access.TheVariants.{Load, Store, Exchange, Local}
+use Rattle.iox_queues_steps.specs.declared.access.Word.TheVariants.{Write, Read, Cell}
 use Rattle.iox_queues.specs.Recorded.{IsAskedFrom, LiesWithin}
 use Rattle.iox_queues.specs.Told.{own}
 use Rattle.iox_queues.specs.declared.bits.machine.Event.{Event}
-use Rattle.iox_robust_steps.specs.Steps.{call_begun, call_next, call_take, decided, reserved}
-use Rattle.iox_robust_steps.specs.Changes.{saw_filled, times_given, times_taken, took_by}
+use Rattle.iox_robust_steps.specs.Steps.{call_begun, call_next, call_take, decided, lock_mark, reserved}
+use Rattle.iox_robust_steps.specs.Changes.{saw_filled, saw_other, times_given, times_taken, took_by}
 use Rattle.iox_robust_steps.specs.declared.call.Answer.{Answer}
 use Rattle.iox_robust_steps.specs.declared.call.Answer.TheVariants.{Acquired, Settled}
 use Rattle.iox_robust_steps.specs.declared.call.Call.{Call}
@@ -79,9 +83,45 @@ pub record Holds (party i : ℕ) (events : List Event) : Type 0 where
 abbrev pub SawEachFilled : ℕ → List Event → Type 0
 SawEachFilled n events = (i : ℕ) → i < n → list_any (saw_filled i) events ≡ true
 
+-- the last of these steps saw that an index is out, or about to be
+pub record SawOther (n : ℕ) (events : List Event) : Type 0 where
+  pub before : List Event
+  pub look : Event
+  pub whole : events ≡ before ++ look ∷ []
+  pub saw : saw_other n look.access look.answer ≡ true
+
+-- a step of a recovery changes no cell, unless it empties that of an index that it is to free, where its owner stands or is about to;
+-- and it changes the count only to lock the set
+abbrev pub FreesSo : List (Vec Bool) → ℕ → ℕ → Access → Type 0
+FreesSo decisions owner number (Load word) = Unit {0}
+FreesSo decisions owner number (Store word value) = ⊥
+FreesSo decisions owner number (Exchange Write old new) = ⊥
+FreesSo decisions owner number (Exchange Read old new) = new ≡ lock_mark
+FreesSo decisions owner number (Exchange (Cell place) old new) =
+    (decided decisions number place ≡ true) × ((old ≡ owner) ⊎ (old ≡ reserved owner)) × (new ≡ 0)
+FreesSo decisions owner number Local = Unit {0}
+
+-- each of these steps is such a one
+abbrev pub FreeOnly : List (Vec Bool) → ℕ → ℕ → List Event → Type 0
+FreeOnly decisions owner number [] = Unit {0}
+FreeOnly decisions owner number (event ∷ events) =
+    FreesSo decisions owner number event.access × FreeOnly decisions owner number events
+
+-- the steps of a recovery are
+abbrev pub FreesItsOwn : List (Vec Bool) → Call → List Event → Type 0
+FreesItsOwn decisions (call.Acquire owner) events = Unit {0}
+FreesItsOwn decisions (call.Release owner i mode) events = Unit {0}
+FreesItsOwn decisions (call.Recover owner number mode) events = FreeOnly decisions owner number events
+
+-- so of each recovery among these calls
+abbrev pub EachFreesItsOwn : List (Vec Bool) → List Event → List Finished → Type 0
+EachFreesItsOwn decisions events [] = Unit {0}
+EachFreesItsOwn decisions events (f ∷ finished) =
+    FreesItsOwn decisions f.call (own f.party (drop f.first (take f.last events))) × EachFreesItsOwn decisions events finished
+
 -- what the answer of a call says of its own steps: an acquire that took an index took just that one; one that was refused did
 -- nothing, and saw each cell filled, or the set is locked. A release gave just its index back; a recovery took none. Only those
--- that were to lock say that the set is locked, and it is
+-- that were to lock say that the set is locked, and it is; where they say that it isn't, they saw another index out, or about to be
 abbrev pub Tells : ℕ → Bool → List Event → Call → Answer → Type 0
 Tells n locked events (call.Acquire owner) (Acquired (Ok i)) = (i < n) × TakeOnly i events
 Tells n locked events (call.Acquire owner) (Acquired (Err OutOfIndices)) = MoveNone events × SawEachFilled n events
@@ -90,11 +130,13 @@ Tells n locked events (call.Acquire owner) (Settled state) = ⊥
 Tells n locked events (call.Release owner i mode) (Acquired got) = ⊥
 Tells n locked events (call.Release owner i LockIfLastIndex) (Settled Locked) = GiveOnly i events × (locked ≡ true)
 Tells n locked events (call.Release owner i Default) (Settled Locked) = ⊥
-Tells n locked events (call.Release owner i mode) (Settled Unlocked) = GiveOnly i events
+Tells n locked events (call.Release owner i LockIfLastIndex) (Settled Unlocked) = GiveOnly i events × SawOther n events
+Tells n locked events (call.Release owner i Default) (Settled Unlocked) = GiveOnly i events
 Tells n locked events (call.Recover owner number mode) (Acquired got) = ⊥
 Tells n locked events (call.Recover owner number LockIfLastIndex) (Settled Locked) = TakeNone events × (locked ≡ true)
 Tells n locked events (call.Recover owner number Default) (Settled Locked) = ⊥
-Tells n locked events (call.Recover owner number mode) (Settled Unlocked) = TakeNone events
+Tells n locked events (call.Recover owner number LockIfLastIndex) (Settled Unlocked) = TakeNone events × SawOther n events
+Tells n locked events (call.Recover owner number Default) (Settled Unlocked) = TakeNone events
 
 -- each call that ended did what it answered
 abbrev pub AreTold : ℕ → Bool → List Event → List Finished → Type 0

@@ -6,6 +6,7 @@
 //!
 //! - [`call`]: what each party does next, free of any set.
 //! - [`machine`]: a set with its parties, which go in any order.
+//! - [`container`]: a container of members over such a set, with its parties.
 //!
 //! A first call:
 //!
@@ -28,6 +29,7 @@
 #![tactic(auto)]
 
 pub mod call;
+pub mod container;
 pub mod machine;
 mod state;
 

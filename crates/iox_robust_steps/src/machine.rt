@@ -30,9 +30,10 @@ pub struct Finished {
 ///
 /// Any party may stop anywhere. A release fits only where its party holds the index for that owner, so once. Nobody acts for an owner
 /// whose recovery began: what its parties have in hand is skipped, unless it has freed its index or has its answer. What recoveries
-/// decide on each index is handed in. Where fewer than 2^64 - 1 steps were made, no index has two holders, between two takings of an
-/// index lies its release or recovery, of a locked set no index is out, only a call that was to lock it locked it, it stays locked, each
-/// call that ended did what it answered, and a recovery left its owner no index that it was to free.
+/// decide on each index is handed in. Where fewer than 2^64 - 1 steps were made, no index has two holders, the holder is the party that
+/// took it, between two takings of an index lies its release or recovery, of a locked set no index is out, only a call that was to lock
+/// it locked it, it stays locked, each call that ended did what it answered, and a recovery left its owner no index that it was to free.
+/// It freed nothing else, however many steps were made.
 #[derive(Debug, Drop)]
 pub struct RobustSetMachine {
     state: State,
@@ -52,7 +53,8 @@ impl Model for RobustSetMachine {
 }
 
 impl RobustSetMachine {
-    ghost use Rattle.iox_robust_steps.specs.Machine.{HasFewSteps, IsOrderly, IsRecorded, StaysLocked, StepsTo, RunsTo, start, stage_at};
+    ghost use Rattle.iox_robust_steps.specs.Machine.{HasFewSteps, IsOrderly, IsRecorded, StaysLocked, StepsTo, RunsTo, fits, start};
+    ghost use Rattle.iox_robust_steps.specs.Machine.{stage_at};
     ghost use Rattle.iox_robust_steps.specs.Machine.{is_locked};
     ghost use Rattle.iox_robust_steps.specs.OfCalls.{StepsAreOfCalls, TellsStep};
 
@@ -108,6 +110,13 @@ impl RobustSetMachine {
             rest = tail;
         }
         made
+    }
+
+    // Whether the step fits.
+    pub(crate) fn fits(&self, step: Move) -> bool
+        ensures { result ≡ fits self.now step }
+    {
+        self.state.fits(step)
     }
 
     // What every machine keeps.

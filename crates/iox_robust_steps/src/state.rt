@@ -146,7 +146,7 @@ impl State {
         }
     }
 
-    fn fits(&self, step: Move) -> bool
+    pub(crate) fn fits(&self, step: Move) -> bool
         requires { 0 < length self.now.ring.cells }
         ensures { result ≡ fits (machine_of self.now) step }
     {

@@ -3,9 +3,10 @@ use Rattle.std.proofs.Common.{ℕ, ◌≡◌, ◌<◌, ◌==◌, ◌⊎◌, ◌�
 use Rattle.std.proofs.Common.{arith, append_assoc, length-append}
 use Rattle.std.proofs.lemmas.List.{append-nil}
 use Rattle.std.proofs.lemmas.Grind.{common_steps}
+use Rattle.iox_conversation.proofs.Shorthands.{heard}
 use Rattle.iox_conversation.proofs.LineLemmas.{heard-whole, is_unbroken, lines_of-alone, unbroken-append}
 use Rattle.iox_conversation.proofs.WholeLineLemmas.{heard_whole-done, heard_whole-more}
-use Rattle.iox_conversation.specs.Lines.{heard, heard_whole}
+use Rattle.iox_conversation.specs.Lines.{heard_whole}
 
 -- bytes up to their first newline, and those behind it
 abbrev SplitsAtNewline : List ℕ → Type 0

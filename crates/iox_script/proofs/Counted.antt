@@ -5,11 +5,13 @@ use Rattle.iox_command.specs.declared.command.Command.{Command}
 use Rattle.iox_command.specs.declared.command.Command.TheVariants as command
 use Rattle.iox_command.specs.declared.step.ForeignStep.{ForeignStep}
 use Rattle.iox_command.specs.declared.step.StepBefore.{StepBefore}
-use Rattle.iox_conversation.specs.Lines.{before_first_of, ended_lines_of, heard, heard_whole, lines_of, onto_first}
+use Rattle.iox_conversation.proofs.Shorthands.{before_first_of, ended_lines_of, heard, lines_of, onto_first}
+use Rattle.iox_conversation.specs.Lines.{heard_whole}
 use Rattle.iox_hub_machine.specs.RunLaws.{all_asked, steps_named}
+use Rattle.iox_line.proofs.Shorthands.{WritesSteps, beginning}
 use Rattle.iox_line.specs.Letters.{space}
 use Rattle.iox_line.specs.Spelling.{Spells}
-use Rattle.iox_line.specs.Steps.{WritesLists, WritesSteps, beginning}
+use Rattle.iox_line.specs.Steps.{WritesLists}
 use Rattle.iox_line.specs.Words.{joined}
 use Rattle.iox_line.specs.declared.error.LineError.{LineError}
 use Rattle.iox_script.specs.Answered.{AreReadAs, commands_among}
@@ -36,7 +38,8 @@ lists-few now (before ∷ steps) words are = omega (
 
 steps-few : (steps : List ForeignStep) (words : List (List ℕ)) → WritesSteps steps words → length steps ≤ length words
 steps-few [] words are = omega arith
-steps-few (step ∷ steps) words are = omega (arith, steps-few steps are.1 are.3, ap (λ (all : List (List ℕ)). length all) are.4)
+steps-few (step ∷ steps) [] are = absurd are
+steps-few (step ∷ steps) (word ∷ words) are = omega (arith, steps-few steps words are.1)
 
 -- words that name a service have as many for its steps
 named-few : (chosen attributed listed named : List (List ℕ)) (node pattern name line : List ℕ) (words : List (List ℕ)) (verb : List ℕ)

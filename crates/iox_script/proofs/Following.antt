@@ -3,10 +3,11 @@ use Rattle.std.proofs.Common.{ℕ, ◌≡◌, ◌<◌, ◌≤◌, ◌^◌, ◌�
 use Rattle.std.proofs.Common.{Result, Ok, Err}
 use Rattle.std.proofs.Common.{OnOk, IfErr, codes, length, refl, sym, ap, inl, inr, arith, append_assoc, length-append}
 use Rattle.std.specs.Io.KnownBytes.{Appends}
+use Rattle.iox_conversation.proofs.Shorthands.{heard}
 use Rattle.iox_conversation.proofs.LineLemmas.{is_unbroken}
 use Rattle.iox_conversation.proofs.WholeLineLemmas.{heard_whole-done, heard_whole-more}
 use Rattle.iox_conversation.specs.Conversation.{AreBegun, BreaksOff, IsConversation, IsDue, Served, SessionState}
-use Rattle.iox_conversation.specs.Lines.{heard, heard_whole}
+use Rattle.iox_conversation.specs.Lines.{heard_whole}
 use Rattle.iox_conversation.specs.declared.error.ServeError.{ServeError}
 use Rattle.iox_conversation.specs.declared.error.ServeError.TheVariants.{WriteFault}
 use Rattle.iox_hub_commands.specs.Command.declared.command.Command.{Command}

@@ -3,7 +3,7 @@ ghost use Rattle.std.specs.Prelude.{◌≡◌, ◌⊎◌, ◌+◌, ◌<◌, ◌�
 ghost use Rattle.std.specs.Io.{StartsWith};
 ghost use Rattle.std.specs.Io.KnownBytes.{Appends};
 ghost use Rattle.iox_conversation.specs.Conversation.{IsConversation};
-ghost use Rattle.iox_conversation.specs.Lines.{heard};
+ghost use Rattle.iox_conversation.specs.Lines.{heard_whole};
 ghost use Rattle.iox_conversation.specs.declared.error.ServeError.TheVariants as failed;
 ghost use Rattle.iox_hub_commands.specs.Numbers.{numbers_used};
 ghost use Rattle.iox_line.specs.LineFault.{fault_text};
@@ -110,7 +110,7 @@ pub fn serve<R: Read, W: Write>(
     // The same in the machine's words, where no two services of the names asked for share a hash (`NewMachineMayReply`).
     ensures answered { OnOk result (IfSome (R.remaining input.old.reader) (λ bytes.
         (text : List ℕ) × Appends (W.contents output.old.writer) (W.contents output.new.writer) text
-        × AnswersAsNewMachine config.expired_connection_buffer (heard bytes) text)) }
+        × AnswersAsNewMachine config.expired_connection_buffer (heard_whole true bytes) text)) }
     ensures broken { IfErr result (λ error. BreaksOffAnew config error input.new.ended (R.remaining input.old.reader)
         (R.remaining input.new.reader) (W.contents output.old.writer) (W.contents output.new.writer)) }
     ensures beginning { OnErr result (WritesABeginningAnew config input.new.ended (R.remaining input.old.reader)

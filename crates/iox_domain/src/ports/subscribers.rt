@@ -3,11 +3,12 @@ ghost use Rattle.std.specs.Prelude.{◌≡◌, ◌-◌, ◌^◌, min, option_cop
 ghost use Rattle.std.specs.Borrow.{sem};
 ghost use Rattle.std.specs.Map.Iter.{ShowsInOrder, deref_pair};
 ghost use Rattle.std.specs.Option.{option_copied_mut};
+ghost use Rattle.iox_domain_ports.specs.Census.{IsCensusOf, subscriber_share, share_at};
 ghost use Rattle.iox_domain.specs.Living.{living_subscribers};
 ghost use Rattle.iox_domain.specs.Subscribers.{subscriber_of, with_subscriber, subscriber_added, is_over_in, settled};
 
-use iox_domain_ports::SubscriberPort;
 use iox_domain_ports::living::{add, counted, living_of_subscriber};
+use iox_domain_ports::{Census, Share, SubscriberPort};
 use std::alloc::{AllocError, Global};
 use std::collections::BTreeMap;
 use std::collections::btree_map::Iter;
@@ -19,15 +20,20 @@ use std::marker::Model;
 #[derive(Drop)]
 pub struct Subscribers {
     ports: BTreeMap<u64, SubscriberPort>,
+    // How much of each owner lives.
+    census: Census,
 }
 
 impl Model for Subscribers {
     ghost use Rattle.std.specs.Prelude.{ℕ, List};
     ghost use Rattle.iox_domain_ports.specs.declared.subscriber_port.SubscriberPort.{SubscriberPort};
+    ghost use Rattle.iox_domain_ports.specs.Census.{IsCensusOf, subscriber_share};
 
     ghost Value = { List (ℕ × SubscriberPort) };
 
     ghost view = { λ s. s.ports.entries };
+
+    ghost invariant = { λ s. IsCensusOf subscriber_share s.census s.ports.entries };
 }
 
 impl Subscribers {
@@ -41,6 +47,7 @@ impl Subscribers {
     {
         Subscribers {
             ports: BTreeMap::new(alloc),
+            census: Census::new(alloc),
         }
     }
 
@@ -56,6 +63,7 @@ impl Subscribers {
         ensures* writes_back { sem 𝓛 (LendsSubscriber self.entry number result) }
         ensures value { option_copied_mut result ≡ subscriber_of number self.old }
     {
+        note_lent(&mut self.census, &self.ports, number);
         self.ports.get_mut(&number)
     }
 
@@ -73,7 +81,10 @@ impl Subscribers {
         ensures ok { OnOk result (self.new ≡ subscriber_added number port self.old) }
         ensures err { OnErr result (self.new ≡ self.old) }
     {
+        note_lent(&mut self.census, &self.ports, number);
+        let share = share_of(&port);
         self.ports.insert(number, port)?;
+        self.census.note(share);
         Ok(())
     }
 
@@ -82,13 +93,26 @@ impl Subscribers {
         ensures { self.new ≡ settled number self.old }
     {
         if self.is_over(number) {
+            note_lent(&mut self.census, &self.ports, number);
             let _ = self.ports.remove(&number);
+            self.census.note(Share { owner: 0, count: 0 });
         }
     }
 
     /// How much lives of the subscribers of an owner, or of all where none is named: those that exist, and the samples that are held. Past
     /// 2^64 - 1 it is that.
     pub fn living(&self, owner: Option<u64>) -> u64
+        ensures { result ≡ min (living_subscribers owner self.now) (2 ^ 64 - 1) }
+    {
+        let now = share_in(&self.ports, self.census.lent());
+        match self.census.told(owner, now) {
+            Some(count) => count,
+            None => self.count_living(owner),
+        }
+    }
+
+    // How much lives of an owner, or of all where none is named, counted one by one.
+    fn count_living(&self, owner: Option<u64>) -> u64
         ensures { result ≡ min (living_subscribers owner self.now) (2 ^ 64 - 1) }
     {
         self.ports
@@ -106,4 +130,39 @@ impl Subscribers {
             None => false,
         }
     }
+}
+
+// What counts of a subscriber.
+fn share_of(port: &SubscriberPort) -> Share
+    ensures { result ≡ subscriber_share port.now }
+{
+    Share {
+        owner: port.owner.number,
+        count: living_of_subscriber(port),
+    }
+}
+
+// What counts of the subscriber of a number; nothing where there is none.
+fn share_in(ports: &BTreeMap<u64, SubscriberPort>, number: u64) -> Share
+    ensures { result ≡ share_at subscriber_share (subscriber_of number ports.now.entries) }
+{
+    match ports.get(&number) {
+        Some(port) => share_of(port),
+        None => Share { owner: 0, count: 0 },
+    }
+}
+
+// Notes that a subscriber is lent. What the one that was lent before has become is counted.
+fn note_lent(census: &mut Census, ports: &BTreeMap<u64, SubscriberPort>, number: u64)
+    requires { IsCensusOf subscriber_share census.old ports.now.entries }
+    ensures tells { IsCensusOf subscriber_share census.new ports.now.entries }
+    ensures lent { census.new.lent ≡ number }
+{
+    let lent = census.lent();
+    if lent == number {
+        return;
+    }
+    let before = share_in(ports, lent);
+    let now = share_in(ports, number);
+    census.lend(before, number, now);
 }

@@ -1,6 +1,6 @@
 //! One publisher with its messages.
-ghost use Rattle.std.specs.Prelude.{◌≡◌, ℕ, ◌+◌, ◌<◌, ◌≤◌, length, get_or, set, map, is_some, option_copied, slice_get, position, nat_lt};
-ghost use Rattle.std.specs.Prelude.{IsSome, IfSome, IfOk, OnErr, ◌-◌, ◌^◌, ◌==◌, ◌++◌, ◌∷◌, [], true, false, None, Some};
+ghost use Rattle.std.specs.Prelude.{◌≡◌, ℕ, ◌+◌, ◌<◌, ◌≤◌, length, get_or, set, map, is_some, option_copied, slice_get, nat_lt};
+ghost use Rattle.std.specs.Prelude.{IsSome, IfOk, OnErr, ◌-◌, ◌^◌, ◌++◌, ◌∷◌, [], true, false, None, Some};
 ghost use Rattle.iox_domain_slots.specs.declared.stage.Stage.TheVariants as stage;
 ghost use Rattle.iox_domain_slots.specs.Uses.{Uses, nobody, placed, connected, is_there, worst_case, accepts, offered, taken, given_back};
 ghost use Rattle.iox_domain_slots.specs.Uses.{ended, emptied, newest, welcomed, dropped, begun, finished, connection_at, with_connection};
@@ -10,7 +10,7 @@ ghost use Rattle.std.specs.Borrow.{sem};
 ghost use Rattle.iox_domain_ports.specs.Messages.{Message, Loan, write_value, write_all, write_user_header, written_of, sent_as};
 ghost use Rattle.iox_domain_ports.specs.MessagesSending.{SenderState, LoanMade, slots_of, with_uses, change_loan, has_loan, has_place};
 ghost use Rattle.iox_domain_ports.specs.MessagesSending.{has_value, has_length, is_written_loan, loan_at, place_in, opened_for};
-ghost use Rattle.iox_domain_ports.specs.MessagesSending.{StandsAlone};
+ghost use Rattle.iox_domain_ports.specs.MessagesSending.{StandsAlone, has_borrowed, borrowed_place};
 
 use crate::messages::marks::Marks;
 use crate::messages::payloads::Payloads;
@@ -409,12 +409,14 @@ impl<T: Copy, U: Copy> Sender<T, U> {
         self.uses.take(index)
     }
 
-    /// Gives back the borrowed message at this place of the connection's list.
-    pub fn give_back(&mut self, index: usize, at: usize)
-        requires { at < length (connection_at index self.old.uses).borrowed }
-        ensures { self.new ≡ with_uses (with_connection index (given_back at (connection_at index self.old.uses)) self.old.uses) self.old }
+    /// Gives back the oldest message in this slot that is borrowed of the connection.
+    pub fn give_back(&mut self, index: usize, slot: usize)
+        requires { has_borrowed slot (connection_at index self.old.uses) ≡ true }
+        ensures { self.new ≡ with_uses (with_connection index
+            (given_back (borrowed_place slot (connection_at index self.old.uses)) (connection_at index self.old.uses)) self.old.uses)
+            self.old }
     {
-        self.uses.give_back(index, at);
+        self.uses.give_back(index, slot);
     }
 
     /// Ends the connection: what waits is lost, what is borrowed stays in use until it is given back.
@@ -511,13 +513,13 @@ impl<T: Copy, U: Copy> Sender<T, U> {
         self.uses.borrowed(index)
     }
 
-    /// Where in the connection's list of borrowed messages the first in this slot is; None if none is borrowed.
-    pub fn place_of_borrowed(&self, index: usize, slot: usize) -> Option<usize>
+    /// Whether a message in this slot is borrowed of the connection.
+    pub fn has_borrowed(&self, index: usize, slot: usize) -> bool
         requires { is_there (connection_at index self.now.uses) ≡ true }
-        ensures place { result ≡ position (λ message. message.slot == slot) (connection_at index self.now.uses).borrowed }
-        ensures inside { IfSome result (λ _. slot < self.now.uses.first + self.now.uses.size) }
+        ensures answer { result ≡ has_borrowed slot (connection_at index self.now.uses) }
+        ensures inside { result ≡ true → slot < self.now.uses.first + self.now.uses.size }
     {
-        self.uses.place_of_borrowed(index, slot)
+        self.uses.has_borrowed(index, slot)
     }
 
     /// How many indices the connections have: one more than the last that ever stood.

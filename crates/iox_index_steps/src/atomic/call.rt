@@ -2,10 +2,11 @@
 //!
 //! Two halves of the cells hold the value in turn, and a counter says which of them: a store fills the half that no load looks at,
 //! then moves the counter on; a load that finds the counter moved looks anew.
-ghost use Rattle.std.specs.Prelude.{◌≡◌, ◌<◌, ◌^◌, slice_index};
+ghost use Rattle.std.specs.Prelude.{◌≡◌, ◌<◌, ◌^◌};
 ghost use Rattle.iox_index_steps.specs.AtomicSteps.{call_begun, call_is_idle, call_is_over, call_next, call_take, fills_second, place};
-ghost use Rattle.iox_index_steps.specs.AtomicSteps.{table_value};
+ghost use Rattle.iox_queues.specs.Values.{table_value};
 
+use iox_queues::values::word_of;
 use iox_queues_steps::{Access, Word};
 
 /// A call that a party may begin: a store of the value of this number, or a load.
@@ -162,24 +163,4 @@ fn place(width: usize, second: bool, i: usize) -> u64
     ensures { result ≡ place width second i }
 {
     if second { (width + i) as u64 } else { i as u64 }
-}
-
-// The words of a value; none where it isn't in the table.
-pub(crate) fn value_of(values: &[Vec<u64>], number: usize) -> &[u64]
-    ensures { result.now ≡ table_value values.now number }
-{
-    match values.get(number) {
-        Some(words) => words.as_slice(),
-        None => &[],
-    }
-}
-
-// Word `i` of a value; 0 where there is none.
-fn word_of(values: &[Vec<u64>], number: usize, i: usize) -> u64
-    ensures { result ≡ slice_index (table_value values.now number) i }
-{
-    match value_of(values, number).get(i) {
-        Some(word) => *word,
-        None => 0,
-    }
 }

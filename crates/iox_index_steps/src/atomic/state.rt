@@ -3,12 +3,14 @@ ghost use Rattle.std.specs.Prelude.{◌≡◌, false, ◌<◌, ◌^◌, ◌++◌
 ghost use Rattle.iox_index_steps.specs.AtomicMachine.{StepsTo, begun, call_ended, ends, fits, happens, idle_seat, may_begin};
 ghost use Rattle.iox_index_steps.specs.AtomicMachine.{producer_after, producer_begun, seat_at, start, start_words};
 ghost use Rattle.iox_index_steps.specs.AtomicMachine.{stage_at, went};
-ghost use Rattle.iox_index_steps.specs.AtomicSteps.{call_is_over, table_value};
+ghost use Rattle.iox_index_steps.specs.AtomicSteps.{call_is_over};
+ghost use Rattle.iox_queues.specs.Values.{table_value};
 ghost use Rattle.iox_index_steps.specs.AtomicView.{machine_of};
 
-use super::call::{AtomicCall, Call, value_of};
+use super::call::{AtomicCall, Call};
 use super::{Finished, Move};
 use iox_queues::sets::Event;
+use iox_queues::values::value_of;
 use iox_queues_steps::{Access, Ring, Stepped};
 use std::alloc::{AllocError, Global};
 

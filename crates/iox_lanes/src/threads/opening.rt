@@ -7,12 +7,13 @@ ghost use Rattle.iox_lanes.specs.Opened.{IsOpened};
 use crate::DomainLanes;
 use crate::threads::threads::{DomainBoard, DomainThreads};
 use iox_domain::Domain;
+use iox_lanes_laws::messages::RecordedLanes;
 use iox_lanes_threads::{LaneThreads, OpenError};
 use iox_queues_base::Words;
 use std::alloc::Global;
 
 /// Threads take over from the lanes of a domain, as `open_threads` of `iox_lanes_threads` has it, and the board keeps the domain
-/// as it was when the lanes began.
+/// as it was when the lanes began. In threads messages have no numbers; those that the lanes kept go.
 ///
 /// The board has this number, by which it knows its ports: whoever opens two gives them two. The lanes come back as they were
 /// where a party is inside a call (`PartyInCall`), a loan or a sample is out (`SamplesOut`), more than 2^63 steps were made
@@ -23,8 +24,9 @@ pub fn open_threads<T: Words, U: Words>(
     board: u64,
     lanes: DomainLanes<T, U>,
 ) -> Result<DomainThreads<T, U>, (OpenError, DomainLanes<T, U>)>
-    ensures opened { IfOk result (λ threads. MayOpen lanes.lanes × IsOpened board lanes.lanes lanes.domain lanes.publishers.items threads) }
-    ensures refused { IfErr result (λ refused. RefusesToOpen refused.0 lanes.lanes × (refused.1 ≡ lanes)) }
+    ensures opened { IfOk result (λ threads. MayOpen lanes.lanes.lanes
+        × IsOpened board lanes.lanes.lanes lanes.domain lanes.publishers.items threads) }
+    ensures refused { IfErr result (λ refused. RefusesToOpen refused.0 lanes.lanes.lanes × (refused.1 ≡ lanes)) }
 {
     let DomainLanes {
         lanes,
@@ -34,11 +36,12 @@ pub fn open_threads<T: Words, U: Words>(
         connections,
         one,
     } = lanes;
+    let (lanes, messages) = lanes.into_parts();
     match iox_lanes_threads::open_threads(alloc, board, lanes) {
         Ok(threads) => Ok(with(threads, domain, publishers)),
         Err((error, lanes)) => {
             let lanes = DomainLanes {
-                lanes,
+                lanes: RecordedLanes::of_parts(alloc, lanes, messages),
                 domain,
                 publishers,
                 subscribers,

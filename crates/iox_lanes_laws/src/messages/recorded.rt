@@ -3,7 +3,7 @@ ghost use Rattle.std.specs.Prelude.{◌≡◌, ◌<◌, ◌==◌, [], ◌∷◌,
 ghost use Rattle.std.specs.Prelude.{if◌then◌else◌, ◌++◌, ◌+◌, ◌≤◌, IfErr, IfSome, OnOk, drop, get_or, take};
 ghost use Rattle.iox_lanes_machine.specs.LanesParties.Values.{AreValues};
 ghost use Rattle.iox_lanes_machine.specs.LanesBase.Numbers.{words_of};
-ghost use Rattle.iox_lanes_laws.specs.Recorded.{AreAsHeld, AreEarly};
+ghost use Rattle.iox_lanes_laws.specs.Recorded.{AreAsHeld, ArePast};
 ghost use Rattle.iox_lanes_laws.specs.Numbered.{acted_slot, found_first, found_in, found_messages, found_of, last_number, number_of_placed};
 
 use crate::messages::message::Message;
@@ -77,10 +77,11 @@ impl RecordedLanes {
 
     /// These lanes, with the messages that are found on them: what each slot holds that has a use, publisher by publisher and slot by
     /// slot, is a message and has the next number. Of lanes of which no loan is out, these are those that wait, lie aside, are borrowed,
-    /// were given back and not taken back, or that a history has. A slot that is lent is listed, too. Only where an allocation fails the lanes come back as they were.
+    /// were given back and not taken back, or that a history has. A slot that is lent is listed, too. Only where an allocation fails
+    /// the lanes come back as they were.
     pub fn with_found(alloc: Global, lanes: Lanes) -> Result<RecordedLanes, Lanes>
         ensures made { IfOk result (λ made. made ≡ record { lanes = lanes; messages = found_messages lanes }) }
-        ensures held { IfOk result (λ made. AreAsHeld made.lanes made.messages × AreEarly made.lanes made.messages) }
+        ensures held { IfOk result (λ made. AreAsHeld made.lanes made.messages × ArePast made.lanes made.messages) }
         ensures same { IfErr result (λ same. same ≡ lanes) }
     {
         match found(alloc, &lanes) {
@@ -194,6 +195,7 @@ impl RecordedLanes {
     pub fn values<T: Words, U: Words>(&self, from: usize) -> Option<(U, T)>
         ensures some { IfSome result (AreValues T.of_parts U.of_parts T.WORDS U.WORDS
             (take (3 + U.WORDS + T.WORDS) (drop from self.now.lanes.read))) }
+        ensures none { result ≡ None → from + (3 + U.WORDS + T.WORDS) ≤ length self.now.lanes.read → ⊥ }
     {
         let rest = self.lanes.words_read().get(from..)?;
         let header = rest.len().checked_sub(U::WORDS)?.checked_sub(T::WORDS)?;

@@ -2,7 +2,6 @@ use Rattle.iox_hub_commands.specs.DescribeBase.Detail.{detail}
 use Rattle.iox_hub_commands.specs.DescribeBase.declared.type_detail.TypeVariant.TheVariants.{FixedSize}
 use Rattle.iox_hub_commands.specs.Asked.{types_of}
 use Rattle.iox_hub_commands.proofs.AsAgreed.{are_as_agreed}
-use Rattle.iox_hub.proofs.PlainStops.{plain_stops}
 use Rattle.iox_hub.proofs.RunWords.{goes_on_by_run, grows_by_run, agrees_by_run}
 use Rattle.iox_hub.proofs.TakenRuns.{run_once}
 use Rattle.iox_hub.proofs.running.run.Goals as goal
@@ -55,11 +54,5 @@ pub returns-clause-agreed : goal.returns-clause-agreed
 returns-clause-agreed g c = λ grown. are_as_agreed c.carry_out_all.new.hub.hub.services.domains (returns-clause-grows g c grown)
 
 pub returns-clause-answers : goal.returns-clause-answers
-returns-clause-answers g c = λ config plain is.
-    let ran = rw is at c.carry_out_all.ensures.ran in
-    let stops = rw is at c.carry_out_all.ensures.stops in
-    c.runs_answer.ensures config plain c.args.hub.now c.carry_out_all.new.hub _ _
-    (c.plain_commands_take_nothing.ensures plain (c.args.hub.now, c.args.given.now.places.items)
-    (c.carry_out_all.new.hub, c.carry_out_all.new.given.places.items) _ _ ran).0
-    (λ room grown stopped. plain_stops plain (c.args.hub.now, c.args.given.now.places.items)
-    (c.carry_out_all.new.hub, c.carry_out_all.new.given.places.items) _ (stops room grown stopped))
+returns-clause-answers g c = λ config. c.runs_with_handlers_answer.ensures config _ (c.args.hub.now, c.args.given.now.places.items)
+    (c.carry_out_all.new.hub, c.carry_out_all.new.given.places.items) _ _ c.carry_out_all.ensures.ran c.carry_out_all.ensures.stops

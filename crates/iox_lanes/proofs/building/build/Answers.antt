@@ -6,6 +6,7 @@ use Rattle.iox_lanes.specs.Laid.{publishers_behind}
 use Rattle.iox_lanes.specs.Ordered.{readers_behind}
 use Rattle.iox_lanes.specs.Sized.{AreAgreed}
 use Rattle.iox_lanes.proofs.Built.{are_built}
+use Rattle.iox_lanes.proofs.Exact.{are_exact}
 use Rattle.iox_lanes.proofs.Presence.{are_there}
 use Rattle.iox_lanes.proofs.Sizing.{built}
 use Rattle.iox_lanes.proofs.building.build.Goals as goal
@@ -17,6 +18,15 @@ returns-clause-sized g c =
     let subscribers : length c.in_ok-subscribers.subscribers.items ≡ c.len-2.result = search rules in
     rw (publishers, subscribers) (built _ _ _ _ _ c.sizes_of.result _ c.into_lanes.result c.sizes_of.ensures.agreed
     c.into_lanes.ensures.found (search rules))
+
+pub returns-clause-exact : goal.returns-clause-exact
+returns-clause-exact g c =
+    let counted : c.deref.result.now ≡ c.in_ok-publishers.publishers.items = search rules in
+    let publishers : c.len.result ≡ length c.in_ok-publishers.publishers.items = search rules in
+    let subscribers : c.len-2.result ≡ length c.in_ok-subscribers.subscribers.items = search rules in
+    are_exact g.T.Words.WORDS g.U.Words.WORDS c.args.domain.now.state.ports c.sizes_of.result _ c.deref.result.now
+    c.in_ok-publishers.publishers.items c.len.result c.len-2.result (length c.in_ok-subscribers.subscribers.items) c.into_lanes.result
+    c.sizes_of.ensures.exact counted publishers subscribers c.into_lanes.ensures.found (search rules)
 
 pub find_publishers-requires-clause-there : goal.find_publishers-requires-clause-there
 find_publishers-requires-clause-there g c = are_there c.args.domain.now c.deref-2.result.now c.requires (search rules)

@@ -1,7 +1,25 @@
-use Rattle.std.proofs.Common.{subst, sym}
+use Rattle.std.proofs.Common.{◌≡◌, length, subst, sym}
+use Rattle.iox_lanes_laws.specs.Numbered.{found_messages}
+use Rattle.iox_lanes_laws.specs.Recorded.{AreAsHeld, ArePast}
+use Rattle.iox_lanes.specs.Exact.{sizes_for}
 use Rattle.iox_lanes.specs.Failing.{FailAsAsked}
+use Rattle.iox_lanes.specs.Finding.{WasFound}
 use Rattle.iox_lanes.proofs.domain_lanes.into_lanes.Goals as goal
 
 pub returns-in-Ok-clause-fails : goal.returns-in-Ok-clause-fails
 returns-in-Ok-clause-fails g c
-    = subst (λ made. FailAsAsked c.args.domain made.lanes made.publishers.items) (sym c.with.ensures) c.in-Ok.ensures.fails
+    = subst (λ made. FailAsAsked c.args.domain made.lanes.lanes made.publishers.items) (sym c.with.ensures) c.in-Ok.ensures.fails
+
+pub returns-in-Ok-clause-exact : goal.returns-in-Ok-clause-exact
+returns-in-Ok-clause-exact g c =
+    subst (λ made. WasFound (sizes_for g.T.Words.WORDS g.U.Words.WORDS c.args.domain.state.ports made.publishers.items
+    (length made.subscribers.items)) made.lanes.lanes) (sym c.with.ensures) c.in-Ok.ensures.exact
+
+pub returns-in-Ok-clause-messages : goal.returns-in-Ok-clause-messages
+returns-in-Ok-clause-messages g c
+    = subst (λ made. made.lanes.messages ≡ found_messages made.lanes.lanes) (sym c.with.ensures) c.in-Ok.ensures.messages
+
+pub returns-in-Ok-clause-held : goal.returns-in-Ok-clause-held
+returns-in-Ok-clause-held g c =
+    subst (λ made. AreAsHeld made.lanes.lanes made.lanes.messages × ArePast made.lanes.lanes made.lanes.messages) (sym c.with.ensures)
+    c.in-Ok.ensures.held

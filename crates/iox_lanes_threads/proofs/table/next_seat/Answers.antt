@@ -1,11 +1,9 @@
 use Rattle.std.proofs.Common.{◌<◌, sym, subst, ◌∙◌}
 use Rattle.atomic_table.specs.Seated.{TableId}
-use Rattle.iox_lanes_threads.proofs.Giving.{gives_with}
 use Rattle.iox_lanes_threads.proofs.table.next_seat.Goals as goal
 
-pub split_seat-requires : goal.split_seat-requires
-split_seat-requires c = (
+pub give_out-requires-clause-table : goal.give_out-requires-clause-table
+give_out-requires-clause-table c = (
   c.requires.table.0 ∙ sym c.words.ensures,
   subst (λ (t : TableId). 0 < t.words) (sym c.words.ensures) c.requires.table.1,
-  gives_with c.args.home.now.id c.args.home.now.me c.requires.waits,
 )

@@ -1,5 +1,5 @@
 use Rattle.std.proofs.Common.{◌≡◌, ◌++◌, length, take, drop}
-use Rattle.iox_line.specs.ReplyText.{values_text}
+use Rattle.iox_line.proofs.Shorthands.{values_text}
 use Rattle.iox_line.proofs.print.append_values.Given as goal
 
 abbrev pub invariant-loop-value : goal.invariant-loop-value

@@ -1,6 +1,7 @@
 use Rattle.std.proofs.Common.{ap, ◌≡◌, get_or, remove, Some, None, true, is_some}
 use Rattle.iox_domain_slots.specs.Counting.{Covers}
 use Rattle.iox_domain_slots.specs.Links.{connection_of, all_slots}
+use Rattle.iox_domain_slots.specs.Loans.{place_in}
 use Rattle.iox_domain_slots.proofs.AllSlots.{covers_one, moves_all, link_is, link_within, seen_set}
 use Rattle.iox_domain_slots.proofs.links.Links.let_go.Goals as goal
 
@@ -18,7 +19,7 @@ let_go-requires-clause-covered c =
 pub returns-clause-after : goal.returns-clause-after
 returns-clause-after c = rw (← c.self.view_is) (
     rw (found c.before.before) (seen_set c.self.inside.items.items c.args.index c.let_go.new.self
-    (record (connection_of c.in-Some.link) { borrowed = remove c.in-Some.link.borrowed c.args.at })
+    (record (connection_of c.in-Some.link) { borrowed = remove c.in-Some.link.borrowed (place_in c.args.slot c.in-Some.link.borrowed) })
     (ap connection_of c.let_go.ensures.after)))
 
 pub returns-clause-moved : goal.returns-clause-moved

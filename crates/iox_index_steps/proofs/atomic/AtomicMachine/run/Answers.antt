@@ -1,8 +1,9 @@
 use Rattle.std.proofs.Common.{rules, arith, ℕ, ◌≡◌, ◌+◌, ◌≤◌, length, List, [], ◌∷◌, refl, sym, subst, ap, ◌∙◌}
 use Rattle.iox_index_steps.specs.AtomicMachine.{RunsTo}
 use Rattle.iox_index_steps.specs.declared.atomic.Move.{Move}
-use Rattle.iox_index_steps.proofs.Runs.{counts_one}
-use Rattle.iox_index_steps.proofs.AtomicRuns.{no_more, run_more, run_stops, short_few}
+use Rattle.iox_queues.proofs.Turns.{counts_one, none_left, run_more, run_stops}
+use Rattle.iox_index_steps.specs.AtomicMachine.{AtomicState, ends, fits, happens}
+use Rattle.iox_index_steps.proofs.AtomicRuns.{short_few}
 use Rattle.iox_index_steps.proofs.atomic.AtomicMachine.run.Goals as goal
 
 pub returns-then-is_stopped-clause-runs : goal.returns-then-is_stopped-clause-runs
@@ -12,7 +13,8 @@ returns-then-is_stopped-clause-runs c =
     subst (λ (i : ℕ). RunsTo c.args.self.now c.args.schedule.now i c.step-stepped.new.self) e
     ((c.loop-step.invariant.0) c.step-stepped.new.self 0
     (subst (λ (xs : List Move). RunsTo c.loop-step.self xs 0 c.step-stepped.new.self) (sym is)
-    (run_stops c.loop-step.self c.in-Some.step.now c.in-Some.tail.now c.step-stepped.result c.step-stepped.new.self
+    (run_stops AtomicState Move fits ends happens c.loop-step.self c.in-Some.step.now c.in-Some.tail.now c.step-stepped.result
+    c.step-stepped.new.self
     c.step-stepped.ensures.steps (sym c.is_stopped.ensures ∙ c.if-is_stopped.true))))
 
 pub loop-step-preserved : goal.loop-step-preserved
@@ -23,7 +25,8 @@ loop-step-preserved c =
       λ n k runs. subst (λ (i : ℕ). RunsTo c.args.self.now c.args.schedule.now i n) (omega arith)
           ((c.loop-step.invariant.0) n (c.count-made.result + k)
           (subst (λ (xs : List Move). RunsTo c.loop-step.self xs (c.count-made.result + k) n) (sym is)
-          (run_more c.loop-step.self c.in-Some.step.now c.in-Some.tail.now c.step-stepped.result c.step-stepped.new.self n k
+          (run_more AtomicState Move fits ends happens c.loop-step.self c.in-Some.step.now c.in-Some.tail.now c.step-stepped.result
+          c.step-stepped.new.self n k
           (c.count-made.result + k) c.step-stepped.ensures.steps (sym c.is_stopped.ensures ∙ c.if-is_stopped.false)
           (ap (λ (x : ℕ). x + k) c.count-made.ensures) runs))),
       omega (arith, c.loop-step.invariant.1),
@@ -36,7 +39,7 @@ loop-step-preserved c =
 pub returns-clause-runs : goal.returns-clause-runs
 returns-clause-runs c =
     let none : length c.loop-step.rest.now ≡ 0 = search rules in
-    let is : c.loop-step.rest.now ≡ [] = no_more c.loop-step.rest.now none in
+    let is : c.loop-step.rest.now ≡ [] = none_left c.loop-step.rest.now none in
     let e : c.loop-step.made + 0 ≡ c.loop-step.made = omega arith in
     subst (λ (i : ℕ). RunsTo c.args.self.now c.args.schedule.now i c.loop-step.self) e
     ((c.loop-step.invariant.0) c.loop-step.self 0

@@ -6,6 +6,7 @@ use Rattle.iox_lanes_threads_ports.specs.Ports.{SubscriberStands}
 use Rattle.iox_lanes_threads_ports.specs.Values.{SubscriberPort, settled}
 use Rattle.iox_lanes_threads_ports.proofs.Between as lemmas
 use Rattle.iox_lanes_threads_ports.proofs.KnownReads.{read_words_known, read_whole}
+use Rattle.iox_lanes_threads_ports.proofs.Listing.{read_listed}
 use Rattle.iox_lanes_threads_ports.proofs.subscriber.ThreadedSubscriber.read.Goals as goal
 
 pub invariant_of-self : goal.invariant_of-self
@@ -53,3 +54,12 @@ returns-clause-whole g c = λ e.
     c.finish.ensures.stands c.finish.ensures.seat.1
     (ap (λ (v : SubscriberPort). v.lane) (sym c.self.view_is) ∙ sym c.settle.ensures.lane) c.begin.ensures c.finish.ensures.goes
     c.finish.ensures.over refl
+
+pub returns-clause-listed : goal.returns-clause-listed
+returns-clause-listed g c = λ e.
+    let begun = lemmas.begun_stands (port_of c.self.inside.seat.me) c.self.inside.lane c.settle.new.lane c.begin.new.self
+    (call.Read c.args.sample) c.self.invariant.1 c.settle.ensures.lane c.begin.ensures (sym c.fits.ensures ∙ c.if-not-fits.false) in
+    read_listed (port_of c.self.inside.seat.me) (port_of c.finish.new.seat.me) c.args.self.now.lane c.settle.new.lane
+    c.begin.new.self c.finish.new.lane c.args.sample begun
+    (ap (λ (v : SubscriberPort). v.lane) (sym c.self.view_is) ∙ sym c.settle.ensures.lane)
+    (sym c.fits.ensures ∙ c.if-not-fits.false) c.begin.ensures c.finish.ensures.goes c.finish.ensures.over

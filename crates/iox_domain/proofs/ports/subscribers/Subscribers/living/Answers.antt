@@ -1,12 +1,21 @@
-use Rattle.std.proofs.Common.{rules, ◌≡◌, ◌+◌, ◌∙◌, min, fold, map}
-use Rattle.std.specs.Map.{values_of}
-use Rattle.iox_domain_ports.specs.Living.{living_of_subscriber, counted}
-use Rattle.iox_domain_ports.proofs.Adding.{living_owned}
+use Rattle.std.proofs.Common.{rules, ◌≡◌}
+use Rattle.std.specs.BTreeMap.{is_at}
+use Rattle.std.specs.Map.{lookup}
+use Rattle.std.specs.Ordering.{nat_cmp}
+use Rattle.iox_domain_ports.specs.Census.{share_at, subscriber_share}
+use Rattle.iox_domain_ports.specs.Living.{counted, living_of_subscriber}
+use Rattle.iox_domain_ports.proofs.Adding.{counted_cut}
+use Rattle.iox_domain_ports.proofs.Tallied.{told_living}
 use Rattle.iox_domain.proofs.ports.subscribers.Subscribers.living.Goals as goal
 
-pub returns : goal.returns
-returns c =
-    let is : c.fold.result ≡ fold (λ n m. min (n + m) 18446744073709551615) 0
-    (map (λ port. counted c.args.owner port.owner.number (min (living_of_subscriber port) 18446744073709551615))
-    (values_of c.args.self.now)) = search rules in
-    is ∙ living_owned 18446744073709551615 c.args.owner (λ port. port.owner.number) living_of_subscriber (values_of c.args.self.now)
+pub returns-in-Some : goal.returns-in-Some
+returns-in-Some c =
+    let now : c.share_in-now.result ≡ share_at subscriber_share
+    (lookup (is_at (nat_cmp c.self.inside.census.lent)) c.self.inside.ports.entries)
+    = search rules in
+    let told = told_living 18446744073709551615 subscriber_share
+    (λ port. counted c.args.owner port.owner.number (living_of_subscriber port)) c.args.owner
+    c.share_in-now.result c.in-Some.count c.self.inside.census c.self.inside.ports.entries c.self.invariant c.in-Some.ensures.fits
+    (λ port. counted_cut c.args.owner port.owner.number (living_of_subscriber port) 18446744073709551615) now c.in-Some.ensures.holds
+    c.in-Some.ensures.counts in
+    search (rules, told)

@@ -1,7 +1,8 @@
 use Rattle.std.proofs.Common.{rules, arith, ℕ, ◌≡◌, ◌+◌, ◌≤◌, length, List, [], ◌∷◌, refl, sym, subst, ap, ◌∙◌}
 use Rattle.iox_queues.specs.Machine.{RunsTo}
 use Rattle.iox_queues.specs.declared.bits.machine.Move.{Move}
-use Rattle.iox_queues.proofs.Runs.{run_more, run_stops, counts_one, none_left}
+use Rattle.iox_queues.specs.Machine.{SetState, ends, fits, happens}
+use Rattle.iox_queues.proofs.Turns.{counts_one, none_left, run_more, run_stops}
 use Rattle.iox_queues.proofs.bits.machine.SetMachine.run.Goals as goal
 
 pub returns-then-is_stopped-clause-runs : goal.returns-then-is_stopped-clause-runs
@@ -11,7 +12,8 @@ returns-then-is_stopped-clause-runs c =
     subst (λ (i : ℕ). RunsTo c.args.self.now c.args.schedule.now i c.step-stepped.new.self) e
     ((c.loop-step.invariant.0) c.step-stepped.new.self 0
     (subst (λ (xs : List Move). RunsTo c.loop-step.self xs 0 c.step-stepped.new.self) (sym is)
-    (run_stops c.loop-step.self c.in-Some.step.now c.in-Some.tail.now c.step-stepped.result c.step-stepped.new.self
+    (run_stops SetState Move fits ends happens c.loop-step.self c.in-Some.step.now c.in-Some.tail.now c.step-stepped.result
+    c.step-stepped.new.self
     c.step-stepped.ensures.steps (sym c.is_stopped.ensures ∙ c.if-is_stopped.true))))
 
 pub loop-step-preserved : goal.loop-step-preserved
@@ -22,7 +24,8 @@ loop-step-preserved c =
       λ n k runs. subst (λ (i : ℕ). RunsTo c.args.self.now c.args.schedule.now i n) (omega arith)
           ((c.loop-step.invariant.0) n (c.count-made.result + k)
           (subst (λ (xs : List Move). RunsTo c.loop-step.self xs (c.count-made.result + k) n) (sym is)
-          (run_more c.loop-step.self c.in-Some.step.now c.in-Some.tail.now c.step-stepped.result c.step-stepped.new.self n k
+          (run_more SetState Move fits ends happens c.loop-step.self c.in-Some.step.now c.in-Some.tail.now c.step-stepped.result
+          c.step-stepped.new.self n k
           (c.count-made.result + k) c.step-stepped.ensures.steps (sym c.is_stopped.ensures ∙ c.if-is_stopped.false)
           (ap (λ (x : ℕ). x + k) c.count-made.ensures) runs))),
       omega (arith, c.loop-step.invariant.1),

@@ -1,0 +1,244 @@
+//! The slots that are borrowed of a connection.
+ghost use Rattle.std.specs.Prelude.{◌≡◌, ℕ, ◌+◌, ◌^◌, ◌<◌, ◌≤◌, ◌++◌, ◌∷◌, [], length, get_or, remove, vec_capacity};
+ghost use Rattle.std.specs.Prelude.{IfOk, IfSome, IfNone, true, false};
+ghost use Rattle.iox_container.specs.Unique.{is_among};
+ghost use Rattle.iox_domain_slots.specs.Loans.{place_in};
+ghost use Rattle.iox_domain_slots.specs.Borrowed.{BorrowedState, cell_of, slots_in, IsOldest, IsNear, IsOnce};
+
+use crate::loans::Loans;
+use std::alloc::{AllocError, Global};
+use std::marker::Model;
+
+/// The borrowed slots in their order, the oldest first. Each is found and taken out at once, in any order.
+///
+/// Each lies in a cell, at the one that its number names or a few steps behind it. The taken cells are linked in their order, as loans are.
+/// Cells are made once they are reached, in memory that was taken at the start.
+#[derive(Drop)]
+pub(crate) struct Borrowed {
+    order: Loans,
+    // What lies in the cells that were made.
+    slots: Vec<u64>,
+    cells: usize,
+    // No slot lies further than this behind the cell that its number names.
+    reach: usize,
+    // Whether a slot may be there twice.
+    twice: bool,
+}
+
+impl Model for Borrowed {
+    ghost use Rattle.std.specs.Prelude.{◌≡◌, ◌+◌, ◌<◌, ◌≤◌, ◌^◌, false, length, vec_capacity};
+    ghost use Rattle.iox_domain_slots.specs.Borrowed.{BorrowedState, slots_in, IsNear, IsOnce};
+
+    ghost Value = { BorrowedState };
+
+    ghost view = { λ b. record { items = slots_in b.slots.items b.order.items; cells = b.cells } };
+
+    ghost invariant = { λ b. (b.order.made ≡ length b.slots.items) × (b.cells + 1 < 2 ^ 64)
+        × (b.reach < b.cells) × IsNear b.cells b.slots.items b.order.items b.reach
+        × (b.twice ≡ false → IsOnce b.slots.items b.order.items)
+        × (b.order.room ≡ b.cells) × (b.cells ≤ vec_capacity b.slots) × (length b.slots.items ≤ b.cells) };
+}
+
+impl Borrowed {
+    /// No slot is borrowed, and there can be so many cells. It fails only where an allocation fails.
+    pub(crate) fn new(alloc: Global, cells: usize) -> Result<Borrowed, AllocError>
+        requires { 0 < cells }
+        ensures { IfOk result (λ borrowed. borrowed ≡ record { items = []; cells = cells }) }
+    {
+        if cells == usize::MAX {
+            return Err(AllocError);
+        }
+        Ok(Borrowed {
+            order: Loans::with_room(alloc, cells)?,
+            slots: Vec::with_capacity(alloc, cells)?,
+            cells,
+            reach: 0,
+            twice: false,
+        })
+    }
+
+    /// How many slots are borrowed.
+    pub(crate) fn len(&self) -> usize
+        ensures { result ≡ length self.now.items }
+    {
+        self.order.len()
+    }
+
+    /// Whether a slot is borrowed.
+    pub(crate) fn has(&self, slot: u64) -> bool
+        ensures { result ≡ is_among slot self.now.items }
+    {
+        oldest(
+            &self.order,
+            self.slots.as_slice(),
+            self.cells,
+            slot,
+            self.reach,
+            self.twice,
+        )
+        .is_some()
+    }
+
+    /// A slot is borrowed, as the newest. There is a cell for it.
+    pub(crate) fn push(&mut self, slot: u64)
+        requires { length self.old.items < self.old.cells }
+        ensures { self.new ≡ record self.old { items = self.old.items ++ slot ∷ [] } }
+    {
+        let twice = will_be_twice(
+            &self.order,
+            self.slots.as_slice(),
+            self.cells,
+            slot,
+            self.reach,
+            self.twice,
+        );
+        let step = free_step(&self.order, self.cells, slot);
+        let cell = cell_of(self.cells, slot, step);
+        let reach = further(self.cells, self.reach, step);
+        make_up_to(&mut self.order, &mut self.slots, self.cells, cell);
+        self.slots[cell] = slot;
+        self.order.push(cell);
+        self.reach = reach;
+        self.twice = twice;
+    }
+
+    /// The oldest borrowed slot of this number isn't borrowed any longer.
+    pub(crate) fn remove(&mut self, slot: u64)
+        requires { is_among slot self.old.items ≡ true }
+        ensures { self.new ≡ record self.old { items = remove self.old.items (place_in slot self.old.items) } }
+    {
+        let Some(cell) = oldest(
+            &self.order,
+            self.slots.as_slice(),
+            self.cells,
+            slot,
+            self.reach,
+            self.twice,
+        ) else {
+            return;
+        };
+        self.order.remove(cell);
+        if self.order.len() == 0 {
+            self.reach = 0;
+            self.twice = false;
+        }
+    }
+}
+
+// The cells up to this one are made, if they weren't.
+fn make_up_to(order: &mut Loans, slots: &mut Vec<u64>, cells: usize, cell: usize)
+    requires within { cell < cells }
+    requires room { order.old.room ≡ cells }
+    requires made { order.old.made ≡ length slots.old.items }
+    requires memory { cells ≤ vec_capacity slots.old }
+    requires most { length slots.old.items ≤ cells }
+    requires few { length order.old.items + 2 < 2 ^ 64 }
+    ensures order { order.new ≡ record order.old { made = length slots.new.items } }
+    ensures same { (at : ℕ) → get_or slots.new.items at 0 ≡ get_or slots.old.items at 0 }
+    ensures memory { cells ≤ vec_capacity slots.new }
+    ensures within { cell < length slots.new.items }
+    ensures most { length slots.new.items ≤ cells }
+{
+    for _ in slots.len()..cell + 1 {
+        let _made = order.make_slot();
+        slots.push_reserved(0);
+    }
+}
+
+// The cell so many steps behind the one that a slot's number names; the first follows the last.
+fn cell_of(cells: usize, slot: u64, step: usize) -> usize
+    requires { step < cells }
+    ensures value { result ≡ cell_of cells slot step }
+    ensures within { result < cells }
+{
+    let home = (slot % cells as u64) as usize;
+    if step < cells - home {
+        home + step
+    } else {
+        step - (cells - home)
+    }
+}
+
+// The first cell within reach in which a slot of this number lies.
+fn near(order: &Loans, slots: &[u64], cells: usize, slot: u64, reach: usize) -> Option<usize>
+    requires made { order.now.made ≡ length slots.now }
+    requires reach { reach < cells }
+    ensures taken { IfSome result (λ cell. is_among cell order.now.items ≡ true) }
+    ensures same { IfSome result (λ cell. get_or slots.now cell 0 ≡ slot) }
+    ensures none { IfNone result ((step : ℕ) → step ≤ reach → is_among (cell_of cells slot step) order.now.items ≡ true
+        → get_or slots.now (cell_of cells slot step) 0 ≡ slot → ⊥) }
+{
+    for step in 0..reach + 1 {
+        let cell = cell_of(cells, slot, step);
+        if order.has(cell) && slots[cell] == slot {
+            return Some(cell);
+        }
+    }
+    None
+}
+
+// The cell in which the oldest slot of this number lies, if one is borrowed.
+fn oldest(
+    order: &Loans,
+    slots: &[u64],
+    cells: usize,
+    slot: u64,
+    reach: usize,
+    twice: bool,
+) -> Option<usize>
+    requires made { order.now.made ≡ length slots.now }
+    requires reach { reach < cells }
+    requires near { IsNear cells slots.now order.now.items reach }
+    requires once { twice ≡ false → IsOnce slots.now order.now.items }
+    ensures some { IfSome result (λ cell. IsOldest slots.now order.now.items slot cell) }
+    ensures none { IfNone result (is_among slot (slots_in slots.now order.now.items) ≡ false) }
+{
+    if twice {
+        order.oldest_of(slots, slot)
+    } else {
+        near(order, slots, cells, slot, reach)
+    }
+}
+
+// Whether a slot may be there twice once this one comes.
+fn will_be_twice(
+    order: &Loans,
+    slots: &[u64],
+    cells: usize,
+    slot: u64,
+    reach: usize,
+    twice: bool,
+) -> bool
+    requires made { order.now.made ≡ length slots.now }
+    requires reach { reach < cells }
+    requires near { IsNear cells slots.now order.now.items reach }
+    ensures before { result ≡ false → twice ≡ false }
+    ensures none { result ≡ false → is_among slot (slots_in slots.now order.now.items) ≡ false }
+{
+    twice || near(order, slots, cells, slot, reach).is_some()
+}
+
+// The larger of two numbers of steps.
+fn further(cells: usize, reach: usize, step: usize) -> usize
+    requires reach { reach < cells }
+    requires step { step < cells }
+    ensures within { result < cells }
+    ensures before { reach ≤ result }
+    ensures now { step ≤ result }
+{
+    if reach < step { step } else { reach }
+}
+
+// How many steps behind the cell that a slot's number names the first free one is.
+fn free_step(order: &Loans, cells: usize, slot: u64) -> usize
+    requires { length order.now.items < cells }
+    ensures within { result < cells }
+    ensures free { is_among (cell_of cells slot result) order.now.items ≡ false }
+{
+    for step in 0..cells {
+        if !order.has(cell_of(cells, slot, step)) {
+            return step;
+        }
+    }
+    unreachable!()
+}

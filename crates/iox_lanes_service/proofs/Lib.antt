@@ -1,0 +1,22 @@
+-- The proofs of the laws on which service of the machine lanes are.
+pub mod Tables
+pub mod Shapes
+pub mod Used
+pub mod Beside
+pub mod Carrying
+pub mod Subscribing
+pub mod Holding
+pub mod Reading
+pub mod Releasing
+pub mod Giving
+pub mod Receiving
+pub mod Publishing
+pub mod Lent
+pub mod Dropping
+pub mod Writing
+pub mod Delivering
+pub mod Sending
+pub mod Counting
+pub mod Using
+pub mod Lending
+pub mod Beginning

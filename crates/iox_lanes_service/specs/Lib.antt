@@ -1,0 +1,6 @@
+-- The definitions that the laws cite on which service of the machine lanes are.
+pub mod Naming
+pub mod Ports
+pub mod Standing
+pub mod Laws
+pub mod NewLanes

@@ -1,0 +1,73 @@
+-- Which service of the machine lanes are.
+use Rattle.std.specs.Prelude.{ℕ, ◌≤◌, ◌≡◌, true, List, [], map, slice_get, Some}
+use Rattle.std.specs.Map.{keys_of}
+use Rattle.iox_lanes_machine.specs.LanesParties.Parties.{PublisherLaneState, SubscriberLaneState}
+use Rattle.iox_lanes_machine.specs.QueuesSteps.Ends.{overflows}
+use Rattle.iox_lanes_machine.specs.Borrowing.{borrows}
+use Rattle.iox_lanes_machine.specs.LedgerUses.{count, one_if}
+use Rattle.iox_lanes_machine.specs.Links.{LinkState}
+use Rattle.iox_lanes_machine.specs.Resting.{AllBetween}
+use Rattle.iox_lanes_machine.specs.World.{World}
+use Rattle.iox_lanes_laws.specs.Publishing.{is_loan}
+use Rattle.iox_lanes_service.specs.Naming.{LaneNaming, LaneLoan, LaneSample, slots_lent_at, slots_held_over, came_over, loan_by_numbers}
+use Rattle.iox_lanes_service.specs.Naming.{sample_by_numbers, lane_mailbox}
+use Rattle.iox_lanes_service.specs.Ports.{LanePublisherIs, LaneSubscriberIs}
+use Rattle.iox_machine.specs.Choices.{Choices}
+use Rattle.iox_machine.specs.Service.{Publisher, Service, Subscriber, mailbox}
+use Rattle.iox_machine.specs.Table.{at}
+
+-- no connection of the publisher at a place is that of a subscriber with this name
+abbrev pub JoinsNoneOf : LaneNaming → List LinkState → ℕ → ℕ → Type 0
+JoinsNoneOf names links place other = (connection : ℕ) (link : LinkState) → slice_get links connection ≡ Some link → link.publisher ≡ place
+    → names.subscriber link.subscriber ≡ other → ⊥
+
+-- a sample came over one of the connections
+pub record CameOverOne (links : List LinkState) (sample : LaneSample) : Type 0 where
+  pub connection : ℕ
+  pub link : LinkState
+  pub found : slice_get links connection ≡ Some link
+  pub over : came_over link sample ≡ true
+
+-- Lanes between calls, with the loans and samples that go by numbers, stand for this service of the machine, by these names. The machine
+-- may choose so, and messages have one value, which is read of the words of a payload.
+pub record LanesStandFor {T : Type 0} (choices : Choices T) (value : List ℕ → T) (names : LaneNaming) (lent : List (ℕ × LaneLoan))
+    (held : List (ℕ × LaneSample)) (m : World) (service : Service T) : Type 0 where
+  -- nobody is inside a call
+  pub between : AllBetween m
+  -- each publisher and each subscriber is one of the machine, and no two are the same
+  pub publishers : (place : ℕ) (lane : PublisherLaneState) → slice_get m.publishers place ≡ Some lane
+      → (publisher : Publisher T) × (at (names.publisher place) service.publishers ≡ Some publisher)
+      × LanePublisherIs choices value names m service place lane publisher
+  pub subscribers : (place : ℕ) (lane : SubscriberLaneState) → slice_get m.subscribers place ≡ Some lane
+      → (subscriber : Subscriber) × (at (names.subscriber place) service.subscribers ≡ Some subscriber)
+      × LaneSubscriberIs choices value names m service lane subscriber
+  pub publishers_apart : (one other : ℕ) (lane behind : PublisherLaneState) → slice_get m.publishers one ≡ Some lane
+      → slice_get m.publishers other ≡ Some behind → names.publisher one ≡ names.publisher other → one ≡ other
+  pub subscribers_apart : (one other : ℕ) (lane behind : SubscriberLaneState) → slice_get m.subscribers one ≡ Some lane
+      → slice_get m.subscribers other ≡ Some behind → names.subscriber one ≡ names.subscriber other → one ≡ other
+  -- each connection leads from one to another, and is a mailbox, which lets its oldest go or refuses as agreed
+  pub joined : (connection : ℕ) (link : LinkState) → slice_get m.links connection ≡ Some link
+      → ((lane : PublisherLaneState) × (slice_get m.publishers link.publisher ≡ Some lane))
+      × ((lane : SubscriberLaneState) × (slice_get m.subscribers link.subscriber ≡ Some lane))
+  pub mailboxes : (connection : ℕ) (link : LinkState) → slice_get m.links connection ≡ Some link
+      → service.mailboxes (names.publisher link.publisher) (names.subscriber link.subscriber)
+      ≡ Some (lane_mailbox value names m held connection link)
+  pub kinds : (connection : ℕ) (link : LinkState) → slice_get m.links connection ≡ Some link
+      → overflows link.kind ≡ service.settings.enable_safe_overflow
+  -- another mailbox of a publisher has nothing
+  pub others : (place other : ℕ) (lane : PublisherLaneState) → slice_get m.publishers place ≡ Some lane
+      → JoinsNoneOf names m.links place other
+      → ((mailbox (names.publisher place) other service).waiting ≡ []) × ((mailbox (names.publisher place) other service).borrowed ≡ [])
+  -- The loans of the machine are those that go by numbers. Each of these has its own number, and they are the loans of the publishers
+  pub loans : service.loans ≡ map (λ (entry : ℕ × LaneLoan). (entry.0, loan_by_numbers value names m entry.1)) lent
+  pub loans_once : (number : ℕ) → count number (keys_of lent) ≤ 1
+  pub loans_there : (index : ℕ) (entry : ℕ × LaneLoan) → slice_get lent index ≡ Some entry
+      → (lane : PublisherLaneState) × (slice_get m.publishers entry.1.publisher ≡ Some lane)
+  pub loans_all : (place : ℕ) (lane : PublisherLaneState) (slot : ℕ) → slice_get m.publishers place ≡ Some lane
+      → count slot (slots_lent_at place lent) ≡ one_if (is_loan lane slot)
+  -- So it is of the samples: they came over connections, and are what the subscribers borrow of them
+  pub samples : service.samples ≡ map (λ (entry : ℕ × LaneSample). (entry.0, sample_by_numbers value names m entry.1)) held
+  pub samples_once : (number : ℕ) → count number (keys_of held) ≤ 1
+  pub samples_there : (index : ℕ) (entry : ℕ × LaneSample) → slice_get held index ≡ Some entry → CameOverOne m.links entry.1
+  pub samples_all : (connection : ℕ) (link : LinkState) (slot : ℕ) → slice_get m.links connection ≡ Some link
+      → count slot (slots_held_over link held) ≡ one_if (borrows connection slot (slice_get m.subscribers link.subscriber))

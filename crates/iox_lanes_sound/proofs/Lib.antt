@@ -1,0 +1,2 @@
+-- The proof of the law on sound ports.
+pub mod Sound

@@ -1,0 +1,2 @@
+-- The definitions that the law on sound ports cites.
+pub mod Standing

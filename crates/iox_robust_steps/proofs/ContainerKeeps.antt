@@ -1,0 +1,340 @@
+-- Every step of a container's machine keeps what the machine keeps.
+use Rattle.std.proofs.Common.{◌≡◌, ℕ, ◌+◌, ◌*◌, ◌<◌, ◌≤◌, Bool, true, false, not, if◌then◌else◌, ◌==◌, ◌&&◌, nat_lt, None, Some}
+use Rattle.std.proofs.Common.{List, [], ◌∷◌, ◌++◌, length, slice_index, take, drop, refl, sym, ◌∙◌, ap, subst, arith, length-append}
+use Rattle.std.specs.Global.{Vec}
+use Rattle.std.proofs.Math.Seq.{drop-append_seam, take-append_seam}
+use Rattle.std.proofs.lemmas.Bool.{and_parts, eqb-true, ltb-true}
+use Rattle.iox_queues_steps.specs.Access.{RingWords, answer_of, word_of}
+use Rattle.iox_queues_steps.specs.declared.access.Access.TheVariants.{Local}
+use Rattle.iox_queues_steps.specs.declared.access.Word.TheVariants.{Cell}
+use Rattle.iox_queues_steps.specs.declared.schedule.Stepped.{Stepped}
+use Rattle.iox_queues_steps.specs.declared.schedule.Stepped.TheVariants as stepped
+use Rattle.iox_queues.specs.Recorded.{Answered}
+use Rattle.iox_queues.specs.Told.{own}
+use Rattle.iox_queues.specs.Values.{table_value}
+use Rattle.iox_queues.specs.declared.bits.machine.Event.{Event}
+use Rattle.iox_queues.proofs.OwnSteps.{own_else_since, own_more, own_more_since}
+use Rattle.iox_queues.proofs.Recorded.{answered_on}
+use Rattle.iox_robust_steps.specs.ContainerSteps.{answer_at, is_shown, member_begun, member_is_idle, member_next, member_take}
+use Rattle.iox_robust_steps.specs.ContainerMachine.{ContainerParts, HasFewMoves, MemberStepsTo, asked_at, asked_by, empty_words, is_look}
+use Rattle.iox_robust_steps.specs.ContainerMachine.{may_ask, may_call, member_begins, member_ended, member_fits, member_happens}
+use Rattle.iox_robust_steps.specs.ContainerMachine.{member_seat, member_stage, member_went, seat_after, width_of}
+use Rattle.iox_robust_steps.specs.ContainerTold.{times_counted}
+use Rattle.iox_robust_steps.specs.ContainerKept.{KnowsMember, MembersAreKept, MembersAreSound}
+use Rattle.iox_robust_steps.specs.Changes.{is_owner}
+use Rattle.iox_robust_steps.specs.Machine.{begun, is_holder, is_lost, may_begin, place_of, stage_at}
+use Rattle.iox_robust_steps.specs.Machine as robust
+use Rattle.iox_robust_steps.specs.Steps.{call_begun, call_in_hand, call_is_idle}
+use Rattle.iox_robust_steps.specs.declared.call.Call.TheVariants as set_call
+use Rattle.iox_robust_steps.specs.declared.call.RobustCall.{RobustCall}
+use Rattle.iox_robust_steps.specs.declared.container.call.ContainerCall.{ContainerCall}
+use Rattle.iox_robust_steps.specs.declared.container.call.ContainerCall.TheVariants as stage
+use Rattle.iox_robust_steps.specs.declared.container.call.MemberCall.{MemberCall}
+use Rattle.iox_robust_steps.specs.declared.container.call.MemberCall.TheVariants as call
+use Rattle.iox_robust_steps.specs.declared.container.MemberMove.{MemberMove}
+use Rattle.iox_robust_steps.specs.declared.container.MemberMove.TheVariants.{Begin, GoOn}
+use Rattle.iox_robust_steps.specs.declared.container.state.MemberSeat.{MemberSeat}
+use Rattle.iox_robust_steps.specs.declared.machine.Move.TheVariants as set_move
+use Rattle.iox_robust_steps.specs.declared.state.Place.{Place}
+use Rattle.iox_robust_steps.specs.declared.state.Place.TheVariants as place
+use Rattle.iox_robust_steps.specs.declared.state.Seat.{Seat}
+use Rattle.iox_robust_steps.proofs.ContainerGoing.{MemberMade, leaves_all_members}
+use Rattle.iox_robust_steps.proofs.ContainerLeaves.{LeavesMembers, knows_member_else}
+use Rattle.iox_robust_steps.proofs.ContainerRuns.{KnowsAt, SetStays, acquires, asked, either_seat, ended_told, makes, saw_on, stays}
+use Rattle.iox_robust_steps.proofs.ContainerRuns.{told_append, told_on}
+use Rattle.iox_robust_steps.proofs.ContainerSeats.{each_member_seat}
+use Rattle.iox_robust_steps.proofs.ContainerWords.{count_position, more_counted}
+use Rattle.iox_robust_steps.proofs.Ending.{same_cells}
+use Rattle.iox_robust_steps.proofs.Seats.{seat_here}
+
+-- what a party knows after a step of another one
+module _ (m x : ContainerParts) (n party q : ℕ) (e : Event) (t : MemberSeat) (differs : party ≡ q → ⊥) (its : e.party ≡ party)
+    (same_values : x.values ≡ m.values) (longer : x.events ≡ m.events ++ e ∷ [])
+    (same_stage : stage_at x.indices.seats q ≡ stage_at m.indices.seats q)
+    (leaves : LeavesMembers n (width_of m) q m.words.cells x.words.cells m.indices.places x.indices.places) where
+  pub others_know : KnowsAt n m q t × (t.first ≤ length m.events) → KnowsAt n x q t
+  others_know h =
+      subst (λ (values : List (Vec ℕ)). KnowsMember n (length (table_value values 0)) values (empty_words n (length (table_value values 0)))
+      x.words.cells x.indices.places q (stage_at x.indices.seats q) t.first x.events (own q (drop t.first x.events)) t.stage)
+      (sym same_values)
+      (subst (λ (s : RobustCall). KnowsMember n (width_of m) m.values (empty_words n (width_of m)) x.words.cells x.indices.places q s
+      t.first
+      x.events (own q (drop t.first x.events)) t.stage) (sym same_stage)
+      (subst (λ (es : List Event). KnowsMember n (width_of m) m.values (empty_words n (width_of m)) x.words.cells x.indices.places q
+      (stage_at m.indices.seats q) t.first es (own q (drop t.first es)) t.stage) (sym longer)
+      (subst (λ (mine : List Event). KnowsMember n (width_of m) m.values (empty_words n (width_of m)) x.words.cells x.indices.places q
+      (stage_at m.indices.seats q) t.first (m.events ++ e ∷ []) mine t.stage)
+      (sym (own_else_since q t.first m.events e h.1 (λ same. differs (sym its ∙ same))))
+      (knows_member_else n (width_of m) (empty_words n (width_of m)) t.first m.events e m.values q m.words.cells x.words.cells
+      m.indices.places x.indices.places (stage_at m.indices.seats q) (own q (drop t.first m.events)) leaves t.stage h.0))))
+
+-- a copy looks at the count of changes
+pub look_write : (n width : ℕ) (values : List (Vec ℕ)) (words : RingWords) (t : ContainerCall) → is_look t ≡ true
+    → answer_of words (member_next n width values t) ≡ words.write
+look_write n width values words stage.Idle h = absurd (cc)
+look_write n width values words (stage.Enter number owner) h = absurd (cc)
+look_write n width values words (stage.Fill number owner index next) h = absurd (cc)
+look_write n width values words (stage.Show number owner index seen) h = absurd (cc)
+look_write n width values words (stage.Sink owner index mode) h = absurd (cc)
+look_write n width values words (stage.Hide owner index mode seen) h = absurd (cc)
+look_write n width values words (stage.Leave owner index mode) h = absurd (cc)
+look_write n width values words (stage.Drop owner index mode) h = absurd (cc)
+look_write n width values words (stage.Count c a) h = absurd (cc)
+look_write n width values words (stage.Raise c a seen) h = absurd (cc)
+look_write n width values words stage.Look h = refl
+look_write n width values words (stage.Visit i) h = absurd (cc)
+look_write n width values words (stage.Gather i seen next) h = absurd (cc)
+look_write n width values words (stage.Done c a) h = absurd (cc)
+
+-- a party goes on
+module _ (m : ContainerParts) (party : ℕ) (fit : member_fits m (GoOn party) ≡ true) (k : MembersAreKept m) where
+  abbrev n : ℕ
+  n = m.indices.capacity
+
+  abbrev seat : MemberSeat
+  seat = member_seat m.seats party
+
+  abbrev t : ContainerCall
+  t = seat.stage
+
+  abbrev answer : ℕ
+  answer = answer_of m.words (member_next n (width_of m) m.values t)
+
+  abbrev next : ContainerCall
+  next = member_take n (width_of m) seat.saw (answer_at (stage_at m.indices.seats party)) t answer
+
+  abbrev e : Event
+  e = record { party = party; access = member_next n (width_of m) m.values t; answer = answer }
+
+  abbrev looks : Bool
+  looks = is_look t && not (answer == seat.saw)
+
+  abbrev x : ContainerParts
+  x = member_went m party
+
+  parts : (nat_lt party (length m.seats) ≡ true) × (may_ask m.indices party t ≡ true)
+  parts = and_parts (nat_lt party (length m.seats)) (may_ask m.indices party t) fit
+
+  there : party < length m.seats
+  there = ltb-true party (length m.seats) parts.0
+
+  set_stays : SetStays m party k (asked_at m.indices party t)
+  set_stays = asked m party k t parts.1
+
+  longer : length (m.events ++ e ∷ []) ≡ length m.events + 1
+  longer = length-append m.events (e ∷ [])
+
+  went_sound : HasFewMoves x → MembersAreSound n x
+  went_sound few =
+      let s : MembersAreSound n m = k.sound (omega (arith, few, longer)) in
+      let made : MemberMade n (width_of m) party m.values (empty_words n (width_of m)) m.words x.words m.indices.places x.indices.places
+      (stage_at x.indices.seats party) seat.first m.events (own party (drop seat.first m.events)) e next
+      = makes m party k (omega (arith, few, longer)) s t parts.1 (s.knows party) in
+      record {
+        write = omega (arith, made.write, s.write, more_counted m.events e);
+        low = λ i within. omega (arith, made.low i within, longer);
+        out = made.out;
+        knows = each_member_seat (λ (q : ℕ) (t : MemberSeat). KnowsAt n m q t × (t.first ≤ length m.events))
+            (λ (q : ℕ) (t : MemberSeat). KnowsAt n x q t) m.seats party (seat_after seat next answer (length m.events)) there
+            (λ q. (s.knows q, k.began q))
+            (λ q differs h. others_know m x n party q e (member_seat m.seats q) differs refl refl refl (set_stays.others q differs)
+            (made.leaves q differs) h)
+            (either_seat (KnowsAt n x party) looks (record { stage = next; first = seat.first; saw = answer; since = length m.events })
+            (record seat { stage = next }) (here made.knows) (here made.knows));
+        told = told_append n (width_of m) m.values (empty_words n (width_of m)) (m.events ++ e ∷ []) m.finished
+            (member_ended party seat.first (length m.events) t)
+            (told_on n (width_of m) m.values (empty_words n (width_of m)) m.events e m.finished s.told)
+            (ended_told n (width_of m) m.values (empty_words n (width_of m)) m.words.cells m.indices.places party seat.first m.events e
+            (stage_at m.indices.seats party) (k.began party) t (s.knows party));
+        saw = each_member_seat (λ (q : ℕ) (t : MemberSeat). (t.saw ≡ times_counted (take t.since m.events)) × (t.since ≤ length m.events))
+            (λ (q : ℕ) (t : MemberSeat). t.saw ≡ times_counted (take t.since x.events)) m.seats party
+            (seat_after seat next answer (length m.events)) there (λ q. (s.saw q, k.since q))
+            (λ q differs h. saw_on m e (member_seat m.seats q) h.1 h.0) (saw_here s looks refl);
+      }
+    where
+      here : KnowsMember n (width_of m) m.values (empty_words n (width_of m)) x.words.cells x.indices.places party
+          (stage_at x.indices.seats party) seat.first (m.events ++ e ∷ []) (own party (drop seat.first m.events) ++ e ∷ []) next
+          → KnowsMember n (width_of m) m.values (empty_words n (width_of m)) x.words.cells x.indices.places party
+          (stage_at x.indices.seats party) seat.first (m.events ++ e ∷ []) (own party (drop seat.first (m.events ++ e ∷ []))) next
+      here h = subst (λ (mine : List Event). KnowsMember n (width_of m) m.values (empty_words n (width_of m)) x.words.cells x.indices.places
+          party (stage_at x.indices.seats party) seat.first (m.events ++ e ∷ []) mine next)
+          (sym (own_more_since party seat.first m.events e (k.began party) refl)) h
+
+      saw_here : MembersAreSound n m → (b : Bool) → looks ≡ b
+          → (if b then (record { stage = next; first = seat.first; saw = answer; since = length m.events }) else record seat
+          { stage = next }).saw
+          ≡ times_counted (take (if b then (record { stage = next; first = seat.first; saw = answer; since = length m.events })
+          else record seat { stage = next }).since x.events)
+      saw_here s true is = look_write n (width_of m) m.values m.words t (and_parts (is_look t) (not (answer == seat.saw)) is).0 ∙ s.write
+          ∙ ap times_counted (sym (take-append_seam m.events (e ∷ [])))
+      saw_here s false is = saw_on m e seat (k.since party) (s.saw party)
+
+  pub member_went_keeps : MembersAreKept x
+  member_went_keeps = record {
+    indices = set_stays.kept;
+    few = omega (arith, set_stays.steps, k.few, longer);
+    lost = set_stays.alive;
+    small = omega (arith, k.small, same_cells m.words (member_next n (width_of m) m.values t));
+    size = subst (λ (c : ℕ). length x.words.cells ≡ c + (c * width_of m + 1)) (sym set_stays.same_size)
+        (same_cells m.words (member_next n (width_of m) m.values t) ∙ k.size);
+    began = each_member_seat (λ (q : ℕ) (t : MemberSeat). t.first ≤ length m.events)
+        (λ (q : ℕ) (t : MemberSeat). t.first ≤ length (m.events ++ e ∷ [])) m.seats party (seat_after seat next answer (length m.events))
+        there k.began (λ q differs h. omega (arith, h, longer))
+        (either_seat (λ (t : MemberSeat). t.first ≤ length (m.events ++ e ∷ [])) looks
+        (record { stage = next; first = seat.first; saw = answer; since = length m.events }) (record seat { stage = next })
+        (omega (arith, k.began party, longer)) (omega (arith, k.began party, longer)));
+    since = each_member_seat (λ (q : ℕ) (t : MemberSeat). t.since ≤ length m.events)
+        (λ (q : ℕ) (t : MemberSeat). t.since ≤ length (m.events ++ e ∷ [])) m.seats party (seat_after seat next answer (length m.events))
+        there k.since (λ q differs h. omega (arith, h, longer))
+        (either_seat (λ (t : MemberSeat). t.since ≤ length (m.events ++ e ∷ [])) looks
+        (record { stage = next; first = seat.first; saw = answer; since = length m.events }) (record seat { stage = next })
+        (omega (arith, longer)) (omega (arith, k.since party, longer)));
+    recorded = subst (λ (c : ℕ). Answered (empty_words c (width_of m)) x.events x.words) (sym set_stays.same_size)
+        (answered_on (empty_words n (width_of m)) m.words m.events e refl k.recorded);
+    sound = λ few. subst (λ (c : ℕ). MembersAreSound c x) (sym set_stays.same_size) (went_sound few);
+  }
+
+-- a party begins a call
+module _ (m : ContainerParts) (party : ℕ) (c : MemberCall) (fit : member_fits m (Begin party c) ≡ true) (k : MembersAreKept m) where
+  abbrev size_of : ℕ
+  size_of = m.indices.capacity
+
+  abbrev begin : Event
+  begin = record { party = party; access = Local; answer = 0 }
+
+  abbrev y : ContainerParts
+  y = member_begins m party c
+
+  begun_parts : (nat_lt party (length m.seats) ≡ true) × ((member_is_idle (member_stage m.seats party) && may_call m party c) ≡ true)
+  begun_parts = and_parts (nat_lt party (length m.seats)) (member_is_idle (member_stage m.seats party) && may_call m party c) fit
+
+  is_there : party < length m.seats
+  is_there = ltb-true party (length m.seats) begun_parts.0
+
+  may : may_call m party c ≡ true
+  may = (and_parts (member_is_idle (member_stage m.seats party)) (may_call m party c) begun_parts.1).1
+
+  one_longer : length (m.events ++ begin ∷ []) ≡ length m.events + 1
+  one_longer = length-append m.events (begin ∷ [])
+
+  begun_stays : (c : MemberCall) → may_call m party c ≡ true → SetStays m party k (asked_by m.indices party c)
+  begun_stays (call.Add number owner) ok = acquires m party k owner
+      (and_parts (robust.fits m.indices (set_move.Begin party (set_call.Acquire owner)))
+      (length (table_value m.values number) == width_of m) ok).0
+  begun_stays (call.Remove owner index mode) ok = stays m party k
+  begun_stays call.Update ok = stays m party k
+
+  same_places : (c : MemberCall) → (asked_by m.indices party c).places ≡ m.indices.places
+  same_places (call.Add number owner) = refl
+  same_places (call.Remove owner index mode) = refl
+  same_places call.Update = refl
+
+  held_is : (p : Place) → is_holder party p ≡ true → p ≡ place.Held party
+  held_is place.Empty h = absurd (cc)
+  held_is (place.Claimed q) h = absurd (cc)
+  held_is (place.Counted q) h = absurd (cc)
+  held_is (place.Held q) h = ap (λ (r : ℕ). place.Held r) (eqb-true q party h)
+
+  begun_knows : (c : MemberCall) → may_call m party c ≡ true
+      → KnowsMember size_of (width_of m) m.values (empty_words size_of (width_of m)) m.words.cells (asked_by m.indices party c).places party
+      (stage_at (asked_by m.indices party c).seats party) (length m.events) (m.events ++ begin ∷ []) (begin ∷ []) (member_begun c)
+  begun_knows (call.Add number owner) ok =
+      let both : _ × ((length (table_value m.values number) == width_of m) ≡ true)
+      = and_parts (robust.fits m.indices (set_move.Begin party (set_call.Acquire owner)))
+      (length (table_value m.values number) == width_of m) ok in
+      let is : stage_at (begun m.indices party (set_call.Acquire owner)).seats party ≡ call_begun size_of (set_call.Acquire owner)
+      = ap (λ (s : Seat). s.stage) (seat_here m.indices.seats party _ (ltb-true party (length m.indices.seats)
+      (and_parts (nat_lt party (length m.indices.seats)) _ both.0).0)) in (
+        refl,
+        eqb-true (length (table_value m.values number)) (width_of m) both.1,
+        ap call_in_hand is,
+        λ i has. absurd (let wrong : None ≡ Some _ = sym (ap answer_at is) ∙ has in cc),
+      )
+  begun_knows (call.Remove owner index mode) ok =
+      let both : _ × (is_shown (word_of m.words (Cell index)) ≡ true)
+      = and_parts (robust.fits m.indices (set_move.Begin party (set_call.Release owner index mode)))
+      (is_shown (word_of m.words (Cell index))) ok in
+      let busy : _ × ((call_is_idle (stage_at m.indices.seats party)
+      && may_begin m.indices party (set_call.Release owner index mode)) ≡ true)
+      = and_parts (nat_lt party (length m.indices.seats)) _ both.0 in
+      let begins : _ × (may_begin m.indices party (set_call.Release owner index mode) ≡ true)
+      = and_parts (call_is_idle (stage_at m.indices.seats party)) _ busy.1 in
+      let rest : _ × ((nat_lt index size_of && (is_holder party (place_of m.indices.places index)
+      && (word_of m.indices.words (Cell index) == owner))) ≡ true)
+      = and_parts (is_owner owner && not (is_lost owner m.indices.lost)) _ begins.1 in
+      let low : (nat_lt index size_of ≡ true) × _ = and_parts (nat_lt index size_of) _ rest.1 in
+      let holds : (is_holder party (place_of m.indices.places index) ≡ true) × _
+      = and_parts (is_holder party (place_of m.indices.places index)) _ low.1 in
+      let within : index < size_of = ltb-true index size_of low.0 in (
+        refl,
+        within,
+        held_is (place_of m.indices.places index) holds.0,
+        ap (λ (i : ℕ). is_shown (slice_index m.words.cells i))
+            (sym (count_position size_of (width_of m) m.words.cells k.size k.small index within)) ∙ both.1,
+      )
+  begun_knows call.Update ok = tt
+
+  set_begun : SetStays m party k (asked_by m.indices party c)
+  set_begun = begun_stays c may
+
+  begun_sound : HasFewMoves y → MembersAreSound size_of y
+  begun_sound few =
+      let s : MembersAreSound size_of m = k.sound (omega (arith, few, one_longer)) in
+      record {
+        write = omega (arith, s.write, more_counted m.events begin);
+        low = λ i within. omega (arith, s.low i within, one_longer);
+        out = λ i within unheld. s.out i within (subst (λ (ps : List Place). (p : ℕ) → place_of ps i ≡ place.Held p → ⊥) (same_places c)
+            unheld);
+        knows = each_member_seat (λ (q : ℕ) (t : MemberSeat). KnowsAt size_of m q t × (t.first ≤ length m.events))
+            (λ (q : ℕ) (t : MemberSeat). KnowsAt size_of y q t) m.seats party
+            (record (member_seat m.seats party) { stage = member_begun c; first = length m.events }) is_there (λ q. (s.knows q, k.began q))
+            (λ q differs h. others_know m y size_of party q begin (member_seat m.seats q) differs refl refl refl
+            (set_begun.others q differs)
+            (leaves_all_members size_of (width_of m) q m.words.cells m.indices.places (asked_by m.indices party c).places
+            (λ i held. ap (λ (ps : List Place). place_of ps i) (same_places c) ∙ held)
+            (λ i held. ap (λ (ps : List Place). place_of ps i) (sym (same_places c)) ∙ held)) h)
+            (subst (λ (mine : List Event). KnowsMember size_of (width_of m) m.values (empty_words size_of (width_of m)) m.words.cells
+            (asked_by m.indices party c).places party (stage_at (asked_by m.indices party c).seats party) (length m.events)
+            (m.events ++ begin ∷ []) mine (member_begun c)) (sym first_own) (begun_knows c may));
+        told = told_on size_of (width_of m) m.values (empty_words size_of (width_of m)) m.events begin m.finished s.told;
+        saw = each_member_seat (λ (q : ℕ) (t : MemberSeat). (t.saw ≡ times_counted (take t.since m.events)) × (t.since ≤ length m.events))
+            (λ (q : ℕ) (t : MemberSeat). t.saw ≡ times_counted (take t.since y.events)) m.seats party
+            (record (member_seat m.seats party) { stage = member_begun c; first = length m.events }) is_there (λ q. (s.saw q, k.since q))
+            (λ q differs h. saw_on m begin (member_seat m.seats q) h.1 h.0)
+            (saw_on m begin (member_seat m.seats party) (k.since party) (s.saw party));
+      }
+    where
+      first_own : own party (drop (length m.events) (m.events ++ begin ∷ [])) ≡ begin ∷ []
+      first_own = ap (own party) (drop-append_seam m.events (begin ∷ [])) ∙ own_more party [] begin refl
+
+  pub member_begins_keeps : MembersAreKept y
+  member_begins_keeps = record {
+    indices = set_begun.kept;
+    few = omega (arith, set_begun.steps, k.few, one_longer);
+    lost = set_begun.alive;
+    small = k.small;
+    size = subst (λ (c : ℕ). length m.words.cells ≡ c + (c * width_of m + 1)) (sym set_begun.same_size) k.size;
+    began = each_member_seat (λ (q : ℕ) (t : MemberSeat). t.first ≤ length m.events)
+        (λ (q : ℕ) (t : MemberSeat). t.first ≤ length (m.events ++ begin ∷ [])) m.seats party
+        (record (member_seat m.seats party) { stage = member_begun c; first = length m.events }) is_there k.began
+        (λ q differs h. omega (arith, h, one_longer)) (omega (arith, one_longer));
+    since = each_member_seat (λ (q : ℕ) (t : MemberSeat). t.since ≤ length m.events)
+        (λ (q : ℕ) (t : MemberSeat). t.since ≤ length (m.events ++ begin ∷ [])) m.seats party
+        (record (member_seat m.seats party) { stage = member_begun c; first = length m.events }) is_there k.since
+        (λ q differs h. omega (arith, h, one_longer)) (omega (arith, k.since party, one_longer));
+    recorded = subst (λ (c : ℕ). Answered (empty_words c (width_of m)) y.events m.words) (sym set_begun.same_size)
+        (answered_on (empty_words size_of (width_of m)) m.words m.events begin refl k.recorded);
+    sound = λ few. subst (λ (c : ℕ). MembersAreSound c y) (sym set_begun.same_size) (begun_sound few);
+  }
+
+happens_keeps : (m : ContainerParts) (step : MemberMove) → member_fits m step ≡ true → MembersAreKept m
+    → MembersAreKept (member_happens m step)
+happens_keeps m (Begin party c) fit k = member_begins_keeps m party c fit k
+happens_keeps m (GoOn party) fit k = member_went_keeps m party fit k
+
+pub member_steps_keep : (m : ContainerParts) (step : MemberMove) (r : Stepped) (n : ContainerParts) → MemberStepsTo m step r n
+    → MembersAreKept m → MembersAreKept n
+member_steps_keep m step stepped.Went n h k = subst MembersAreKept (sym h.2) (happens_keeps m step h.0 k)
+member_steps_keep m step stepped.Finished n h k = subst MembersAreKept (sym h.2) (happens_keeps m step h.0 k)
+member_steps_keep m step stepped.Skipped n h k = subst MembersAreKept (sym h.1) k
+member_steps_keep m step stepped.NoMemory n h k = subst MembersAreKept (sym h.1) k

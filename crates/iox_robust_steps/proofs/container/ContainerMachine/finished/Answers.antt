@@ -1,0 +1,10 @@
+use Rattle.std.proofs.Common.{subst}
+use Rattle.iox_robust_steps.specs.ContainerMachine.{ContainerParts, HasFewMoves}
+use Rattle.iox_robust_steps.specs.ContainerKept.{MembersAreOrderly}
+use Rattle.iox_robust_steps.specs.ContainerView.{parts_of}
+use Rattle.iox_robust_steps.proofs.ContainerOrderly.{members_orderly}
+use Rattle.iox_robust_steps.proofs.container.ContainerMachine.finished.Goals as goal
+
+pub returns-clause-orderly : goal.returns-clause-orderly
+returns-clause-orderly c = subst (λ (m : ContainerParts). HasFewMoves m → MembersAreOrderly m) c.self.view_is
+    (members_orderly (parts_of c.self.inside.state) c.self.invariant)

@@ -1,0 +1,120 @@
+-- What every step of a container's machine keeps.
+use Rattle.std.specs.Prelude.{ℕ, ◌≡◌, ◌+◌, ◌*◌, ◌^◌, ◌<◌, ◌≤◌, true, false, Ok, Some, List, [], length}
+use Rattle.std.specs.Prelude.{slice_index, take, drop}
+use Rattle.std.specs.Global.{Vec}
+use Rattle.iox_queues_steps.specs.Access.{RingWords}
+use Rattle.iox_queues.specs.Told.{own}
+use Rattle.iox_queues.specs.Values.{table_value}
+use Rattle.iox_queues.specs.declared.bits.machine.Event.{Event}
+use Rattle.iox_robust_steps.specs.ContainerSteps.{answer_at, is_shown, value_cell}
+use Rattle.iox_robust_steps.specs.ContainerMachine.{ContainerParts, HasFewMoves, MembersAreRecorded, empty_words, member_seat, member_stage}
+use Rattle.iox_robust_steps.specs.ContainerMachine.{width_of}
+use Rattle.iox_robust_steps.specs.ContainerTold.{AllAreNews, AreMembersTold, GoesOut, MemberTells, WasSo, gathered_after}
+use Rattle.iox_robust_steps.specs.ContainerTold.{is_change}
+use Rattle.iox_robust_steps.specs.ContainerTold.{shown_at, times_counted}
+use Rattle.iox_robust_steps.specs.Machine.{IsOrderly, is_locked, place_of, stage_at}
+use Rattle.iox_robust_steps.specs.Kept.{IsKept}
+use Rattle.iox_robust_steps.specs.Steps.{call_in_hand}
+use Rattle.iox_robust_steps.specs.Told.{Holds}
+use Rattle.iox_robust_steps.specs.declared.call.Answer.TheVariants.{Acquired}
+use Rattle.iox_robust_steps.specs.declared.call.Call.TheVariants as set_call
+use Rattle.iox_robust_steps.specs.declared.call.RobustCall.{RobustCall}
+use Rattle.iox_robust_steps.specs.declared.container.call.ContainerCall.{ContainerCall}
+use Rattle.iox_robust_steps.specs.declared.container.call.ContainerCall.TheVariants as stage
+use Rattle.iox_robust_steps.specs.declared.state.Place.{Place}
+use Rattle.iox_robust_steps.specs.declared.state.Place.TheVariants as place
+
+-- the first words of a value stand at a place
+abbrev pub IsFilled : ℕ → ℕ → List ℕ → ℕ → ℕ → List ℕ → Type 0
+IsFilled n width cells index next value =
+    (j : ℕ) → j < next → slice_index cells (value_cell n width index j) ≡ slice_index value j
+
+-- where the set has an index for an addition, the party holds it, and no member is in there
+abbrev pub HasIndex : ℕ → ℕ → List ℕ → List Place → RobustCall → Type 0
+HasIndex n party cells places s = (i : ℕ) → answer_at s ≡ Some (Acquired (Ok i))
+    → (i < n) × (place_of places i ≡ place.Held party) × (is_shown (slice_index cells i) ≡ false)
+
+-- what a copy has of each place before this one was so at a moment
+abbrev pub SawBelow : ℕ → ℕ → RingWords → ℕ → List Event → List Event → ℕ → Type 0
+SawBelow n width start first events own k = (i : ℕ) → i < k → WasSo n width start first events i (shown_at n i own)
+
+-- what a copy found of the value at a place since it saw this count is there still, as long as the count is
+abbrev pub HasGathered : ℕ → ℕ → List ℕ → ℕ → ℕ → List ℕ → Type 0
+HasGathered n width cells place seen found =
+    slice_index cells place ≡ seen → (j : ℕ) → j < length found → slice_index found j ≡ slice_index cells (value_cell n width place j)
+
+-- what a call of the party knows where it stands: `own` are its steps since `first`, and s is the stage of its call on the set
+abbrev pub KnowsMember : ℕ → ℕ → List (Vec ℕ) → RingWords → List ℕ → List Place → ℕ → RobustCall → ℕ → List Event → List Event
+    → ContainerCall → Type 0
+KnowsMember n width values start cells places party s first events own stage.Idle = Unit {0}
+KnowsMember n width values start cells places party s first events own (stage.Enter number owner) =
+    (times_counted own ≡ 0) × (length (table_value values number) ≡ width) × (call_in_hand s ≡ Some (set_call.Acquire owner))
+    × HasIndex n party cells places s
+KnowsMember n width values start cells places party s first events own (stage.Fill number owner index next) =
+    (times_counted own ≡ 0) × (index < n) × (place_of places index ≡ place.Held party) × (is_shown (slice_index cells index) ≡ false)
+    × (next ≤ width) × IsFilled n width cells index next (table_value values number)
+KnowsMember n width values start cells places party s first events own (stage.Show number owner index seen) =
+    (times_counted own ≡ 0) × (index < n) × (place_of places index ≡ place.Held party) × (is_shown (slice_index cells index) ≡ false)
+    × (seen ≡ slice_index cells index) × IsFilled n width cells index width (table_value values number)
+KnowsMember n width values start cells places party s first events own (stage.Sink owner index mode) =
+    (times_counted own ≡ 0) × (index < n) × (place_of places index ≡ place.Held party) × (is_shown (slice_index cells index) ≡ true)
+KnowsMember n width values start cells places party s first events own (stage.Hide owner index mode seen) =
+    (times_counted own ≡ 0) × (index < n) × (place_of places index ≡ place.Held party) × (is_shown (slice_index cells index) ≡ true)
+    × (seen ≡ slice_index cells index)
+KnowsMember n width values start cells places party s first events own (stage.Leave owner index mode) =
+    (times_counted own ≡ 0) × (index < n) × GoesOut start first events index
+    × (place_of places index ≡ place.Held party → is_shown (slice_index cells index) ≡ false)
+KnowsMember n width values start cells places party s first events own (stage.Drop owner index mode) =
+    (times_counted own ≡ 0) × (index < n) × GoesOut start first events index
+    × (place_of places index ≡ place.Held party → is_shown (slice_index cells index) ≡ false)
+    × (call_in_hand s ≡ Some (set_call.Release owner index mode))
+KnowsMember n width values start cells places party s first events own (stage.Count c answer) =
+    (is_change c answer ≡ true) × MemberTells n width values start 0 first events own c answer
+KnowsMember n width values start cells places party s first events own (stage.Raise c answer seen) =
+    (is_change c answer ≡ true) × MemberTells n width values start 0 first events own c answer
+KnowsMember n width values start cells places party s first events own stage.Look = Unit {0}
+KnowsMember n width values start cells places party s first events own (stage.Visit i) =
+    (i < n) × SawBelow n width start first events own i
+KnowsMember n width values start cells places party s first events own (stage.Gather i seen next) =
+    (i < n) × SawBelow n width start first events own i × (is_shown seen ≡ true) × (seen ≤ slice_index cells i) × (next ≤ width)
+    × (length (gathered_after n [] own) ≡ next) × HasGathered n width cells i seen (gathered_after n [] own)
+KnowsMember n width values start cells places party s first events own (stage.Done c answer) =
+    MemberTells n width values start 1 first events own c answer
+
+-- nobody holds the index
+abbrev pub IsUnheld : List Place → ℕ → Type 0
+IsUnheld places i = (p : ℕ) → place_of places i ≡ place.Held p → ⊥
+
+-- where the premise holds, in a container of n places: the counts count the steps, no member is in where nobody holds the index, each
+-- call in hand knows its steps, each that ended is told, and the copies saw the count of changes that was
+pub record MembersAreSound (n : ℕ) (m : ContainerParts) : Type 0 where
+  pub write : m.words.write ≡ times_counted m.events
+  pub low : (i : ℕ) → i < n → slice_index m.words.cells i ≤ length m.events
+  pub out : (i : ℕ) → i < n → IsUnheld m.indices.places i → is_shown (slice_index m.words.cells i) ≡ false
+  pub knows : (q : ℕ) → KnowsMember n (width_of m) m.values (empty_words n (width_of m)) m.words.cells
+      m.indices.places q (stage_at m.indices.seats q) (member_seat m.seats q).first m.events
+      (own q (drop (member_seat m.seats q).first m.events)) (member_stage m.seats q)
+  pub told : AreMembersTold n (width_of m) m.values (empty_words n (width_of m)) m.events m.finished
+  pub saw : (q : ℕ) → (member_seat m.seats q).saw ≡ times_counted (take (member_seat m.seats q).since m.events)
+
+-- what stands however many steps were made, and what stands where the premise holds
+pub record MembersAreKept (m : ContainerParts) : Type 0 where
+  pub indices : IsKept m.indices
+  pub few : length m.indices.events ≤ length m.events
+  pub lost : m.indices.lost ≡ []
+  pub small : length m.words.cells < 2 ^ 62
+  pub size : length m.words.cells ≡ m.indices.capacity + (m.indices.capacity * width_of m + 1)
+  pub began : (q : ℕ) → (member_seat m.seats q).first ≤ length m.events
+  pub since : (q : ℕ) → (member_seat m.seats q).since ≤ length m.events
+  pub recorded : MembersAreRecorded m
+  pub sound : HasFewMoves m → MembersAreSound m.indices.capacity m
+
+-- what every list of steps keeps: of the set of indices all that its own machine keeps; each call that ended did what it answered; a
+-- member is in only where a party holds the index, so none is in where the set is locked; and a change that began and ended since a
+-- party's last copy moved the count of changes on from what that copy saw, so that the next copy doesn't answer that there was none
+pub record MembersAreOrderly (m : ContainerParts) : Type 0 where
+  pub indices : IsOrderly m.indices
+  pub told : AreMembersTold m.indices.capacity (width_of m) m.values (empty_words m.indices.capacity (width_of m)) m.events m.finished
+  pub held : (i : ℕ) → i < m.indices.capacity → is_shown (slice_index m.words.cells i) ≡ true → (p : ℕ) × Holds p i m.indices.events
+  pub none_in : is_locked m.indices ≡ true → (i : ℕ) → i < m.indices.capacity → is_shown (slice_index m.words.cells i) ≡ false
+  pub news : (q : ℕ) → AllAreNews (member_seat m.seats q).saw (member_seat m.seats q).since m.words.write m.finished

@@ -1,0 +1,152 @@
+-- What the answer of a call on a container says of the steps that were made.
+use Rattle.std.specs.Prelude.{ℕ, ◌≡◌, ◌+◌, ◌<◌, ◌≤◌, Bool, true, false, if◌then◌else◌, ◌==◌, nat_lt, Ok, Err, List, [], ◌∷◌, ◌++◌}
+use Rattle.std.specs.Prelude.{length, slice_index, take, drop}
+use Rattle.std.specs.Global.{Vec}
+use Rattle.iox_queues_steps.specs.Access.{RingWords}
+use Rattle.iox_queues_steps.specs.declared.access.Word.TheVariants.{Write, Read, Cell}
+use Rattle.iox_queues_steps.specs.declared.access.Access.{Access}
+use Rattle.iox_queues_steps.specs.declared.access.Access.TheVariants.{Load, Store, Exchange, Local}
+use Rattle.iox_queues.specs.Moments.{words_after}
+use Rattle.iox_queues.specs.Recorded.{LiesWithin}
+use Rattle.iox_queues.specs.Told.{own}
+use Rattle.iox_queues.specs.Values.{table_value}
+use Rattle.iox_queues.specs.declared.bits.machine.Event.{Event}
+use Rattle.iox_robust_steps.specs.ContainerSteps.{is_shown, value_cell}
+use Rattle.iox_robust_steps.specs.declared.container.call.MemberAnswer.{MemberAnswer}
+use Rattle.iox_robust_steps.specs.declared.container.call.MemberAnswer.TheVariants.{Added, Removed, Updated}
+use Rattle.iox_robust_steps.specs.declared.container.call.MemberCall.{MemberCall}
+use Rattle.iox_robust_steps.specs.declared.container.call.MemberCall.TheVariants as call
+use Rattle.iox_robust_steps.specs.declared.container.MemberFinished.{MemberFinished}
+
+-- 1 if the step counted a change: its exchange of the count was won
+abbrev pub counted_by : Access → ℕ → ℕ
+counted_by (Load word) answer = 0
+counted_by (Store word value) answer = 0
+counted_by (Exchange Write old new) answer = if answer == old then 1 else 0
+counted_by (Exchange Read old new) answer = 0
+counted_by (Exchange (Cell place) old new) answer = 0
+counted_by Local answer = 0
+
+-- how many changes some steps counted
+abbrev pub times_counted : List Event → ℕ
+times_counted [] = 0
+times_counted (event ∷ events) = counted_by event.access event.answer + times_counted events
+
+-- the words of a value that a copy found since it looked at the count of a place: one more after a step that loads one
+abbrev pub gathered_by : ℕ → Access → ℕ → List ℕ → List ℕ
+gathered_by n (Load Write) answer found = found
+gathered_by n (Load Read) answer found = found
+gathered_by n (Load (Cell cell)) answer found = if nat_lt cell n then [] else found ++ answer ∷ []
+gathered_by n (Store word value) answer found = found
+gathered_by n (Exchange word old new) answer found = found
+gathered_by n Local answer found = found
+
+-- the same after some more steps
+abbrev pub gathered_after : ℕ → List ℕ → List Event → List ℕ
+gathered_after n found [] = found
+gathered_after n found (event ∷ events) = gathered_after n (gathered_by n event.access event.answer found) events
+
+-- what a copy has of a place: its count, and the words of the value
+pub record Shown : Type 0 where
+  pub count : ℕ
+  pub value : List ℕ
+
+-- the same after a step: a look at the count of the place gives it, with the words that were found since the look before
+abbrev pub noted_by : ℕ → List ℕ → Access → ℕ → Shown → Shown
+noted_by place found (Load Write) answer shown = shown
+noted_by place found (Load Read) answer shown = shown
+noted_by place found (Load (Cell cell)) answer shown = if cell == place then record { count = answer; value = found } else shown
+noted_by place found (Store word value) answer shown = shown
+noted_by place found (Exchange word old new) answer shown = shown
+noted_by place found Local answer shown = shown
+
+-- the same after some more steps
+abbrev pub noted_after : ℕ → ℕ → List ℕ → Shown → List Event → Shown
+noted_after n place found shown [] = shown
+noted_after n place found shown (event ∷ events) =
+    noted_after n place (gathered_by n event.access event.answer found) (noted_by place found event.access event.answer shown) events
+
+-- what the steps of a copy have of a place: what its last look there found, and the words between its last two looks
+abbrev pub shown_at : ℕ → ℕ → List Event → Shown
+shown_at n place events = noted_after n place [] (record { count = 0; value = [] }) events
+
+-- the count of a place at a moment, after so many of the steps
+abbrev pub count_at : RingWords → List Event → ℕ → ℕ → ℕ
+count_at start events place moment = slice_index (words_after start (take moment events)).cells place
+
+-- word j of the value at a place at a moment
+abbrev pub value_at : ℕ → ℕ → RingWords → List Event → ℕ → ℕ → ℕ → ℕ
+value_at n width start events place moment j =
+    slice_index (words_after start (take moment events)).cells (value_cell n width place j)
+
+-- at one moment since the step `first` the count of the place was this, and the value there this one, if a member was in
+pub record WasSo (n width : ℕ) (start : RingWords) (first : ℕ) (events : List Event) (place : ℕ) (shown : Shown) : Type 0 where
+  pub moment : ℕ
+  pub after : first ≤ moment
+  pub before : moment ≤ length events
+  pub count : count_at start events place moment ≡ shown.count
+  pub value : is_shown shown.count ≡ true → (j : ℕ) → j < width → value_at n width start events place moment j ≡ slice_index shown.value j
+  pub whole : is_shown shown.count ≡ true → length shown.value ≡ width
+
+-- a copy that began with the step `first`: each member that it shows was in, with just that value, at one moment of the copy; and a
+-- member that was in throughout is shown
+pub record CopyIsTrue (n width : ℕ) (start : RingWords) (first : ℕ) (events own : List Event) : Type 0 where
+  pub was_in : (place : ℕ) → place < n → is_shown (shown_at n place own).count ≡ true
+      → WasSo n width start first events place (shown_at n place own)
+  pub shows : (place count : ℕ) → place < n
+      → ((moment : ℕ) → first ≤ moment → moment ≤ length events → count_at start events place moment ≡ count)
+      → (shown_at n place own).count ≡ count
+
+-- one of the steps since `first` put the member in: none was in at the place before, and this value is there with it
+pub record ComesIn (n width : ℕ) (start : RingWords) (first : ℕ) (events : List Event) (place : ℕ) (value : List ℕ) : Type 0 where
+  pub moment : ℕ
+  pub after : first ≤ moment
+  pub before : moment < length events
+  pub out : is_shown (count_at start events place moment) ≡ false
+  pub in_then : is_shown (count_at start events place (moment + 1)) ≡ true
+  pub is : (j : ℕ) → j < width → value_at n width start events place (moment + 1) j ≡ slice_index value j
+
+-- one of the steps since `first` took the member out that was in at the place
+pub record GoesOut (start : RingWords) (first : ℕ) (events : List Event) (place : ℕ) : Type 0 where
+  pub moment : ℕ
+  pub after : first ≤ moment
+  pub before : moment < length events
+  pub in_before : is_shown (count_at start events place moment) ≡ true
+  pub out : is_shown (count_at start events place (moment + 1)) ≡ false
+
+-- what the answer of a call says, which began with the step `first` and made the steps `own`: an addition put its value in, and a
+-- removal took its member out, and so many changes were counted; one that was refused counted none; a copy is true
+abbrev pub MemberTells : ℕ → ℕ → List (Vec ℕ) → RingWords → ℕ → ℕ → List Event → List Event → MemberCall → MemberAnswer → Type 0
+MemberTells n width values start counted first events own (call.Add number owner) (Added (Ok index)) =
+    (index < n) × ComesIn n width start first events index (table_value values number) × (times_counted own ≡ counted)
+MemberTells n width values start counted first events own (call.Add number owner) (Added (Err why)) = times_counted own ≡ 0
+MemberTells n width values start counted first events own (call.Add number owner) (Removed state) = ⊥
+MemberTells n width values start counted first events own (call.Add number owner) (Updated copied) = ⊥
+MemberTells n width values start counted first events own (call.Remove owner index mode) (Added got) = ⊥
+MemberTells n width values start counted first events own (call.Remove owner index mode) (Removed state) =
+    (index < n) × GoesOut start first events index × (times_counted own ≡ counted)
+MemberTells n width values start counted first events own (call.Remove owner index mode) (Updated copied) = ⊥
+MemberTells n width values start counted first events own call.Update (Added got) = ⊥
+MemberTells n width values start counted first events own call.Update (Removed state) = ⊥
+MemberTells n width values start counted first events own call.Update (Updated true) = CopyIsTrue n width start first events own
+MemberTells n width values start counted first events own call.Update (Updated false) = Unit {0}
+
+-- each call that ended did what it answered
+abbrev pub AreMembersTold : ℕ → ℕ → List (Vec ℕ) → RingWords → List Event → List MemberFinished → Type 0
+AreMembersTold n width values start events [] = Unit {0}
+AreMembersTold n width values start events (f ∷ finished) =
+    (MemberTells n width values start 1 f.first (take f.last events) (own f.party (drop f.first (take f.last events))) f.call f.answer
+    × LiesWithin events f.first f.last)
+    × AreMembersTold n width values start events finished
+
+-- a call that changed the members
+abbrev pub is_change : MemberCall → MemberAnswer → Bool
+is_change (call.Add number owner) (Added (Ok index)) = true
+is_change (call.Remove owner index mode) (Removed state) = true
+is_change other answer = false
+
+-- each of these calls that changed the members, and began since a copy saw this count of changes, moved the count on from there
+abbrev pub AllAreNews : ℕ → ℕ → ℕ → List MemberFinished → Type 0
+AllAreNews saw since now [] = Unit {0}
+AllAreNews saw since now (f ∷ finished) =
+    (is_change f.call f.answer ≡ true → since ≤ f.first → saw < now) × AllAreNews saw since now finished

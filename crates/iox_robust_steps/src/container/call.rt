@@ -1,0 +1,386 @@
+//! A call on a container of members, one access at a time.
+ghost use Rattle.std.specs.Prelude.{◌≡◌, ◌<◌, ◌≤◌, ◌^◌};
+ghost use Rattle.iox_queues.specs.Values.{table_value};
+ghost use Rattle.iox_robust_steps.specs.ContainerSteps.{answer_at, dropped, entered, is_shown, member_begun, member_is_idle};
+ghost use Rattle.iox_robust_steps.specs.ContainerSteps.{member_is_over};
+ghost use Rattle.iox_robust_steps.specs.ContainerMachine.{is_look};
+ghost use Rattle.iox_robust_steps.specs.ContainerSteps.{member_next, member_take, value_cell, visited, visits_from};
+
+use crate::call::{Answer, RobustCall};
+use iox_container::{ReleaseMode, ReleaseState, UniqueIndexSetAcquireFailure};
+use iox_queues::values::word_of;
+use iox_queues_steps::{Access, Word};
+
+/// A call that a party may begin.
+#[derive(Clone, Copy, Debug, PartialEq, Eq)]
+pub enum MemberCall {
+    /// Adds the value of this number for this owner.
+    Add(usize, u64),
+    /// Takes this owner's member out, which the party added at this index.
+    Remove(u64, u64, ReleaseMode),
+    /// Copies the members, if something changed since the party's last copy.
+    Update,
+}
+
+/// What a call answered.
+#[derive(Clone, Copy, Debug, PartialEq, Eq)]
+pub enum MemberAnswer {
+    /// The member is in at this index, or was refused.
+    Added(Result<u64, UniqueIndexSetAcquireFailure>),
+    /// The member is out, which may have locked the set of indices.
+    Removed(ReleaseState),
+    /// Whether something was copied.
+    Updated(bool),
+}
+
+/// Where a call stands. Between its begin and `Done` each stage is one access, or asks the set of indices for one.
+#[derive(Clone, Copy, Debug, PartialEq, Eq)]
+pub enum ContainerCall {
+    Idle,
+    /// An addition takes an index.
+    Enter {
+        number: usize,
+        owner: u64,
+    },
+    /// It has the index, stores word after word of the value, and then looks at the count of the place.
+    Fill {
+        number: usize,
+        owner: u64,
+        index: u64,
+        next: usize,
+    },
+    /// It counts the place up: the member is in.
+    Show {
+        number: usize,
+        owner: u64,
+        index: u64,
+        seen: u64,
+    },
+    /// A removal looks at the count of the place.
+    Sink {
+        owner: u64,
+        index: u64,
+        mode: ReleaseMode,
+    },
+    /// It counts the place up: the member is out.
+    Hide {
+        owner: u64,
+        index: u64,
+        mode: ReleaseMode,
+        seen: u64,
+    },
+    /// It begins to give the index back.
+    Leave {
+        owner: u64,
+        index: u64,
+        mode: ReleaseMode,
+    },
+    /// It gives the index back.
+    Drop {
+        owner: u64,
+        index: u64,
+        mode: ReleaseMode,
+    },
+    /// A call that changed the members looks at the count of changes.
+    Count {
+        call: MemberCall,
+        answer: MemberAnswer,
+    },
+    /// It counts its change.
+    Raise {
+        call: MemberCall,
+        answer: MemberAnswer,
+        seen: u64,
+    },
+    /// A copy looks at the count of changes.
+    Look,
+    /// It looks at the count of a place.
+    Visit {
+        place: u64,
+    },
+    /// It found a member there, loads word after word of its value, and then looks at the count again.
+    Gather {
+        place: u64,
+        seen: u64,
+        next: usize,
+    },
+    /// The call answered; its last step is to come.
+    Done {
+        call: MemberCall,
+        answer: MemberAnswer,
+    },
+}
+
+impl ContainerCall {
+    /// The call's first stage.
+    pub fn begin(call: MemberCall) -> ContainerCall
+        ensures { result ≡ member_begun call }
+    {
+        match call {
+            MemberCall::Add(number, owner) => ContainerCall::Enter { number, owner },
+            MemberCall::Remove(owner, index, mode) => ContainerCall::Sink { owner, index, mode },
+            MemberCall::Update => ContainerCall::Look,
+        }
+    }
+
+    /// The access that comes next, where so many places have values of so many words. While the set of indices is asked, the access
+    /// is the set's own.
+    pub fn next(&self, capacity: u64, width: usize, values: &[Vec<u64>]) -> Access
+        ensures { result ≡ member_next capacity width values.now self.now }
+    {
+        match *self {
+            ContainerCall::Idle
+            | ContainerCall::Enter { .. }
+            | ContainerCall::Leave { .. }
+            | ContainerCall::Drop { .. }
+            | ContainerCall::Done { .. } => Access::Local,
+            ContainerCall::Fill {
+                number,
+                index,
+                next,
+                ..
+            } => {
+                if next < width {
+                    let cell = value_cell(capacity, width, index, next);
+                    Access::Store(Word::Cell(cell), word_of(values, number, next))
+                } else {
+                    Access::Load(Word::Cell(index))
+                }
+            }
+            ContainerCall::Show { index, seen, .. } | ContainerCall::Hide { index, seen, .. } => {
+                Access::Store(Word::Cell(index), seen.saturating_add(1))
+            }
+            ContainerCall::Sink { index, .. } => Access::Load(Word::Cell(index)),
+            ContainerCall::Count { .. } | ContainerCall::Look => Access::Load(Word::Write),
+            ContainerCall::Raise { seen, .. } => {
+                Access::Exchange(Word::Write, seen, seen.saturating_add(1))
+            }
+            ContainerCall::Visit { place } => Access::Load(Word::Cell(place)),
+            ContainerCall::Gather { place, next, .. } => {
+                if next < width {
+                    Access::Load(Word::Cell(value_cell(capacity, width, place, next)))
+                } else {
+                    Access::Load(Word::Cell(place))
+                }
+            }
+        }
+    }
+
+    /// Where the call stands after the answer of that access, or of the set of indices, if that has one. The count of changes that
+    /// the party's last copy saw is `saw`.
+    pub fn take(
+        self,
+        capacity: u64,
+        width: usize,
+        saw: u64,
+        got: Option<Answer>,
+        answer: u64,
+    ) -> ContainerCall
+        ensures { result ≡ member_take capacity width saw got self answer }
+    {
+        match self {
+            ContainerCall::Idle | ContainerCall::Done { .. } => ContainerCall::Idle,
+            ContainerCall::Enter { number, owner } => entered(number, owner, got),
+            ContainerCall::Fill {
+                number,
+                owner,
+                index,
+                next,
+            } => {
+                if next < width {
+                    ContainerCall::Fill {
+                        number,
+                        owner,
+                        index,
+                        next: next + 1,
+                    }
+                } else {
+                    ContainerCall::Show {
+                        number,
+                        owner,
+                        index,
+                        seen: answer,
+                    }
+                }
+            }
+            ContainerCall::Show {
+                number,
+                owner,
+                index,
+                ..
+            } => ContainerCall::Count {
+                call: MemberCall::Add(number, owner),
+                answer: MemberAnswer::Added(Ok(index)),
+            },
+            ContainerCall::Sink { owner, index, mode } => ContainerCall::Hide {
+                owner,
+                index,
+                mode,
+                seen: answer,
+            },
+            ContainerCall::Hide {
+                owner,
+                index,
+                mode,
+                ..
+            } => ContainerCall::Leave { owner, index, mode },
+            ContainerCall::Leave { owner, index, mode } => {
+                ContainerCall::Drop { owner, index, mode }
+            }
+            ContainerCall::Drop { owner, index, mode } => dropped(owner, index, mode, got),
+            ContainerCall::Count { call, answer: told } => ContainerCall::Raise {
+                call,
+                answer: told,
+                seen: answer,
+            },
+            ContainerCall::Raise {
+                call,
+                answer: told,
+                seen,
+            } => {
+                if answer == seen {
+                    ContainerCall::Done { call, answer: told }
+                } else {
+                    ContainerCall::Raise {
+                        call,
+                        answer: told,
+                        seen: answer,
+                    }
+                }
+            }
+            ContainerCall::Look => {
+                if answer == saw {
+                    updated(false)
+                } else {
+                    visits_from(capacity, 0)
+                }
+            }
+            ContainerCall::Visit { place } => visited(capacity, place, answer),
+            ContainerCall::Gather { place, seen, next } => {
+                if next < width {
+                    ContainerCall::Gather {
+                        place,
+                        seen,
+                        next: next + 1,
+                    }
+                } else if answer == seen {
+                    visits_from(capacity, place.saturating_add(1))
+                } else {
+                    visited(capacity, place, answer)
+                }
+            }
+        }
+    }
+
+    /// No call is under way.
+    pub fn is_idle(&self) -> bool
+        ensures { result ≡ member_is_idle self.now }
+    {
+        matches!(*self, ContainerCall::Idle)
+    }
+
+    /// The next step is the last of its call.
+    pub fn is_over(&self) -> bool
+        ensures { result ≡ member_is_over self.now }
+    {
+        matches!(*self, ContainerCall::Done { .. })
+    }
+}
+
+// The answer that a call on the set of indices has, if it has one.
+pub(crate) fn answer_at(stage: RobustCall) -> Option<Answer>
+    ensures { result ≡ answer_at stage }
+{
+    match stage {
+        RobustCall::Done { answer, .. } => Some(answer),
+        _ => None,
+    }
+}
+
+// A party at this stage looks at the count of changes, to copy.
+pub(crate) fn is_look(stage: ContainerCall) -> bool
+    ensures { result ≡ is_look stage }
+{
+    matches!(stage, ContainerCall::Look)
+}
+
+// A member is in at a place whose count is odd.
+pub(crate) fn is_shown(count: u64) -> bool
+    ensures { result ≡ is_shown count }
+{
+    count % 2 == 1
+}
+
+fn updated(copied: bool) -> ContainerCall
+    ensures { result ≡ ContainerCall.Done MemberCall.Update (MemberAnswer.Updated copied) }
+{
+    ContainerCall::Done {
+        call: MemberCall::Update,
+        answer: MemberAnswer::Updated(copied),
+    }
+}
+
+// To the next place, if one is left.
+fn visits_from(capacity: u64, place: u64) -> ContainerCall
+    ensures { result ≡ visits_from capacity place }
+{
+    if place < capacity {
+        ContainerCall::Visit { place }
+    } else {
+        updated(true)
+    }
+}
+
+// It found this count at a place.
+fn visited(capacity: u64, place: u64, count: u64) -> ContainerCall
+    ensures { result ≡ visited capacity place count }
+{
+    if is_shown(count) {
+        ContainerCall::Gather {
+            place,
+            seen: count,
+            next: 0,
+        }
+    } else {
+        visits_from(capacity, place.saturating_add(1))
+    }
+}
+
+// An addition has the answer of the set, if that has one.
+fn entered(number: usize, owner: u64, got: Option<Answer>) -> ContainerCall
+    ensures { result ≡ entered number owner got }
+{
+    match got {
+        None | Some(Answer::Settled(_)) => ContainerCall::Enter { number, owner },
+        Some(Answer::Acquired(Ok(index))) => ContainerCall::Fill {
+            number,
+            owner,
+            index,
+            next: 0,
+        },
+        Some(Answer::Acquired(Err(why))) => ContainerCall::Done {
+            call: MemberCall::Add(number, owner),
+            answer: MemberAnswer::Added(Err(why)),
+        },
+    }
+}
+
+// A removal has the answer of the set, if that has one.
+fn dropped(owner: u64, index: u64, mode: ReleaseMode, got: Option<Answer>) -> ContainerCall
+    ensures { result ≡ dropped owner index mode got }
+{
+    match got {
+        None | Some(Answer::Acquired(_)) => ContainerCall::Drop { owner, index, mode },
+        Some(Answer::Settled(state)) => ContainerCall::Count {
+            call: MemberCall::Remove(owner, index, mode),
+            answer: MemberAnswer::Removed(state),
+        },
+    }
+}
+
+// The cell of word `j` of the value at a place; positions stop at the largest number.
+fn value_cell(capacity: u64, width: usize, place: u64, j: usize) -> u64
+    ensures { result ≡ value_cell capacity width place j }
+{
+    capacity.saturating_add(place.saturating_mul(width as u64).saturating_add(j as u64))
+}
