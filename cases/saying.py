@@ -38,9 +38,15 @@ FAULTS = [
     ("open n1 ps A |1", 14, "the list |1 has no step"),
     ("open n1 ps A |2 lock:x1 |1 lock:x1", 25, "the list |1 stands behind |2: each is of a later access"),
     ("publisher f1 strategy=retri", 23, 'strategy is retry or discard, and not "retri"; did you mean "retry"?'),
-    ("foreign ps A lok:x1", 14, '"lok" is no step: lock, giveup, publish, register, leave or remove; did you mean "lock"?'),
+    ("foreign ps A lok:x1", 14, '"lok" is no step: lock, giveup, publish, publish1, register, leave or remove; did you mean "lock"?'),
     ("foreign ps A lock:n1", 19, '"n1" stands where a foreign node is wanted, as x1'),
     ("foreign ps A publish:x1:", 25, "an option is missing: publish:x1:KEY=VALUE,.."),
+    ("foreign ps A publish1:x1:", 26, "an option is missing: publish1:x1:KEY=VALUE,.."),
+    ("foreign ps A publish1:x1:buffer=1:", 35, "a colon too many in a step of publish1"),
+    ("create n1 ps A sequence=2", 25, 'sequence is 0 or 1, and "2" is neither'),
+    ("create n1 rr A sequence=1", 16, '"sequence" is no option of rr services: it is one of ps services'),
+    ("sequence s1", 10, '"s1" stands where a sample is wanted, as m1'),
+    ("sequence m1 m2", 13, '"m2" is a word too many: sequence mK'),
 ]
 
 
@@ -194,6 +200,18 @@ def records_have_line_command_reply_and_values():
 
 
 @case
+def records_have_the_numbers_of_messages():
+    given = b"node\ncreate n1 ps A sequence=1\nsubscriber f1\npublisher f1\nput p1 4\nreceive s1\nsequence m1\n"
+    given += b"create n1 ps B\nsubscriber f2\npublisher f2\nput p2 5\nreceive s2\nsequence m2\n"
+    ran = Ran("--json", "-q", "--model", given=given)
+    wanted = [
+        {"line": 7, "command": "sequence m1", "reply": "ok 1", "kind": "ok", "sequence": 1},
+        {"line": 13, "command": "sequence m2", "reply": "ok none", "kind": "ok", "sequence": None},
+    ]
+    expect([it for it in map(json.loads, ran.out.splitlines()) if it["command"].startswith("sequence")], wanted)
+
+
+@case
 def the_time_is_told_at_the_end():
     ran = Ran("--time", "--model", SCRIPT)
     said = rb"iox: 14 lines in \d+\.\d{3} s, the first reply after \d+\.\d{3} s, \d+ \S+ a line behind that\n"
@@ -213,6 +231,32 @@ def the_picture_shows_title_values_and_what_became_of_messages():
         expect([classes.count(it) for it in ("message", "held", "lost", "waits", "life")], [3, 3, 2, 1, 6])
         expect(sorted(it for it in texts if it and it.startswith("[")), ["[1]", "[2]", "[3]"])
         expect_in("received", texts)
+
+
+@case
+def the_picture_and_the_state_show_the_numbers_of_messages_and_what_is_missing():
+    from tool.converse import Line
+    from tool.state import told
+    from tool.trace import Trace
+
+    missed = TOP / "examples" / "rows" / "what-was-missed-shows-in-the-numbers.iox"
+    with tempfile.TemporaryDirectory(prefix="iox-check-") as folder:
+        picture = Path(folder) / "missed.svg"
+        Ran("--model", "--svg", picture, missed)
+        drawn = ElementTree.parse(picture).getroot()
+        texts = [it.text for it in drawn.iter("{http://www.w3.org/2000/svg}text")]
+        expect(sorted(it for it in texts if it and it.startswith("[")), ["[10] #4", "[7] #1", "[8] #2", "[9] #3"])
+        expect([it for it in texts if it and "missing" in it], ["1 missing", "numbers are missing"])
+        # One more is in the legend.
+        expect([it.get("class") for it in drawn.iter("{http://www.w3.org/2000/svg}path")].count("gap"), 2)
+    trace = Trace()
+    pairs = zip(missed.read_bytes().splitlines(), missed.with_suffix(".replies").read_bytes().splitlines())
+    for at, (line, reply) in enumerate(pairs, 1):
+        trace.take(Line(at, line, len(line)), reply)
+    expect([it.missing for it in trace.told.deliveries], [0, 0, 1, 0])
+    state = told(trace.told.states[-1])
+    for it in ("p1 of f1, ps A: 2 of 34 slots in use; last number 4\n", "m2 at s1, of p1: [9] #3"):
+        expect_in(it, state)
 
 
 @case
@@ -258,7 +302,7 @@ def the_prompt_has_its_own_words_keys_and_completion():
         for it in (
             "iox> create n1 ps A buffer=3\nok f1\n",
             "iox> publisher f1 strategy=discard \nok p1\n",
-            "ps A: open; nodes n1; factories f1\n  overflow=1 publishers=2 subscribers=8 buffer=3 ",
+            "ps A: open; nodes n1; factories f1\n  overflow=1 sequence=0 publishers=2 subscribers=8 buffer=3 ",
             "  from p1: [7] waits (1 of 3)\n",
             "skip\nline 6, skip: m1 was never given\niox> :why\nline 6, skip: m1 was never given\n",
             "put pK V ..\n",
@@ -281,15 +325,19 @@ def completion_offers_what_lives_and_what_the_grammar_has():
     offered = Completion(follower).candidates
     for typed, wanted in (
         ("re", ["retry ", "receive ", "read ", "release "]),
+        ("se", ["set ", "send ", "sequence "]),
         ("open n", ["n1 ", "n2 "]),
         ("open n1 ", ["ps ", "ev ", "rr "]),
         ("open n1 ps ", ["Sonar "]),
         ("open n1 ps Sonar bu", ["buffer="]),
         ("open n1 ev Sonar b", []),
         ("open n1 ps Sonar buffer=1 b", ["borrowed="]),
+        ("open n1 ps Sonar seq", ["sequence="]),
+        ("open n1 ps Sonar sequence=", ["sequence=0 ", "sequence=1 "]),
         ("publisher f1 handler=", ["handler=follow ", "handler=retry ", "handler=discard ", "handler=fail "]),
         ("update ", ["s1 "]),
         ("foreign ps Sonar re", ["register:x", "remove:x"]),
+        ("foreign ps Sonar pub", ["publish:x", "publish1:x"]),
         ("help le", ["leave "]),
         ("nothing ", []),
     ):
@@ -400,10 +448,10 @@ def the_page_of_the_launcher_names_each_option_and_has_its_picture():
 @case
 def what_the_page_of_questions_shows_is_what_is_answered():
     page = (TOP / "docs" / "FAQ.md").read_text(encoding="utf-8")
-    shown = re.search(r"```\n(node  .*?)```", page, re.S)[1].splitlines()
-    rows = [re.split(r"  +", it) for it in shown]
-    ran = Ran("--model", given="".join(f"{line}\n" for line, _ in rows).encode())
-    expect((ran.out.decode().splitlines(), ran.err), ([reply for _, reply in rows], b""))
+    for shown in re.findall(r"```\n(node  .*?)```", page, re.S):
+        rows = [re.split(r"  +", it) for it in shown.splitlines()]
+        ran = Ran("--model", given="".join(f"{line}\n" for line, _ in rows).encode())
+        expect((ran.out.decode().splitlines(), ran.err), ([reply for _, reply in rows], b""))
     script, said = re.search(r"```\n\$ printf '(.*?)' \| ./iox --model\n(.*?)```", page, re.S).groups()
     ran = Ran("--model", given=script.replace("\\n", "\n").encode())
     expect((ran.out + ran.err).decode(), said)

@@ -95,19 +95,19 @@ class Scenes:
     def step(self, pattern, phase):
         """A step, mostly one that fits the phase."""
         node = f"x{self.dice.below(3)}"
-        what = self.dice.of(["lock", "giveup", "publish", "register", "leave", "remove"])
+        what = self.dice.of(["lock", "giveup", "publish", "publish1", "register", "leave", "remove"])
         if self.dice.chance(70):
             if phase is None:
                 what = "lock"
             elif not isinstance(phase, Life):
-                what, node = self.dice.of(["publish", "publish", "giveup"]), f"x{phase[1]}"
+                what, node = self.dice.of(["publish", "publish", "publish1", "giveup"]), f"x{phase[1]}"
             elif phase.emptied_by is not None:
                 what, node = "remove", f"x{phase.emptied_by[1]}"
             else:
                 inside = [it[1] for it, _ in phase.nodes if it[0] == "x"]
                 what = self.dice.of(["register", "leave"]) if inside else "register"
                 node = f"x{self.dice.of(inside)}" if what == "leave" else node
-        options = self.asked(pattern, 40) if what == "publish" and self.dice.chance(60) else []
+        options = self.asked(pattern, 40) if what in ("publish", "publish1") and self.dice.chance(60) else []
         return f"{what}:{node}" + (":" + ",".join(options) if options else "")
 
     def lists(self, pattern, phase):
@@ -207,7 +207,7 @@ class Scenes:
             yield f"{self.dice.of(['create', 'open_or_create'])} {node} {pattern} {name} {lists}"
         elif not isinstance(phase, Life):
             yield f"{self.dice.of(['create', 'open', 'open_or_create'])} {node} {pattern} {name}"
-            yield f"foreign {pattern} {name} {self.dice.of(['giveup', 'publish'])}:x{phase[1]}"
+            yield f"foreign {pattern} {name} {self.dice.of(['giveup', 'publish', 'publish1'])}:x{phase[1]}"
         elif phase.emptied_by is not None:
             yield f"{self.dice.of(['create', 'open', 'open_or_create'])} {node} {pattern} {name}"
             yield f"foreign {pattern} {name} remove:x{phase.emptied_by[1]}"
@@ -317,6 +317,23 @@ class Scenes:
             for _ in range(4):
                 yield f"put {publisher[3:] or 'p1'} {self.dice.below(100)}"
 
+    def numbered(self):
+        """A service that numbers messages, and a subscriber that misses some."""
+        factory = yield f"open_or_create {self.node()} ps M sequence=1 buffer={1 + self.dice.below(3)}"
+        if not factory.startswith("ok"):
+            return
+        subscriber = yield f"subscriber {factory[3:]}"
+        publisher = yield f"publisher {factory[3:]}"
+        if not (subscriber.startswith("ok") and publisher.startswith("ok")):
+            return
+        for _ in range(1 + self.dice.below(3)):
+            for _ in range(1 + self.dice.below(4)):
+                yield f"put {publisher[3:]} {self.dice.below(100)}"
+            sample = yield f"receive {subscriber[3:]}"
+            if sample.startswith("ok"):
+                yield f"sequence {sample.split(' ')[1]}"
+                yield f"release {sample.split(' ')[1]}"
+
     def end_loan(self):
         yield f"{self.dice.of(['drop', 'send', 'drop'])} {self.number('l')}"
 
@@ -345,10 +362,11 @@ class Scenes:
             if not reply.startswith("ok"):
                 return
             if self.dice.chance(60):
-                yield f"{self.dice.of(['release', 'release', 'read'])} {reply.split(' ')[1]}"
+                yield f"{self.dice.of(['release', 'release', 'release', 'read', 'sequence', 'sequence'])} {reply.split(' ')[1]}"
 
     def old_sample(self):
-        yield f"{self.dice.of(['read', 'release', 'release'])} {self.number('m', lambda it: not is_storm(it.factory))}"
+        verb = self.dice.of(["read", "sequence", "release", "release", "release"])
+        yield f"{verb} {self.number('m', lambda it: not is_storm(it.factory))}"
 
     def look_in(self):
         kind = self.dice.of(["has s", "update s", "update p"])
@@ -394,7 +412,7 @@ class Scenes:
 
     def faulty(self):
         """A line that is nearly one, or far too long."""
-        line = self.dice.of(["node", "create n1 ps A buffer=2 @a=1 |1 lock:x1", "open n1 ev A maxid=3", "publisher f1 loans=2", "put p1 1 2", "set l1 0 1", "foreign rr A lock:x1", "receive s1", "loan p1 1"])
+        line = self.dice.of(["node", "create n1 ps A buffer=2 @a=1 |1 lock:x1", "open n1 ev A maxid=3", "publisher f1 loans=2", "put p1 1 2", "set l1 0 1", "foreign rr A lock:x1", "receive s1", "loan p1 1", "sequence m1", "foreign ps A publish1:x1:sequence=0"])
         at = self.dice.below(len(line) + 1)
         kind = self.dice.below(7)
         if kind == 0:
@@ -416,7 +434,7 @@ class Scenes:
     def any(self):
         scene = self.dice.weighted([
             (1, self.nodes), (7, self.agree), (6, self.ask_too_much), (2, self.crowd), (3, self.past_limits), (3, self.foreign), (1, self.unblock_name),
-            (9, self.rounds), (6, self.wind_up), (1, self.close), (6, self.publisher), (6, self.subscriber), (20, self.put), (3, self.fill_up), (3, self.narrow), (10, self.lend),
+            (9, self.rounds), (6, self.wind_up), (1, self.close), (6, self.publisher), (6, self.subscriber), (20, self.put), (3, self.fill_up), (3, self.narrow), (3, self.numbered), (10, self.lend),
             (3, self.end_loan), (3, self.with_loan), (1, self.last_of_a_publisher), (4, self.retry), (16, self.receive), (6, self.old_sample),
             (6, self.look_in), (2, self.leave), (2, self.faulty),
         ])
@@ -449,7 +467,7 @@ def kind_of(line, reply):
     if reply.startswith("err"):
         return reply
     words = reply.split(" ")
-    rest = ["" if len(words) == 1 else " " + (words[1] if words[1] in ("true", "false") else words[1][:1] + "K" if words[1][:1].isalpha() else "N")]
+    rest = ["" if len(words) == 1 else " " + (words[1] if words[1] in ("true", "false", "none") else words[1][:1] + "K" if words[1][:1].isalpha() else "N")]
     return f"{line.split(' ')[0]}: {words[0]}{rest[0]}"
 
 

@@ -10,6 +10,7 @@ TOO_FEW = "DoesNotSupportRequested"
 SETTINGS = {
     "ps": [
         ("overflow", SWITCH, True, None, None, "IncompatibleOverflowBehavior"),
+        ("sequence", SWITCH, False, None, None, "IncompatibleSequenceNumbers"),
         ("publishers", NUMBER, 2, 1, 2**24, TOO_FEW + "AmountOfPublishers"),
         ("subscribers", NUMBER, 8, 1, 2**24, TOO_FEW + "AmountOfSubscribers"),
         ("buffer", NUMBER, 2, 1, 2**32, TOO_FEW + "MinBufferSize"),
@@ -116,10 +117,10 @@ def read_pattern(word):
 
 
 def read_step(pattern, word):
-    """A step of a foreign process: what it does, its node, and the settings that a `publish` names."""
+    """A step of a foreign process: what it does, its node, and the settings that a `publish` or `publish1` names."""
     what, *parts = word.split(b":")
-    ensure(what in (b"lock", b"giveup", b"publish", b"register", b"leave", b"remove"))
-    ensure(len(parts) == 1 or (what == b"publish" and len(parts) == 2))
+    ensure(what in (b"lock", b"giveup", b"publish", b"publish1", b"register", b"leave", b"remove"))
+    ensure(len(parts) == 1 or (what in (b"publish", b"publish1") and len(parts) == 2))
     named = read_options(kinds_of(pattern), parts[1].split(b",")) if len(parts) == 2 else {}
     return what.decode(), ("x", made_value("x", parts[0])), named
 
@@ -186,7 +187,7 @@ def read_command(line):
         letter = words[0][:1].decode()
         return verb, letter, made_value(letter, words[0])
     letters = {"close": "f", "loan": "p", "loan_uninit": "p", "set": "l", "fill": "l", "drop": "l", "send": "l", "put": "p"}
-    letters |= {"retry": "p", "giveup": "p", "receive": "s", "has": "s", "read": "m", "release": "m"}
+    letters |= {"retry": "p", "giveup": "p", "receive": "s", "has": "s", "read": "m", "sequence": "m", "release": "m"}
     ensure(verb in letters)
     value, numbers = made_value(letters[verb], words[0]), [number(it) for it in words[1:]]
     if verb in ("put", "fill"):

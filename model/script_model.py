@@ -78,9 +78,11 @@ class Names:
             self.phases[service] = node
         elif what == "giveup" and creating:
             del self.phases[service]
-        elif what == "publish" and creating:
+        elif what in ("publish", "publish1") and creating:
             agreed = adjusted(service[0], named)
-            if within_limits(service[0], agreed):
+            # The first version of descriptions can't tell that messages have numbers.
+            is_told = what == "publish" or not agreed.get("sequence", False)
+            if is_told and within_limits(service[0], agreed):
                 self.phases[service] = Life(agreed, [], node)
         elif what == "register" and living and phase.nodes and not phase.place_of(node) and phase.has_room():
             phase.nodes.append([node, 1])
@@ -267,10 +269,11 @@ class Connection:
 
 
 class Message:
-    """The values are None until they are written, and stay as they are from the send on."""
+    """The values are None until they are written. They stay as they are from the send on, and so does the number that it gives."""
 
     def __init__(self, publisher, segment, values):
         self.publisher, self.segment, self.values = publisher, segment, values
+        self.sequence = None
 
 
 class Loan:
@@ -298,6 +301,7 @@ class Publisher:
         self.slots = min(max(options.get("slots", worst), 1), worst)
         self.loans, self.history, self.blocked, self.has_left = [], [], None, False
         self.links, self.ended, self.seen = {}, [], None
+        self.last_sequence = 0 if agreed["sequence"] else None
         self.update()
         domain.publishers[domain.publishers.index(None)] = self
         domain.publisher_changes += 1
@@ -348,6 +352,9 @@ class Publisher:
             self.loans.remove(loan)
             raise Refused("SendError::ConnectionBrokenSinceSenderNoLongerExists")
         self.update()
+        if self.last_sequence is not None:
+            self.last_sequence += 1
+            loan.message.sequence = self.last_sequence
         if self.history_size > 0:
             self.history = (self.history + [loan.message])[-self.history_size :]
         self.blocked = Blocked(loan, [self.links[it] for it in sorted(self.links)])
@@ -688,6 +695,10 @@ class Machine:
 
     def on_read(self, number):
         return with_values("ok", self.get("m", number))
+
+    def on_sequence(self, number):
+        sequence = self.get("m", number).message.sequence
+        return "ok none" if sequence is None else f"ok {sequence}"
 
     def on_release(self, number):
         sample = self.get("m", number)

@@ -3,7 +3,7 @@ from __future__ import annotations
 
 from xml.sax.saxutils import escape
 
-from tool.state import KINDS, values_shown
+from tool.state import KINDS, message_shown
 from tool.trace import Conversation, Delivery
 
 # In pixels: a row, a lifeline, a letter of the font, the margin, and what stands above the first row.
@@ -16,7 +16,7 @@ text{font:13px monospace;fill:#222}.title{font:bold 16px sans-serif}.sub,.legend
 .message{stroke:#1f5fbf;stroke-width:1.8;fill:none;marker-end:url(#tip)}
 .waits{stroke:#1f5fbf;stroke-width:1.5;stroke-dasharray:2 4;fill:none;marker-end:url(#ring)}
 .lost{stroke:#b3261e;stroke-width:1.5;stroke-dasharray:6 4;fill:none;marker-end:url(#cross)}
-.untaken{stroke:#b3261e;stroke-width:2.5}.value{font:11px monospace;paint-order:stroke;stroke:#fff;stroke-width:4px}.gone{fill:#b3261e}"""
+.untaken,.gap{stroke:#b3261e;stroke-width:2.5}.value{font:11px monospace;paint-order:stroke;stroke:#fff;stroke-width:4px}.gone{fill:#b3261e}"""
 MARKER = '<marker id="{}" viewBox="0 0 8 8" refX="{}" refY="4" markerWidth="6" markerHeight="6"{}>{}</marker>'
 MARKERS = "\n".join(
     (
@@ -48,7 +48,9 @@ class Sheet:
 
     @property
     def width(self) -> int:
-        return max(self.lives_at + COLUMN * len(self.told.lifelines), 720)
+        # What is missing at the last lifeline is told behind it.
+        told = COLUMN * any(it.missing for it in self.told.deliveries)
+        return max(self.lives_at + COLUMN * len(self.told.lifelines) + told, 720)
 
     @property
     def bottom(self) -> int:
@@ -122,6 +124,18 @@ def cross(x: int, y: int) -> str:
     return f'<path class="untaken" d="M{x - 5} {y - 5}L{x + 5} {y + 5}M{x + 5} {y - 5}L{x - 5} {y + 5}"/>'
 
 
+def gap(x: int, y: int) -> str:
+    return f'<path class="gap" d="M{x - 7} {y + 1}L{x + 7} {y - 5}M{x - 7} {y + 5}L{x + 7} {y - 1}"/>'
+
+
+def draw_gap(sheet: Sheet, it: Delivery, side: int):
+    """Breaks the lifeline of a subscriber above the row where numbers are missing, and says how many."""
+    x, y = sheet.x[it.subscriber], sheet.y(it.received) - ROW // 2
+    anchor = "start" if side > 0 else "end"
+    sheet.parts.append(gap(x, y))
+    sheet.text(x + side * 12, y + 4, f"{it.missing} missing", "value gone", f' text-anchor="{anchor}"')
+
+
 def draw_messages(sheet: Sheet):
     aside = offsets(sheet.told.deliveries, sheet.end)
     for at, it in enumerate(sheet.told.deliveries):
@@ -129,7 +143,7 @@ def draw_messages(sheet: Sheet):
             continue
         x1, y1, x2 = sheet.x[it.publisher], sheet.y(it.sent), sheet.x[it.subscriber] + aside.get(at, 0)
         side = 1 if x1 > x2 else -1
-        value = escape(values_shown(it.values, 4))
+        value = escape(message_shown(it.values, it.sequence, 4))
         if it.received is not None:
             foot = sheet.y(sheet.end) + 8 if it.released is None else sheet.y(it.released)
             sheet.stroke("held", x2, sheet.y(it.received), x2, foot)
@@ -139,25 +153,33 @@ def draw_messages(sheet: Sheet):
         anchor = "start" if side > 0 else "end"
         gone = " gone" if name == "lost" else ""
         sheet.text(x3 + side * 10, sheet.y(row) - 7, value, f"value{gone}", f' text-anchor="{anchor}"')
+        if it.missing:
+            draw_gap(sheet, it, -side)
     reached = {it.sent for it in sheet.told.deliveries}
     for it in sheet.told.untaken:
         if it.sent not in reached and it.publisher in sheet.x:
             x, y = sheet.x[it.publisher], sheet.y(it.sent)
             sheet.parts.append(cross(x, y))
-            sheet.text(x + 9, y - 5, escape(values_shown(it.values, 4)), "value gone")
+            sheet.text(x + 9, y - 5, escape(message_shown(it.values, it.sequence, 4)), "value gone")
 
 
 def draw_legend(sheet: Sheet):
     x, y = MARGIN, sheet.bottom + 18
-    for name, what in (("message", "received"), ("held", "held"), ("waits", "still waits"), ("lost", "lost"), ("", "no mailbox took it")):
-        if name:
+    marks = [("message", "received"), ("held", "held"), ("waits", "still waits"), ("lost", "lost"), ("", "no mailbox took it")]
+    # Where no number is missing the legend needn't say how that is drawn.
+    marks += [("gap", "numbers are missing")] * any(it.missing for it in sheet.told.deliveries)
+    for name, what in marks:
+        if name == "gap":
+            sheet.parts.append(gap(x + 25, y - 4))
+        elif name:
             sheet.stroke(name, x, y - 4, x + 34, y - 4)
         else:
             sheet.parts.append(cross(x + 25, y - 4))
         sheet.text(x + 44, y, what, "legend")
         x += 44 + 8 * len(what) + 20
     kinds = ", ".join(f"{letter} {kind}" for letter, kind in KINDS.items() if letter != "m")
-    sheet.text(MARGIN, y + 20, f"numbers in brackets are a message's values; {kinds}", "legend")
+    numbered = ", behind # its own number" * any(it.sequence is not None for it in [*sheet.told.deliveries, *sheet.told.untaken])
+    sheet.text(MARGIN, y + 20, f"numbers in brackets are a message's values{numbered}; {kinds}", "legend")
 
 
 def counts(told: Conversation) -> str:

@@ -12,6 +12,7 @@ from tool.grammar import (
     LETTERS,
     NUMBERS,
     PORT_OPTIONS,
+    PUBLISHING,
     REPEATED,
     STEP_VERBS,
     VERBS,
@@ -182,7 +183,7 @@ def check_step(pattern: str, word: Word):
     verb = what.text.decode()
     if not parts:
         raise Fault(word.column + len(word.text), f"the step wants a foreign node, as {verb}:x1")
-    if len(parts) > (2 if verb == "publish" else 1):
+    if len(parts) > (2 if verb in PUBLISHING else 1):
         raise Fault(parts[-1].column, f"a colon too many in a step of {verb}")
     node = parts[0]
     if node.text[:1] != b"x" or not node.text[1:2].isdigit():
@@ -192,7 +193,7 @@ def check_step(pattern: str, word: Word):
         options = parts[1].parts(b",")
         if b"" in [it.text for it in options]:
             empty = next(it for it in options if not it.text)
-            raise Fault(empty.column, "an option is missing: publish:x1:KEY=VALUE,..")
+            raise Fault(empty.column, f"an option is missing: {verb}:x1:KEY=VALUE,..")
         check_options(options, settings_of(pattern), f"{pattern} services")
 
 

@@ -75,6 +75,7 @@ class Verb:
 SERVICE = (Kind.NODE, Kind.PATTERN, Kind.NAME, Kind.SETTINGS)
 IN_USE = "Refused while a port of it is there, a loan of it is out, or a sample that it received is held."
 AS_RECEIVED = "The sample reads the same until it is released, whoever leaves meanwhile."
+NUMBERED = "A publisher numbers what it sends, from 1 on, where the service has sequence=1. What is missing between two was lost."
 FOLLOWS = "A publisher does so at each send, a subscriber at `receive` and `has`."
 VERBS = {
     it.name: it
@@ -98,6 +99,7 @@ VERBS = {
         Verb("giveup", (Kind.PUBLISHER,), "ok N", "ends a blocked send", "N counts the mailboxes that took it so far."),
         Verb("receive", (Kind.SUBSCRIBER,), "ok mK V .., none", "the oldest message", AS_RECEIVED),
         Verb("read", (Kind.SAMPLE,), "ok V ..", "reads a sample again"),
+        Verb("sequence", (Kind.SAMPLE,), "ok N, ok none", "its message's number", NUMBERED),
         Verb("release", (Kind.SAMPLE,), "ok", "lets a sample go"),
         Verb("has", (Kind.SUBSCRIBER,), "ok true, ok false", "whether one waits"),
         Verb("update", (Kind.PORT,), "ok", "follows who came, left", FOLLOWS),
@@ -109,6 +111,7 @@ VERBS = {
 PORT_OPTIONS = {"publisher": PUBLISHER_OPTIONS, "subscriber": SUBSCRIBER_OPTIONS}
 MEANINGS = {
     "overflow": "a full mailbox drops its oldest message, and doesn't hold the publisher up",
+    "sequence": "each message has a number, which tells what was missed",
     "publishers": "as many publishers may be there at once",
     "subscribers": "as many subscribers may be there at once",
     "buffer": "as many messages may wait in a mailbox",
@@ -142,7 +145,9 @@ OWN_MEANINGS = {
     ("rr", "buffer"): "as many responses may wait",
     ("rr", "borrowed"): "as many responses may be held",
 }
-STEP_VERBS = ("lock", "giveup", "publish", "register", "leave", "remove")
+STEP_VERBS = ("lock", "giveup", "publish", "publish1", "register", "leave", "remove")
+# Those behind whose node options may stand.
+PUBLISHING = ("publish", "publish1")
 PORT_DEFAULTS = {"loans": "2", "strategy": "retry", "alloc": "static", "handler": "follow", "degrade": "warn"}
 
 

@@ -25,6 +25,8 @@ def said(command: str, reply: str) -> dict:
         return {**found, "values": values_in(words[1:])} if verb == "receive" else found
     if verb == "read":
         return {"kind": kind, "values": values_in(words)}
+    if verb == "sequence":
+        return {"kind": kind, "sequence": None if words == ["none"] else int(words[0])}
     if verb == "has":
         return {"kind": kind, "has": words == ["true"]}
     return {"kind": kind, "took": int(words[0])} if words else {"kind": kind}

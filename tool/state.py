@@ -76,6 +76,7 @@ def publishers(watched: Watched) -> list[dict]:
                 "service": service_name(it.factory),
                 "slots": it.slots,
                 "used": len(it.in_use()),
+                "last_sequence": it.last_sequence,
                 "history": [list(message.values) for message in it.history],
                 "loans": [watched.name(loan) for loan in it.loans if id(loan) in watched.names],
                 "blocked": waits_for,
@@ -137,11 +138,17 @@ def snapshot(watched: Watched) -> dict:
                 "name": name,
                 "subscriber": watched.name(it.connection.subscriber),
                 "publisher": watched.name(it.message.publisher),
+                "sequence": it.message.sequence,
                 "values": list(it.message.values),
             }
             for name, it in watched.living("m")
         ],
     }
+
+
+def message_shown(values: list[int] | None, sequence: int | None, most: int = 8) -> str:
+    """A message's values, and behind them its number, where it has one."""
+    return values_shown(values, most) + (f" #{sequence}" if sequence is not None else "")
 
 
 def values_shown(values: list[int] | None, most: int = 8) -> str:
@@ -168,6 +175,8 @@ def service_told(it: dict) -> list[str]:
 
 def publisher_told(it: dict) -> str:
     parts = [f"{it['name']} of {it['factory']}, {it['service']}: {it['used']} of {it['slots']} slots in use"]
+    if it["last_sequence"] is not None:
+        parts.append(f"last number {it['last_sequence']}")
     if it["history"]:
         parts.append(f"history {' '.join(map(values_shown, it['history']))}")
     if it["loans"]:
@@ -187,5 +196,6 @@ def told(state: dict) -> str:
         lines.append(f"{it['name']} of {it['factory']}, {it['service']}: room for {it['buffer']} in each mailbox")
         lines += [f"  {mailbox_told(box, it['buffer'])}" for box in it["mailboxes"]]
     lines += [f"{it['name']} of {it['publisher']}: {values_shown(it['values'])}" for it in state["loans"]]
-    lines += [f"{it['name']} at {it['subscriber']}, of {it['publisher']}: {values_shown(it['values'])}" for it in state["samples"]]
+    for it in state["samples"]:
+        lines.append(f"{it['name']} at {it['subscriber']}, of {it['publisher']}: {message_shown(it['values'], it['sequence'])}")
     return "\n".join(lines)

@@ -44,6 +44,9 @@ class Delivery:
     released: int | None = None
     lost: int | None = None
     sample: str = ""
+    # Its number, where messages have any, and how many messages are missing between it and the one that was received before it.
+    sequence: int | None = None
+    missing: int = 0
 
 
 @dataclass
@@ -53,6 +56,7 @@ class Untaken:
     values: list[int]
     sent: int
     publisher: str
+    sequence: int | None = None
 
 
 @dataclass
@@ -72,6 +76,8 @@ class Trace:
         self.watched, self.told = Watched(), Conversation()
         # By the number of the object: each message that was sent with its row, each connection with what waits or is held there.
         self.sent, self.links = {}, {}
+        # By the connection: the number of the message that was received there last.
+        self.last_received = {}
         self.living, self.under_way = {}, {}
 
     def take(self, line: Line, reply: bytes):
@@ -129,7 +135,11 @@ class Trace:
             for each in waiting.keys() - there.keys():
                 there[each] = self.delivery(link, waiting[each], row)
             for each, it in list(there.items()):
+                is_new = it.received is None and each in held
                 self.follow(it, each in waiting, each in held, samples.get(each, ""), row)
+                if is_new and it.sequence is not None:
+                    it.missing = it.sequence - self.last_received.get(key, it.sequence - 1) - 1
+                    self.last_received[key] = it.sequence
                 if it.released is not None or it.lost is not None:
                     del there[each]
         if line.startswith(("put ", "send ", "retry ", "giveup ")) and is_sent and reply != "blocked":
@@ -138,6 +148,7 @@ class Trace:
     def delivery(self, link, message, row: int) -> Delivery:
         origin = self.sent.setdefault(id(message), (row, message))[0]
         made = Delivery(list(message.values), origin, self.watched.name(link.publisher), self.watched.name(link.subscriber), row)
+        made.sequence = message.sequence
         self.told.deliveries.append(made)
         return made
 
@@ -172,7 +183,7 @@ class Trace:
             return
         words = self.told.rows[origin].line.split(" ")
         values = [int(it) for it in words[2:]] if words[0] == "put" else list(self.watched.all["l"][int(words[1][1:]) - 1].message.values)
-        self.told.untaken.append(Untaken(values, origin, self.watched.name(publisher)))
+        self.told.untaken.append(Untaken(values, origin, self.watched.name(publisher), publisher.last_sequence))
 
 
 def write_picture(file: str, text: str):

@@ -17,6 +17,7 @@ command_of (port.Retry publisher nanoseconds) = command.Retry publisher nanoseco
 command_of (port.GiveUp publisher) = command.GiveUp publisher
 command_of (port.Receive subscriber) = command.Receive subscriber
 command_of (port.Read sample) = command.Read sample
+command_of (port.Sequence sample) = command.Sequence sample
 command_of (port.Release sample) = command.Release sample
 command_of (port.Update number) = command.Update number
 command_of (port.Leave number) = command.Leave number

@@ -108,6 +108,10 @@ pub enum Command<'a, T> {
     Read {
         sample: u64,
     },
+    /// Asks for the number of a sample's message.
+    Sequence {
+        sample: u64,
+    },
     /// Ends the hold of a sample.
     Release {
         sample: u64,

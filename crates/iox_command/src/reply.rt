@@ -28,6 +28,8 @@ pub enum Reply<T> {
     NothingWaits,
     /// The values of a sample.
     Values(Vec<T>),
+    /// The number of a sample's message, where its service numbers them.
+    Sequence(Option<u64>),
     /// Whether there are messages.
     Has(bool),
     /// The command names what isn't there, and changes nothing.

@@ -34,6 +34,8 @@ pub struct PublishSubscribeOptions {
     pub history_size: Option<u64>,
     /// Whether a full buffer drops its oldest message.
     pub enable_safe_overflow: Option<bool>,
+    /// Whether messages have numbers.
+    pub sequence_numbers: Option<bool>,
 }
 
 /// What is named of an event service. What isn't named has its default.

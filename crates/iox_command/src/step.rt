@@ -12,6 +12,8 @@ pub enum ForeignStep {
     GiveUp(u64),
     /// Where the node has the lock, it publishes a service with these settings, adjusted, and is in.
     Publish(u64, ServiceOptions),
+    /// The same in the first version of descriptions, which has no switch for numbers of messages: it doesn't fit where that is on.
+    PublishV1(u64, ServiceOptions),
     /// Where a service stands, the node comes in.
     Register(u64),
     /// Where the node is in, it leaves.

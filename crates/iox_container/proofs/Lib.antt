@@ -6,6 +6,7 @@ pub mod Chains
 pub mod Keys
 pub mod Made
 pub mod Padding
+pub mod PairLaws
 pub mod Pairs
 pub mod Tables
 pub mod Contents

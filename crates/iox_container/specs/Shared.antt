@@ -10,3 +10,7 @@ pub record SharedSetState : Type 0 where
 -- what is kept of a set that is shared
 abbrev pub shared_form : UniqueSetState → SharedSetState
 shared_form set = record { capacity = set.capacity; locked = set.locked }
+
+-- an index that is held
+pub record HeldIndex : Type 0 where
+  pub index : ℕ

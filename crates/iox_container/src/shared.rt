@@ -95,6 +95,7 @@ impl SharedIndexSet {
     pub fn acquire(&self) -> Result<UniqueIndex<'_>, UniqueIndexSetAcquireFailure>
         ensures locked { self.now.locked ≡ true → IsErrOf result IsLocked }
         ensures out { self.now.locked ≡ false → IfErr result (λ failure. failure ≡ OutOfIndices) }
+        ensures below { IfOk result (λ guard. guard.index < self.now.capacity) }
     {
         if self.locked {
             return Err(UniqueIndexSetAcquireFailure::IsLocked);
@@ -177,9 +178,19 @@ pub struct UniqueIndex<'a> {
     index: u32,
 }
 
+impl<'a> Model for UniqueIndex<'a> {
+    ghost use Rattle.iox_container.specs.Shared.{HeldIndex};
+
+    ghost Value = { HeldIndex };
+
+    ghost view = { λ g. record { index = g.index } };
+}
+
 impl UniqueIndex<'_> {
     /// The index.
-    pub fn value(&self) -> u32 {
+    pub fn value(&self) -> u32
+        ensures { result ≡ self.now.index }
+    {
         self.index
     }
 }

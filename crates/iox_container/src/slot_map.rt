@@ -150,6 +150,7 @@ impl<T> SlotMap<T> {
         ensures key { result ≡ slice_get self.old.free 0 }
         ensures some { IfSome result (λ key. self.new ≡ stored self.old key value) }
         ensures within { IfSome result (λ key. key < length self.old.values) }
+        ensures free { IfSome result (λ key. value_at self.old.values key ≡ None) }
         ensures rest { self.new.free ≡ drop 1 self.old.free }
         ensures none { IfNone result (self.new ≡ self.old) }
     {

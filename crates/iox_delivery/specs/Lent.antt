@@ -1,5 +1,5 @@
 -- What a loan comes to that was just made.
-use Rattle.std.specs.Prelude.{ℕ, ◌≡◌, true, false, List, map, Option, Some, Ok}
+use Rattle.std.specs.Prelude.{ℕ, ◌≡◌, true, false, List, map, Option, None, Some, Ok}
 use Rattle.iox_domain.specs.DomainPorts.Messages.{new_loan}
 use Rattle.iox_domain.specs.DomainPorts.declared.publisher_port.PublisherPort.{PublisherPort}
 use Rattle.iox_domain.specs.Lending.{loan_in, loan_header_in, passes}
@@ -10,13 +10,13 @@ use Rattle.iox_domain.specs.Steps.{LoansBy}
 use Rattle.iox_delivery.specs.Holding.{loan_found, publisher_blocked}
 
 -- A loan is found in its slot that was just made: none of its values is written, and it has the user header that its publisher gives new
--- loans. Its header names that publisher, which still stands, and no send of it waits.
+-- loans. Its header names that publisher and no sequence number; the publisher still stands, and no send of it waits.
 abbrev pub IsFresh : {T U : Type 0} → ℕ → ℕ → ℕ → ℕ → ServicePorts T U → ServicePorts T U → Type 0
 IsFresh {T} {U} number values elements slot old new =
     (port : PublisherPort T U) × (port_of number old.publishers ≡ Some port)
     × (loan_in number slot new ≡ Some (new_loan slot values elements port.sender.user_header))
     × (loan_header_in number slot new ≡ Some
-    (record { node_id = port.owner.node_id; publisher_id = port.number; number_of_elements = elements }))
+    (record { node_id = port.owner.node_id; publisher_id = port.number; number_of_elements = elements; sequence = None }))
     × (passes number (λ port. port.stands) new ≡ true) × (passes number is_blocked new ≡ false)
 
 -- A loan that was just made is such a one.

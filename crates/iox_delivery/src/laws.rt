@@ -11,7 +11,7 @@ use crate::kind::{Kind, Single, Slice};
 use crate::loan::{LoanState, Uninit, Written};
 
 /// A loan that was just made is found in its slot: none of its values is written, it has the user header that its publisher gives
-/// new loans, and its header names that publisher, which still stands, and of which no send waits.
+/// new loans, and its header names that publisher and no sequence number. The publisher still stands, and no send of it waits.
 pub fn loan_is_fresh<T, U>()
     ensures { LoanIsFresh T U }
 {}

@@ -70,7 +70,7 @@ where
     }
 }
 
-/// What the header of the loan in a slot tells: who is to send it, and how many elements it has.
+/// What the header of the loan in a slot tells: who is to send it, and how many elements it has. A loan has no number.
 ///
 /// Ported from `iceoryx2::sample_mut_uninit::SampleMutUninit::header`.
 /// Example: `let header = lending::header(port, slot, home);`

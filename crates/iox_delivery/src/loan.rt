@@ -78,7 +78,7 @@ impl<T: Copy, U: Copy, K, S: LoanState<T, U, K> + Copy> Loan<T, U, K, S> {
         S::is_held_in(self.port, self.slot, home)
     }
 
-    /// What its header tells: who is to send it, and how many elements it has.
+    /// What its header tells: who is to send it, and how many elements it has. It has no number: its send gives it one.
     ///
     /// Ported from `iceoryx2::sample_mut_uninit::SampleMutUninit::header` and `iceoryx2::sample_mut::SampleMut::header`.
     /// Example: `let header = loan.header(home);`

@@ -46,7 +46,7 @@ impl<T: Copy, U: Copy, K: Kind<T, U>> Sample<T, U, K> {
         subscribing::user_header(self.port, self.taken, home)
     }
 
-    /// What its header tells: who sent it, and how many elements it has.
+    /// What its header tells: who sent it, how many elements it has, and its number, where the service numbers messages.
     ///
     /// Ported from `iceoryx2::sample::Sample::header`.
     /// Example: `let header = sample.header(home);`

@@ -162,7 +162,8 @@ where
     }
 }
 
-/// What the header of a message that is held tells: who sent it, and how many elements it has.
+/// What the header of a message that is held tells: who sent it, how many elements it has, and its number, where the service numbers
+/// messages.
 ///
 /// Ported from `iceoryx2::sample::Sample::header`.
 /// Example: `let header = subscribing::header(port, taken, home);`

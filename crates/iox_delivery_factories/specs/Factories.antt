@@ -91,8 +91,14 @@ subscriber_cloned builder = record builder { handler = Fixed Warn }
 
 -- what a publisher of single values is made with
 abbrev pub single_config : PortOwner → PublisherSettings → PublisherConfig
-single_config owner settings = record
-    { owner = owner; max_loaned_samples = settings.max_loaned_samples; values = 1; unit = 1; allocation = Static }
+single_config owner settings = record {
+  owner = owner;
+  max_loaned_samples = settings.max_loaned_samples;
+  values = 1;
+  unit = 1;
+  allocation = Static;
+  first_sequence = settings.first_sequence;
+}
 
 -- what a publisher of slices of elements of so many values is made with
 abbrev pub slice_config : PortOwner → ℕ → PublisherSettings → PublisherConfig
@@ -104,6 +110,7 @@ slice_config owner unit settings =
       unit
           = unit;
       allocation = settings.allocation;
+      first_sequence = settings.first_sequence;
     }
 
 -- what a subscriber is made with

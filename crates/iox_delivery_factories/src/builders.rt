@@ -15,9 +15,9 @@ use iox_domain_values::{
 use std::marker::PhantomData;
 
 /// What makes publishers of a domain, for a node and an owner: two loans, sends that wait for room, slices of one value, a room
-/// that doesn't grow, as many slots as are needed in the worst case, nobody asked at a full mailbox, and a warning where a
-/// connection fails. An element has as many values as its agreed size has of theirs: more than one only where they are the bytes
-/// of a payload that the description tells.
+/// that doesn't grow, numbers from 1 on, as many slots as are needed in the worst case, nobody asked at a full mailbox, and a
+/// warning where a connection fails. An element has as many values as its agreed size has of theirs: more than one only where they
+/// are the bytes of a payload that the description tells.
 ///
 /// Ported from `iceoryx2::service::port_factory::publish_subscribe::PortFactory::publisher_builder`.
 /// Example: `let builder = publisher_builder(&domain, 5, 9);`

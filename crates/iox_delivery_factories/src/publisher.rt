@@ -122,6 +122,17 @@ impl<T, U> PortFactoryPublisher<T, U, Handlers, PreallocatedSamplesOverride> {
         self
     }
 
+    /// Names the number of its first message, where the service numbers them; 0 stands for 1.
+    ///
+    /// This port's own: an iceoryx2 message has no number.
+    /// Example: `builder.first_sequence(7)`
+    pub fn first_sequence(mut self, value: u64) -> Self
+        ensures { result ≡ record self { settings = record self.settings { first_sequence = value } } }
+    {
+        self.settings.first_sequence = value;
+        self
+    }
+
     /// The same settings, for publishers that this one decides for in the place of handlers: so those of a hub of `Nobody`, too.
     ///
     /// This port's own.
@@ -220,6 +231,7 @@ impl<T: Copy, U: Copy + Default, B: Decides + Degrades, O: Overrides> PortFactor
             values: 1,
             unit: 1,
             allocation: AllocationStrategy::Static,
+            first_sequence: settings.first_sequence,
         };
         let number = self.make(alloc, home, config)?;
         Ok(Publisher::of_port(PortId { domain, number }, settings.strategy, 1))
@@ -255,6 +267,7 @@ impl<T: Copy, U: Copy + Default, B: Decides + Degrades, O: Overrides> PortFactor
             values: room_of(self.unit, settings.initial_max_slice_len),
             unit: self.unit,
             allocation: settings.allocation,
+            first_sequence: settings.first_sequence,
         };
         let number = self.make(alloc, home, config)?;
         Ok(slice::Publisher::of_port(

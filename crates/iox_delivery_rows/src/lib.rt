@@ -7,6 +7,7 @@
 //! - `conversations`: messages of single values go from node to node.
 //! - `slices`: messages of slices do.
 //! - `custom`: ports of a payload that only the description says.
+//! - `sequences`: sends number their messages, where the service does.
 //! - `texts`: how errors display.
 //! - `values`: the text form, and the objects that a caller hands in.
 #![tactic(auto)]
@@ -15,6 +16,8 @@
 mod conversations;
 #[cfg(test)]
 mod custom;
+#[cfg(test)]
+mod sequences;
 #[cfg(test)]
 mod services;
 #[cfg(test)]

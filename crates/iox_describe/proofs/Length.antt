@@ -12,6 +12,8 @@ use Rattle.iox_describe_verdict.specs.DescribeBase.declared.type_detail.TypeVari
 use Rattle.iox_describe_verdict.specs.DescribeBase.Attributes.{IsAttribute}
 use Rattle.iox_describe_verdict.specs.DescribeBase.Detail.{Detail}
 use Rattle.iox_describe_verdict.specs.DescribeSettings.Agreement.{Agreement, pattern_of}
+use Rattle.iox_describe_verdict.specs.DescribeSettings.declared.description.Version.{Version}
+use Rattle.iox_describe_verdict.specs.DescribeSettings.declared.description.Version.TheVariants.{One, Two}
 use Rattle.iox_describe_verdict.specs.DescribeSettings.declared.static_config.Settings.{Settings}
 use Rattle.iox_describe_verdict.specs.DescribeSettings.declared.static_config.Settings.TheVariants.{RequestResponse, PublishSubscribe}
 use Rattle.iox_describe_verdict.specs.DescribeSettings.declared.static_config.Settings.TheVariants.{Event}
@@ -39,11 +41,12 @@ option : (o : Option ℕ) → bound (option_tree o) ≤ 20
 option None = omega arith
 option (Some n) = omega arith
 
-settings : (s : Settings) → AreSettings s → bound (settings_tree s) ≤ 13200
-settings (RequestResponse c) h = omega
+settings : (version : Version) (s : Settings) → AreSettings s → bound (settings_tree version s) ≤ 13200
+settings version (RequestResponse c) h = omega
     (arith, types c.request_types h.1.1.1.1.1.1.1.1.1.1.0, types c.response_types h.1.1.1.1.1.1.1.1.1.1.1.0)
-settings (PublishSubscribe c) h = omega (arith, types c.types h.1.1.1.1.1.1.1.0)
-settings (Event c) h = omega
+settings One (PublishSubscribe c) h = omega (arith, types c.types h.1.1.1.1.1.1.1.1.0)
+settings Two (PublishSubscribe c) h = omega (arith, types c.types h.1.1.1.1.1.1.1.1.0)
+settings version (Event c) h = omega
     (arith, option c.deadline, option c.notifier_created_event, option c.notifier_dead_event, option c.notifier_dropped_event)
 
 attributes : (pairs : List Attribute) → All IsAttribute pairs → items_bound (items_of (map attribute_tree pairs)) ≤ 1 + 2000 * length pairs
@@ -52,8 +55,8 @@ attributes (a ∷ more) h =
     let here = h 0 a (omega arith) in
     omega (arith, here.0.1, here.1.1, attributes more (λ k d lt. h (suc k) d (omega arith)))
 
-whole : (a : Agreement) → IsWithinLimits a → bound (tree a) ≤ 32768
-whole a h =
+whole : (version : Version) (a : Agreement) → IsWithinLimits a → bound (tree version a) ≤ 32768
+whole version a h =
     omega (
       arith,
       attributes a.attributes h.attributes.1,
@@ -62,9 +65,9 @@ whole a h =
       pattern a.settings,
       length-encode_with lower_digits a.service_hash.digest,
       h.service_hash.whole,
-      settings a.settings h.settings,
+      settings version a.settings h.settings,
     )
 
-pub line_length : (a : Agreement) → IsWithinLimits a → length (line a) ≤ 32768
+pub line_length : (version : Version) (a : Agreement) → IsWithinLimits a → length (line version a) ≤ 32768
 unfolding line
-line_length a h = omega (arith, text_bound 4 (tree a) (plain a h), whole a h)
+line_length version a h = omega (arith, text_bound 4 (tree version a) (plain version a h), whole version a h)

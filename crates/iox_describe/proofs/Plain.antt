@@ -1,5 +1,5 @@
 -- The JSON of a description within the limits is read back from its text.
-use Rattle.std.proofs.Common.{◌≡◌, ◌&&◌, ◌||◌, ℕ, zero, suc, List, [], ◌∷◌, map, Bool, true, false, Option, Some, None, refl, arith, lit<}
+use Rattle.std.proofs.Common.{◌≡◌, ◌<◌, ◌^◌, ◌&&◌, ◌||◌, ℕ, zero, suc, List, [], ◌∷◌, map, Bool, true, false, Option, Some, None, refl, arith, lit<}
 use Rattle.std.specs.Prelude.{All}
 use Rattle.std.specs.Cmp.{first_so, second_so}
 use Rattle.std.specs.Str.{IsAscii, IsUtf8}
@@ -23,7 +23,11 @@ use Rattle.iox_describe_verdict.specs.DescribeBase.Detail.{Detail}
 use Rattle.iox_describe_verdict.specs.DescribeSettings.Agreement.{Agreement, pattern_of}
 use Rattle.iox_describe_verdict.specs.DescribeSettings.declared.setting.SettingValue.{SettingValue}
 use Rattle.iox_describe_verdict.specs.DescribeSettings.declared.setting.SettingValue.TheVariants.{Switch, Number, OptionalNumber, Types}
+use Rattle.iox_describe_verdict.specs.DescribeSettings.declared.description.Version.{Version}
+use Rattle.iox_describe_verdict.specs.DescribeSettings.declared.description.Version.TheVariants.{One, Two}
 use Rattle.iox_describe_verdict.specs.DescribeSettings.declared.static_config.Settings.{Settings}
+use Rattle.iox_describe_verdict.specs.DescribeSettings.declared.static_config.publish_subscribe.StaticConfig.{StaticConfig}
+use Rattle.iox_describe_verdict.specs.DescribeSettings.Versions.{number_of}
 use Rattle.iox_describe_verdict.specs.DescribeSettings.declared.static_config.Settings.TheVariants.{RequestResponse, PublishSubscribe}
 use Rattle.iox_describe_verdict.specs.DescribeSettings.declared.static_config.Settings.TheVariants.{Event}
 use Rattle.iox_describe_verdict.specs.DescribeSettings.RequestResponseSettings as request_response
@@ -118,10 +122,18 @@ members key value (s ∷ more) c e h = (
   members key value more c (second_so (are_ascii (key s)) (keys_ascii key more) e) h.1,
 )
 
-settings : (s : Settings) → AreSettings s → IsPlain 3 (settings_tree s)
-settings (RequestResponse c) h = (refl, members request_response.key request_response.value request_response.all c refl h)
-settings (PublishSubscribe c) h = (refl, members publish_subscribe.key publish_subscribe.value publish_subscribe.all c refl h)
-settings (Event c) h = (refl, members event.key event.value event.all c refl h)
+-- the values of a line of the version are among all
+pub values-written : (version : Version) (c : StaticConfig) → AreValues publish_subscribe.value c publish_subscribe.all
+    → AreValues publish_subscribe.value c (publish_subscribe.written version)
+values-written One c h = (h.0, (h.1.0, (h.1.1.0, (h.1.1.1.0, (h.1.1.1.1.0, h.1.1.1.1.1.1)))))
+values-written Two c h = h
+
+settings : (version : Version) (s : Settings) → AreSettings s → IsPlain 3 (settings_tree version s)
+settings version (RequestResponse c) h = (refl, members request_response.key request_response.value request_response.all c refl h)
+settings One (PublishSubscribe c) h
+    = (refl, members publish_subscribe.key publish_subscribe.value (publish_subscribe.written One) c refl (values-written One c h))
+settings Two (PublishSubscribe c) h = (refl, members publish_subscribe.key publish_subscribe.value publish_subscribe.all c refl h)
+settings version (Event c) h = (refl, members event.key event.value event.all c refl h)
 
 attributes : (pairs : List Attribute) → All IsAttribute pairs → AreItems 2 (items_of (map attribute_tree pairs))
 attributes [] h = tt
@@ -129,8 +141,12 @@ attributes (a ∷ more) h =
     let here = h 0 a (omega arith) in
     ((text a.key here.0.2, (text a.value here.1.2, tt)), attributes more (λ k d lt. h (suc k) d (omega arith)))
 
-pub plain : (a : Agreement) → IsWithinLimits a → IsPlain 4 (tree a)
-plain a h = (
+number : (version : Version) → number_of version < 2 ^ 64
+number One = lit< tt
+number Two = lit< tt
+
+pub plain : (version : Version) (a : Agreement) → IsWithinLimits a → IsPlain 4 (tree version a)
+plain version a h = (
   refl,
   (
     IsUtf8-are_ascii _ refl,
@@ -146,8 +162,8 @@ plain a h = (
           digits a.service_hash.digest,
           (
             IsUtf8-are_ascii _ refl,
-            settings a.settings h.settings,
-            (IsUtf8-are_ascii _ refl, lit< tt, tt),
+            settings version a.settings h.settings,
+            (IsUtf8-are_ascii _ refl, number version, tt),
           ),
         ),
       ),
@@ -156,13 +172,13 @@ plain a h = (
 )
 
 -- a line is text, and reads as the JSON of its description
-pub line-utf8 : (a : Agreement) → IsWithinLimits a → IsUtf8 (line a)
+pub line-utf8 : (version : Version) (a : Agreement) → IsWithinLimits a → IsUtf8 (line version a)
 unfolding line
-line-utf8 a h = plain-utf8 4 (tree a) (plain a h)
+line-utf8 version a h = plain-utf8 4 (tree version a) (plain version a h)
 
-pub line-read : (a : Agreement) → IsWithinLimits a → read (line a) ≡ Some (tree a)
+pub line-read : (version : Version) (a : Agreement) → IsWithinLimits a → read (line version a) ≡ Some (tree version a)
 unfolding line
-line-read a h = plain-read 4 (tree a) (omega arith) (plain a h)
+line-read version a h = plain-read 4 (tree version a) (omega arith) (plain version a h)
 
 -- ---- no description has a float
 
@@ -174,12 +190,13 @@ attributes-float : (pairs : List Attribute) → items_have_float (items_of (map 
 attributes-float [] = refl
 attributes-float (a ∷ more) = attributes-float more
 
-settings-float : (s : Settings) → has_float (settings_tree s) ≡ false
-settings-float (RequestResponse c) = refl
-settings-float (PublishSubscribe c) = refl
-settings-float (Event c) =
+settings-float : (version : Version) (s : Settings) → has_float (settings_tree version s) ≡ false
+settings-float version (RequestResponse c) = refl
+settings-float One (PublishSubscribe c) = refl
+settings-float Two (PublishSubscribe c) = refl
+settings-float version (Event c) =
     λ i. option-float c.deadline i || (option-float c.notifier_created_event i
     || (option-float c.notifier_dead_event i || (option-float c.notifier_dropped_event i || false)))
 
-pub tree-float : (a : Agreement) → has_float (tree a) ≡ false
-tree-float a = λ i. attributes-float a.attributes i || (settings-float a.settings i || false)
+pub tree-float : (version : Version) (a : Agreement) → has_float (tree version a) ≡ false
+tree-float version a = λ i. attributes-float a.attributes i || (settings-float version a.settings i || false)

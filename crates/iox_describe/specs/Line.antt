@@ -1,5 +1,5 @@
 -- How a description is spelled: the compact text of a JSON object, whose keys stand in rising order.
-use Rattle.std.specs.Prelude.{ℕ, List, [], ◌∷◌, map, Option, Some, None, codes}
+use Rattle.std.specs.Prelude.{◌≡◌, ℕ, List, [], ◌∷◌, map, Option, Some, None, codes}
 use Rattle.serde_json.specs.Data.{unsigned, Data, null, boolean, number, string, array, object, no_items, item, Members, no_members, member}
 use Rattle.serde_json.specs.View.{items_of}
 use Rattle.serde_json.specs.Written.{compact_text}
@@ -7,6 +7,8 @@ use Rattle.iox_describe_verdict.specs.DescribeBase.declared.attribute.Attribute.
 use Rattle.iox_describe_verdict.specs.DescribeBase.declared.message_type.MessageTypeDetails.{MessageTypeDetails}
 use Rattle.iox_describe_verdict.specs.DescribeBase.declared.pattern.MessagingPattern.{MessagingPattern}
 use Rattle.iox_describe_verdict.specs.DescribeBase.declared.pattern.MessagingPattern.TheVariants as pattern
+use Rattle.iox_describe_verdict.specs.DescribeSettings.declared.description.Version.{Version}
+use Rattle.iox_describe_verdict.specs.DescribeSettings.Versions.{number_of, HasAll}
 use Rattle.iox_describe_verdict.specs.DescribeSettings.declared.static_config.Settings.{Settings}
 use Rattle.iox_describe_verdict.specs.DescribeSettings.declared.static_config.Settings.TheVariants.{RequestResponse, PublishSubscribe}
 use Rattle.iox_describe_verdict.specs.DescribeSettings.declared.static_config.Settings.TheVariants.{Event}
@@ -67,11 +69,12 @@ settings_members key value [] config = no_members
 settings_members key value (setting ∷ more) config
     = member (key setting) (value_tree (value setting config)) (settings_members key value more config)
 
--- the settings of any pattern
-abbrev pub settings_tree : Settings → Data
-settings_tree (RequestResponse c) = object (settings_members request_response.key request_response.value request_response.all c)
-settings_tree (PublishSubscribe c) = object (settings_members publish_subscribe.key publish_subscribe.value publish_subscribe.all c)
-settings_tree (Event c) = object (settings_members event.key event.value event.all c)
+-- the settings of any pattern, as a line of the version has them
+abbrev pub settings_tree : Version → Settings → Data
+settings_tree version (RequestResponse c) = object (settings_members request_response.key request_response.value request_response.all c)
+settings_tree version (PublishSubscribe c)
+    = object (settings_members publish_subscribe.key publish_subscribe.value (publish_subscribe.written version) c)
+settings_tree version (Event c) = object (settings_members event.key event.value event.all c)
 
 -- the word of a pattern
 abbrev pub pattern_word : MessagingPattern → List ℕ
@@ -87,18 +90,22 @@ attribute_tree a = array (item (string a.key) (item (string a.value) no_items))
 abbrev pub attributes_tree : List Attribute → Data
 attributes_tree attributes = array (items_of (map attribute_tree attributes))
 
--- an agreement as JSON
-abbrev pub tree : Agreement → Data
-tree a =
+-- an agreement as JSON of the version
+abbrev pub tree : Version → Agreement → Data
+tree version a =
     object
     (member (codes "attributes") (attributes_tree a.attributes)
     (member (codes "name") (string a.name)
     (member (codes "pattern") (string (pattern_word (pattern_of a.settings)))
     (member (codes "service_hash") (string (hash_text a.service_hash))
-    (member (codes "settings") (settings_tree a.settings)
-    (member (codes "version") (natural 1)
+    (member (codes "settings") (settings_tree version a.settings)
+    (member (codes "version") (natural (number_of version))
     no_members))))))
 
--- the one line that spells an agreement
-unfoldable pub line : Agreement → List ℕ
-line a = compact_text (tree a)
+-- the one line of a version that spells an agreement
+unfoldable pub line : Version → Agreement → List ℕ
+line version a = compact_text (tree version a)
+
+-- bytes that spell an agreement: its line of a version that has all of it
+abbrev pub Spells : List ℕ → Agreement → Type 0
+Spells bytes a = (version : Version) × HasAll version a.settings × (bytes ≡ line version a)

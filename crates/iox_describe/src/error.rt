@@ -12,6 +12,9 @@ pub enum DescriptionError {
     /// The bytes are not the one spelling of any description within the limits.
     #[error("DescriptionError::Invalid")]
     Invalid,
+    /// The messages have sequence numbers, which no line of version 1 can say.
+    #[error("DescriptionError::NotInVersion1")]
+    NotInVersion1,
     /// There was no memory.
     #[error("DescriptionError::OutOfMemory")]
     OutOfMemory,

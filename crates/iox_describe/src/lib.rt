@@ -36,9 +36,9 @@ pub use iox_describe_base::{
     TypeVariant, ZeroCopySend, service_hash,
 };
 pub use iox_describe_settings::{
-    Description, NumberRule, PatternSetting, Rule, SettingValue, Settings, event,
+    Description, NumberRule, PatternSetting, Rule, SettingValue, Settings, Version, event,
     publish_subscribe, request_response,
 };
 pub use iox_describe_verdict::{pattern, requirement};
 pub use reader::{decode, has_form, is_within_limits};
-pub use writer::encode;
+pub use writer::{encode, encode_as, encode_v1, has_all};

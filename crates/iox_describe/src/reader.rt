@@ -8,13 +8,17 @@ ghost use Rattle.iox_describe_verdict.specs.DescribeBase.declared.hash.ServiceHa
 ghost use Rattle.iox_describe_verdict.specs.DescribeBase.declared.message_type.MessageTypeDetails.{MessageTypeDetails};
 ghost use Rattle.iox_describe_verdict.specs.DescribeBase.Detail.{Detail};
 ghost use Rattle.iox_describe_verdict.specs.DescribeSettings.declared.setting.SettingValue.{SettingValue};
+ghost use Rattle.iox_describe_verdict.specs.DescribeSettings.declared.description.Version.{Version};
 ghost use Rattle.iox_describe_verdict.specs.DescribeSettings.declared.static_config.Settings.{Settings};
+ghost use Rattle.iox_describe_verdict.specs.DescribeSettings.declared.static_config.Settings.TheVariants.{PublishSubscribe};
+ghost use Rattle.iox_describe_verdict.specs.DescribeSettings.declared.static_config.publish_subscribe.StaticConfig.{StaticConfig};
 ghost use Rattle.iox_describe_verdict.specs.DescribeSettings.Agreement.{Agreement, pattern_of};
-ghost use Rattle.iox_describe_verdict.specs.DescribeSettings.Setting.{IsOfKind};
+ghost use Rattle.iox_describe_verdict.specs.DescribeSettings.Setting.{filled, IsOfKind};
 ghost use Rattle.iox_describe_verdict.specs.DescribeBase.Attributes.{AreAttributes, IsAttribute};
 ghost use Rattle.iox_describe_verdict.specs.DescribeBase.Hash.{hash_text};
-ghost use Rattle.iox_describe.specs.declared.error.DescriptionError.TheVariants.{Invalid, OutOfMemory};
-ghost use Rattle.iox_describe.specs.Line.{attribute_tree, attributes_tree, detail_tree, line, pattern_word, settings_tree, tree};
+ghost use Rattle.iox_describe.specs.declared.error.DescriptionError.TheVariants.{Invalid, NotInVersion1, OutOfMemory};
+ghost use Rattle.iox_describe.specs.Line.{attribute_tree, attributes_tree, detail_tree, line, pattern_word, settings_tree, tree, Spells};
+ghost use Rattle.iox_describe_verdict.specs.DescribeSettings.Versions.{HasAll};
 ghost use Rattle.iox_describe.specs.Line.{types_tree, value_tree};
 ghost use Rattle.serde_json.specs.Data.{string};
 ghost use Rattle.iox_describe.specs.Reading.{AreFound};
@@ -22,13 +26,13 @@ ghost use Rattle.iox_describe.specs.Within.{AreSettings, AreTypes, AreValues, Ha
 
 use crate::error::DescriptionError;
 use crate::json_values::{number_at, text_at};
-use crate::writer::encode;
+use crate::writer::{encode_as, has_all};
 use iox_describe_base::{
     AttributeSpecifier, MessageTypeDetails, MessagingPattern, ServiceHash, ServiceName, TypeDetail,
     TypeVariant, ZeroCopySend,
 };
 use iox_describe_settings::{
-    Description, PatternSetting, Rule, SettingValue, Settings, event, publish_subscribe,
+    Description, PatternSetting, Rule, SettingValue, Settings, Version, event, publish_subscribe,
     request_response,
 };
 use serde_json::Value;
@@ -39,26 +43,28 @@ const MAX_LINE_LENGTH: usize = 32_768;
 
 /// The description that the bytes spell.
 ///
-/// It is the one within the limits for which `encode` writes just these bytes. `Invalid` exactly if there
+/// It is the one within the limits for which `encode` or `encode_v1` writes just these bytes. `Invalid` exactly if there
 /// is none, and so wherever there are more than 32,768 bytes. `OutOfMemory` where there was no memory.
 pub fn decode(alloc: Global, bytes: &[u8]) -> Result<Description, DescriptionError>
-    ensures spelled { IfOk result (λ description. bytes.now ≡ line description) }
+    ensures spelled { IfOk result (Spells bytes.now) }
     ensures within { IfOk result (λ description. IsWithinLimits description) }
-    ensures read { (description : Agreement) → IsWithinLimits description → bytes.now ≡ line description
+    ensures read { (description : Agreement) → IsWithinLimits description → Spells bytes.now description
         → (result ≡ Ok description) ⊎ (result ≡ Err OutOfMemory) }
-    ensures invalid { result ≡ Err Invalid → (description : Agreement) → IsWithinLimits description → bytes.now ≡ line description → ⊥ }
+    ensures invalid { result ≡ Err Invalid → (description : Agreement) → IsWithinLimits description → Spells bytes.now description → ⊥ }
     ensures longer { 32_768 < length bytes.now → result ≡ Err Invalid }
+    ensures known { result ≡ Err NotInVersion1 → ⊥ }
 {
     if bytes.len() > MAX_LINE_LENGTH {
         return Err(DescriptionError::Invalid);
     }
     let value = value_of(alloc, bytes)?;
     let attributes = attributes_of(alloc, &value)?;
-    let description = candidate(attributes, &value).ok_or(DescriptionError::Invalid)?;
-    if !is_within_limits(&description) {
+    let version = version_of(&value);
+    let description = candidate(attributes, version, &value).ok_or(DescriptionError::Invalid)?;
+    if !is_within_limits(&description) || !has_all(version, description.settings()) {
         return Err(DescriptionError::Invalid);
     }
-    let line = encode(alloc, &description)?;
+    let line = encode_as(alloc, version, &description)?;
     if line.as_slice() != bytes {
         return Err(DescriptionError::Invalid);
     }
@@ -104,16 +110,28 @@ fn has_20_bytes(hash: ServiceHash)
 
 /// The bytes as JSON, if they are the line of a description.
 fn value_of(alloc: Global, bytes: &[u8]) -> Result<Value, DescriptionError>
-    ensures { (description : Agreement) → IsWithinLimits description → bytes.now ≡ line description
-        → MatchResult result (λ value. view value ≡ tree description) (λ error. error ≡ OutOfMemory) }
+    ensures read { (version : Version) (description : Agreement) → IsWithinLimits description → bytes.now ≡ line version description
+        → MatchResult result (λ value. view value ≡ tree version description) (λ error. error ≡ OutOfMemory) }
+    ensures known { result ≡ Err NotInVersion1 → ⊥ }
 {
     Ok(Value::from_slice(alloc, bytes)?)
 }
 
+/// The version that the JSON states; the second, where it states none.
+fn version_of(value: &Value) -> Version
+    ensures { (version : Version) (description : Agreement) → view value.now ≡ tree version description → result ≡ version }
+{
+    match number_at(value, "version") {
+        Some(1) => Version::One,
+        _ => Version::Two,
+    }
+}
+
 /// The attributes of the one description whose JSON this may be.
 fn attributes_of(alloc: Global, value: &Value) -> Result<AttributeSpecifier, DescriptionError>
-    ensures { (description : Agreement) → IsWithinLimits description → view value.now ≡ tree description
+    ensures read { (version : Version) (description : Agreement) → IsWithinLimits description → view value.now ≡ tree version description
         → MatchResult result (λ attributes. attributes ≡ description.attributes) (λ error. error ≡ OutOfMemory) }
+    ensures known { result ≡ Err NotInVersion1 → ⊥ }
 {
     match value.get("attributes") {
         Some(list) => defined(alloc, list),
@@ -121,16 +139,16 @@ fn attributes_of(alloc: Global, value: &Value) -> Result<AttributeSpecifier, Des
     }
 }
 
-/// The one description of these attributes whose JSON this may be.
-fn candidate(attributes: AttributeSpecifier, value: &Value) -> Option<Description>
-    ensures { (description : Agreement) → IsWithinLimits description → attributes ≡ description.attributes
-        → view value.now ≡ tree description
+/// The one description of these attributes whose JSON of the version this may be.
+fn candidate(attributes: AttributeSpecifier, version: Version, value: &Value) -> Option<Description>
+    ensures { (description : Agreement) → IsWithinLimits description → HasAll version description.settings
+        → attributes ≡ description.attributes → view value.now ≡ tree version description
         → result ≡ Some description }
 {
     let name = ServiceName::new(text_at(value, "name")?.as_bytes()).ok()?;
     let hash = hash_of(text_at(value, "service_hash")?);
     let pattern = pattern_of(text_at(value, "pattern")?);
-    let settings = settings_of(pattern, value.get("settings")?)?;
+    let settings = settings_of(pattern, version, value.get("settings")?)?;
     Some(Description::of_parts(name, hash, settings, attributes))
 }
 
@@ -156,8 +174,9 @@ fn hash_of(digits: &str) -> ServiceHash
 
 /// The attributes of a list, defined in their order.
 fn defined(alloc: Global, value: &Value) -> Result<AttributeSpecifier, DescriptionError>
-    ensures { (pairs : List Attribute) → AreAttributes pairs → view value.now ≡ attributes_tree pairs
+    ensures read { (pairs : List Attribute) → AreAttributes pairs → view value.now ≡ attributes_tree pairs
         → MatchResult result (λ attributes. attributes ≡ pairs) (λ error. error ≡ OutOfMemory) }
+    ensures known { result ≡ Err NotInVersion1 → ⊥ }
 {
     let Some(list) = value.as_array() else {
         return Err(DescriptionError::Invalid);
@@ -175,8 +194,9 @@ fn define(
     attributes: &mut AttributeSpecifier,
     value: &Value,
 ) -> Result<(), DescriptionError>
-    ensures { (pair : Attribute) → IsAttribute pair → length attributes.old < 8 → view value.now ≡ attribute_tree pair
+    ensures read { (pair : Attribute) → IsAttribute pair → length attributes.old < 8 → view value.now ≡ attribute_tree pair
         → MatchResult result (λ _. attributes.new ≡ attributes.old ++ pair ∷ []) (λ error. error ≡ OutOfMemory) }
+    ensures known { result ≡ Err NotInVersion1 → ⊥ }
 {
     let (Some(key), Some(text)) = (text_of(value, 0), text_of(value, 1)) else {
         return Err(DescriptionError::Invalid);
@@ -194,27 +214,37 @@ fn text_of(value: &Value, place: usize) -> Option<&str>
     value.get(place)?.as_str()
 }
 
-/// The settings of a service of the pattern.
-fn settings_of(pattern: MessagingPattern, value: &Value) -> Option<Settings>
-    ensures { (settings : Settings) → AreSettings settings → pattern ≡ pattern_of settings → view value.now ≡ settings_tree settings
+/// The settings of a service of the pattern. What a line of the version can't say is as by default.
+fn settings_of(pattern: MessagingPattern, version: Version, value: &Value) -> Option<Settings>
+    ensures { (settings : Settings) → AreSettings settings → HasAll version settings → pattern ≡ pattern_of settings
+        → view value.now ≡ settings_tree version settings
         → result ≡ Some settings }
 {
     match pattern {
         MessagingPattern::RequestResponse => {
             let config = request_response::StaticConfig::new(some_types(), some_types());
-            let config = filled::<request_response::Setting>(config, value)?;
+            let config = all_filled::<request_response::Setting>(config, value)?;
             Some(Settings::RequestResponse(config))
         }
         MessagingPattern::PublishSubscribe => {
-            let config = publish_subscribe::StaticConfig::new(some_types());
-            let config = filled::<publish_subscribe::Setting>(config, value)?;
+            let config = publish_subscribe_of(version, value)?;
             Some(Settings::PublishSubscribe(config))
         }
         MessagingPattern::Event => {
-            let config = filled::<event::Setting>(event::StaticConfig::new(), value)?;
+            let config = all_filled::<event::Setting>(event::StaticConfig::new(), value)?;
             Some(Settings::Event(config))
         }
     }
+}
+
+/// The settings of a publish-subscribe service. What a line of the version can't say is as by default.
+fn publish_subscribe_of(version: Version, value: &Value) -> Option<publish_subscribe::StaticConfig>
+    ensures { (target : StaticConfig) → AreSettings (PublishSubscribe target) → HasAll version (PublishSubscribe target)
+        → view value.now ≡ settings_tree version (PublishSubscribe target)
+        → result ≡ Some target }
+{
+    let config = publish_subscribe::StaticConfig::new(some_types());
+    filled(publish_subscribe::Setting::written(version), config, value)
 }
 
 /// Types that stand in a place until those of a message are read.
@@ -222,13 +252,21 @@ fn some_types() -> MessageTypeDetails {
     MessageTypeDetails::from::<u8, u8, u8>(TypeVariant::FixedSize)
 }
 
-/// The settings of a service of a pattern, in the place of those that are given.
-fn filled<S: PatternSetting>(config: S::Config, value: &Value) -> Option<S::Config>
+/// All settings of a service of a pattern, in the place of those that are given.
+fn all_filled<S: PatternSetting>(config: S::Config, value: &Value) -> Option<S::Config>
     ensures { (target : S.Config) → AreValues S.value target S.all → AreFound S.key S.value S.all target (view value.now)
         → result ≡ Some target }
 {
+    filled::<S>(S::all(), config, value)
+}
+
+/// These settings of a service of a pattern, in the place of those that are given.
+fn filled<S: PatternSetting>(settings: &[S], config: S::Config, value: &Value) -> Option<S::Config>
+    ensures { (target : S.Config) → AreValues S.value target settings.now → AreFound S.key S.value settings.now target (view value.now)
+        → result ≡ Some (filled S.value S.changed settings.now target config) }
+{
     let mut config = config;
-    for setting in S::all() {
+    for setting in settings {
         set::<S>(*setting, &mut config, value)?;
     }
     Some(config)

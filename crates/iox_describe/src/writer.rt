@@ -1,43 +1,89 @@
 //! A description as its one line.
-ghost use Rattle.std.specs.Prelude.{◌≡◌, map, List, ℕ, IfOk, OnOk};
+ghost use Rattle.std.specs.Prelude.{◌≡◌, ◌↔◌, ◌⊎◌, map, List, ℕ, IfOk, IsTrue, MatchResult, OnOk};
+ghost use Rattle.iox_describe.specs.declared.error.DescriptionError.TheVariants.{NotInVersion1, OutOfMemory};
+ghost use Rattle.iox_describe_verdict.specs.DescribeSettings.Versions.{HasAll};
+ghost use Rattle.iox_describe_verdict.specs.DescribeSettings.declared.description.Version.TheVariants.{One, Two};
 ghost use Rattle.serde_json.specs.Data.{object, no_members, put};
 ghost use Rattle.serde_json.specs.View.{items_view, members_view, view};
 ghost use Rattle.iox_describe.specs.Plain.{put_all};
 ghost use Rattle.iox_describe.specs.Line.{attribute_tree, attributes_tree, detail_tree, line, pattern_word, settings_members};
 ghost use Rattle.iox_describe.specs.Line.{settings_tree, tree, types_tree, value_tree, variant_word};
 
+use crate::error::DescriptionError;
 use iox_container::string::String as _;
 use iox_describe_base::{Attribute, MessageTypeDetails, MessagingPattern, TypeDetail, TypeVariant};
 use iox_describe_settings::{
-    Description, PatternSetting, SettingValue, Settings, event, publish_subscribe, request_response,
+    Description, PatternSetting, SettingValue, Settings, Version, event, publish_subscribe,
+    request_response,
 };
 use serde_json::{Map, Value, json};
 use std::alloc::{AllocError, Global};
 
-/// The one line that spells a description: compact JSON whose keys stand in rising order of their
+/// The line of version 2 that spells a description: compact JSON whose keys stand in rising order of their
 /// bytes. Refused only where an allocation fails.
 pub fn encode(alloc: Global, description: &Description) -> Result<Vec<u8>, AllocError>
-    ensures { IfOk result (λ text. text.items ≡ line description.now) }
+    ensures { IfOk result (λ text. text.items ≡ line Two description.now) }
 {
-    let tree = tree(alloc, description)?;
+    encode_as(alloc, Version::Two, description)
+}
+
+/// The line of version 1 that spells a description, for readers that know no other. `NotInVersion1` exactly if its messages have
+/// sequence numbers, whatever memory there is; `OutOfMemory` where an allocation fails.
+///
+/// This port's own.
+pub fn encode_v1(alloc: Global, description: &Description) -> Result<Vec<u8>, DescriptionError>
+    ensures text { IfOk result (λ text. (text.items ≡ line One description.now) × HasAll One description.now.settings) }
+    ensures refused { MatchResult result (λ text. Unit {0}) (λ error. (error ≡ OutOfMemory) × HasAll One description.now.settings
+        ⊎ ((error ≡ NotInVersion1) × (HasAll One description.now.settings → ⊥))) }
+{
+    if !has_all(Version::One, description.settings()) {
+        return Err(DescriptionError::NotInVersion1);
+    }
+    Ok(encode_as(alloc, Version::One, description)?)
+}
+
+/// Whether a line of the version has all that is agreed.
+///
+/// This port's own.
+pub fn has_all(version: Version, settings: &Settings) -> bool
+    ensures { IsTrue result ↔ HasAll version settings.now }
+{
+    match (version, settings) {
+        (Version::One, Settings::PublishSubscribe(config)) => !config.sequence_numbers,
+        _ => true,
+    }
+}
+
+/// The line of a version that has all that is agreed. Refused only where an allocation fails.
+///
+/// This port's own.
+pub fn encode_as(
+    alloc: Global,
+    version: Version,
+    description: &Description,
+) -> Result<Vec<u8>, AllocError>
+    requires { HasAll version description.now.settings }
+    ensures { IfOk result (λ text. text.items ≡ line version description.now) }
+{
+    let tree = tree(alloc, version, description)?;
     let text = tree.to_vec(alloc)?;
     Ok(text)
 }
 
-/// A description as JSON.
-fn tree(alloc: Global, description: &Description) -> Result<Value, AllocError>
-    ensures { IfOk result (λ value. view value ≡ tree description.now) }
+/// A description as JSON of the version.
+fn tree(alloc: Global, version: Version, description: &Description) -> Result<Value, AllocError>
+    ensures { IfOk result (λ value. view value ≡ tree version description.now) }
 {
     let attributes = attributes(alloc, description.attributes().as_slice())?;
     let hash = hex::encode(alloc, &description.service_hash().digest)?;
-    let settings = settings(alloc, description.settings())?;
+    let settings = settings(alloc, version, description.settings())?;
     json!(in alloc; {
         "attributes": attributes,
         "name": description.name().as_str(),
         "pattern": pattern_word(description.pattern()),
         "service_hash": hash,
         "settings": settings,
-        "version": Description::VERSION
+        "version": version.number()
     })
 }
 
@@ -70,23 +116,35 @@ fn attribute_value(alloc: Global, attribute: &Attribute) -> Result<Value, AllocE
     json!(in alloc; [attribute.key.as_str(), attribute.value.as_str()])
 }
 
-/// The settings of a service as JSON.
-fn settings(alloc: Global, settings: &Settings) -> Result<Value, AllocError>
-    ensures { IfOk result (λ value. view value ≡ settings_tree settings.now) }
+/// The settings of a service as JSON of the version.
+fn settings(alloc: Global, version: Version, settings: &Settings) -> Result<Value, AllocError>
+    ensures { IfOk result (λ value. view value ≡ settings_tree version settings.now) }
 {
     match settings {
-        Settings::RequestResponse(config) => object::<request_response::Setting>(alloc, config),
-        Settings::PublishSubscribe(config) => object::<publish_subscribe::Setting>(alloc, config),
-        Settings::Event(config) => object::<event::Setting>(alloc, config),
+        Settings::RequestResponse(config) => object(
+            alloc,
+            request_response::Setting::all(),
+            config,
+        ),
+        Settings::PublishSubscribe(config) => object(
+            alloc,
+            publish_subscribe::Setting::written(version),
+            config,
+        ),
+        Settings::Event(config) => object(alloc, event::Setting::all(), config),
     }
 }
 
-/// The settings of a service of a pattern as JSON.
-fn object<S: PatternSetting>(alloc: Global, config: &S::Config) -> Result<Value, AllocError>
-    ensures { IfOk result (λ value. view value ≡ object (put_all (settings_members S.key S.value S.all config.now) no_members)) }
+/// These settings of a service of a pattern as JSON.
+fn object<S: PatternSetting>(
+    alloc: Global,
+    settings: &[S],
+    config: &S::Config,
+) -> Result<Value, AllocError>
+    ensures { IfOk result (λ value. view value ≡ object (put_all (settings_members S.key S.value settings.now config.now) no_members)) }
 {
     let mut map = Map::new(alloc);
-    for setting in S::all() {
+    for setting in settings {
         let value = setting_value(alloc, &setting.value(config))?;
         put(&mut map, alloc, setting.key(), value)?;
     }

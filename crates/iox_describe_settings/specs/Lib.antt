@@ -1,4 +1,5 @@
 -- The definitions that contracts about the settings of services cite.
+pub mod Versions
 pub mod Setting
 pub mod PublishSubscribeSettings
 pub mod EventSettings

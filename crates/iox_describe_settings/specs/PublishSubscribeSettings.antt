@@ -1,6 +1,8 @@
 -- The settings of a publish-subscribe service, one by one.
 use Rattle.std.specs.Prelude.{ℕ, ◌<◌, ◌^◌, List, [], ◌∷◌, codes, Some, true, false, ◌≡◌}
 use Rattle.iox_describe_base.specs.declared.message_type.MessageTypeDetails.{MessageTypeDetails}
+use Rattle.iox_describe_settings.specs.declared.description.Version.{Version}
+use Rattle.iox_describe_settings.specs.declared.description.Version.TheVariants.{One, Two}
 use Rattle.iox_describe_settings.specs.declared.setting.Rule.{Rule}
 use Rattle.iox_describe_settings.specs.Setting.{number, switch, types as types_rule, defaulted, AreAllowed, adjusted as adjusted_settings}
 use Rattle.iox_describe_settings.specs.declared.setting.SettingValue.{SettingValue}
@@ -8,7 +10,7 @@ use Rattle.iox_describe_settings.specs.declared.setting.SettingValue.TheVariants
 use Rattle.iox_describe_settings.specs.declared.static_config.publish_subscribe.Setting.{Setting}
 use Rattle.iox_describe_settings.specs.declared.static_config.publish_subscribe.Setting.TheVariants.{EnableSafeOverflow, HistorySize}
 use Rattle.iox_describe_settings.specs.declared.static_config.publish_subscribe.Setting.TheVariants.{MaxNodes, MaxPublishers}
-use Rattle.iox_describe_settings.specs.declared.static_config.publish_subscribe.Setting.TheVariants.{MaxSubscribers}
+use Rattle.iox_describe_settings.specs.declared.static_config.publish_subscribe.Setting.TheVariants.{MaxSubscribers, SequenceNumbers}
 use Rattle.iox_describe_settings.specs.declared.static_config.publish_subscribe.Setting.TheVariants.{SubscriberMaxBorrowedSamples}
 use Rattle.iox_describe_settings.specs.declared.static_config.publish_subscribe.Setting.TheVariants.{SubscriberMaxBufferSize, Types}
 use Rattle.iox_describe_settings.specs.declared.static_config.publish_subscribe.StaticConfig.{StaticConfig}
@@ -21,10 +23,25 @@ all =
     ∷ MaxNodes
     ∷ MaxPublishers
     ∷ MaxSubscribers
+    ∷ SequenceNumbers
     ∷ SubscriberMaxBorrowedSamples
     ∷ SubscriberMaxBufferSize
     ∷ Types
     ∷ []
+
+-- those that a line of a version has: the first version has no sequence numbers
+abbrev pub written : Version → List Setting
+written One =
+    EnableSafeOverflow
+    ∷ HistorySize
+    ∷ MaxNodes
+    ∷ MaxPublishers
+    ∷ MaxSubscribers
+    ∷ SubscriberMaxBorrowedSamples
+    ∷ SubscriberMaxBufferSize
+    ∷ Types
+    ∷ []
+written Two = all
 
 -- the key of each
 abbrev pub key : Setting → List ℕ
@@ -33,6 +50,7 @@ key HistorySize = codes "history_size"
 key MaxNodes = codes "max_nodes"
 key MaxPublishers = codes "max_publishers"
 key MaxSubscribers = codes "max_subscribers"
+key SequenceNumbers = codes "sequence_numbers"
 key SubscriberMaxBorrowedSamples = codes "subscriber_max_borrowed_samples"
 key SubscriberMaxBufferSize = codes "subscriber_max_buffer_size"
 key Types = codes "types"
@@ -44,6 +62,7 @@ value HistorySize c = Number c.history_size
 value MaxNodes c = Number c.max_nodes
 value MaxPublishers c = Number c.max_publishers
 value MaxSubscribers c = Number c.max_subscribers
+value SequenceNumbers c = Switch c.sequence_numbers
 value SubscriberMaxBorrowedSamples c = Number c.subscriber_max_borrowed_samples
 value SubscriberMaxBufferSize c = Number c.subscriber_max_buffer_size
 value Types c = Types c.types
@@ -55,6 +74,7 @@ changed HistorySize (Number number) c = record c { history_size = number }
 changed MaxNodes (Number number) c = record c { max_nodes = number }
 changed MaxPublishers (Number number) c = record c { max_publishers = number }
 changed MaxSubscribers (Number number) c = record c { max_subscribers = number }
+changed SequenceNumbers (Switch switch) c = record c { sequence_numbers = switch }
 changed SubscriberMaxBorrowedSamples (Number number) c = record c { subscriber_max_borrowed_samples = number }
 changed SubscriberMaxBufferSize (Number number) c = record c { subscriber_max_buffer_size = number }
 changed Types (Types types) c = record c { types = types }
@@ -67,6 +87,7 @@ rule HistorySize = number 0 0 (Some (2 ^ 32))
 rule MaxNodes = number 20 1 (Some (2 ^ 24))
 rule MaxPublishers = number 2 1 (Some (2 ^ 24))
 rule MaxSubscribers = number 8 1 (Some (2 ^ 24))
+rule SequenceNumbers = switch false
 rule SubscriberMaxBorrowedSamples = number 2 1 (Some (2 ^ 32))
 rule SubscriberMaxBufferSize = number 2 1 (Some (2 ^ 32))
 rule Types = types_rule
@@ -79,6 +100,7 @@ unset types = record {
   max_nodes = 0;
   max_publishers = 0;
   max_subscribers = 0;
+  sequence_numbers = false;
   subscriber_max_borrowed_samples = 0;
   subscriber_max_buffer_size = 0;
   types = types;

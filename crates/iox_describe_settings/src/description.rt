@@ -9,6 +9,31 @@ use iox_describe_base::pattern::MessagingPattern;
 use std::alloc::{AllocError, Global};
 use std::marker::Model;
 
+/// A version of the one line that spells a description.
+///
+/// This port's own.
+#[derive(Clone, Copy, Debug, PartialEq, Eq)]
+pub enum Version {
+    /// The first, which has no `sequence_numbers`.
+    One,
+    /// The second, which has all settings.
+    Two,
+}
+
+impl Version {
+    ghost use Rattle.iox_describe_settings.specs.Versions.{number_of};
+
+    /// The number under which the line states it.
+    pub fn number(self) -> u64
+        ensures { result ≡ number_of self }
+    {
+        match self {
+            Version::One => 1,
+            Version::Two => 2,
+        }
+    }
+}
+
 /// What the nodes of a service agree on: its name, its hash, its settings and its attributes.
 /// Contracts see it as the record `Agreement` of these four.
 ///
@@ -32,9 +57,6 @@ impl Model for Description {
 impl Description {
     ghost use Rattle.iox_describe_settings.specs.Agreement.{agreement, pattern_of, max_nodes_of, AreWithinLimits};
     ghost use Rattle.iox_describe_base.specs.Hash.{hash_text, service_hash_of, service_hash_text};
-
-    /// The version of the format that descriptions are written in.
-    pub const VERSION: u64 = 1;
 
     /// The description of a service of this name, with the hash that belongs to its pattern and name.
     pub fn new(name: ServiceName, settings: Settings, attributes: AttributeSpecifier) -> Self
@@ -113,13 +135,6 @@ impl Description {
         ensures { result.now ≡ self.now.attributes }
     {
         &self.attributes
-    }
-
-    /// The version of the description's format.
-    pub fn version(&self) -> u64
-        ensures { result ≡ 1 }
-    {
-        Self::VERSION
     }
 
     /// How many nodes may be in the service.

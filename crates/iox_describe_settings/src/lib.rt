@@ -25,6 +25,6 @@ pub mod description;
 pub mod setting;
 pub mod static_config;
 
-pub use description::Description;
+pub use description::{Description, Version};
 pub use setting::{NumberRule, PatternSetting, Rule, SettingValue};
 pub use static_config::{Settings, event, publish_subscribe, request_response};

@@ -4,7 +4,7 @@ use Rattle.std.specs.Prelude.{option_map, unwrap_or}
 use Rattle.iox_describe_settings.specs.declared.setting.SettingValue.TheVariants as value
 use Rattle.iox_describe_settings.specs.declared.static_config.publish_subscribe.Setting.TheVariants.{EnableSafeOverflow, HistorySize}
 use Rattle.iox_describe_settings.specs.declared.static_config.publish_subscribe.Setting.TheVariants.{MaxNodes, MaxPublishers}
-use Rattle.iox_describe_settings.specs.declared.static_config.publish_subscribe.Setting.TheVariants.{MaxSubscribers}
+use Rattle.iox_describe_settings.specs.declared.static_config.publish_subscribe.Setting.TheVariants.{MaxSubscribers, SequenceNumbers}
 use Rattle.iox_describe_settings.specs.declared.static_config.publish_subscribe.Setting.TheVariants.{SubscriberMaxBorrowedSamples}
 use Rattle.iox_describe_settings.specs.declared.static_config.publish_subscribe.Setting.TheVariants.{SubscriberMaxBufferSize}
 use Rattle.iox_describe_settings.specs.declared.static_config.publish_subscribe.StaticConfig.{StaticConfig}
@@ -39,6 +39,12 @@ max_subscribers : (o : Option ℕ) (c : StaticConfig)
 max_subscribers None c = refl
 max_subscribers (Some x) c = refl
 
+sequence_numbers : (o : Option Bool) (c : StaticConfig)
+    → changed_to changed SequenceNumbers (option_map value.Switch o) c
+    ≡ record c { sequence_numbers = unwrap_or o c.sequence_numbers }
+sequence_numbers None c = refl
+sequence_numbers (Some x) c = refl
+
 subscriber_max_borrowed_samples : (o : Option ℕ) (c : StaticConfig)
     → changed_to changed SubscriberMaxBorrowedSamples (option_map value.Number o) c
     ≡ record c { subscriber_max_borrowed_samples = unwrap_or o c.subscriber_max_borrowed_samples }
@@ -68,12 +74,15 @@ abbrev after_5 : Requirement → StaticConfig
 after_5 r = record (after_4 r) { max_subscribers = unwrap_or r.max_subscribers (after_4 r).max_subscribers }
 
 abbrev after_6 : Requirement → StaticConfig
-after_6 r = record (after_5 r)
-    { subscriber_max_borrowed_samples = unwrap_or r.subscriber_max_borrowed_samples (after_5 r).subscriber_max_borrowed_samples }
+after_6 r = record (after_5 r) { sequence_numbers = unwrap_or r.sequence_numbers (after_5 r).sequence_numbers }
 
 abbrev after_7 : Requirement → StaticConfig
 after_7 r = record (after_6 r)
-    { subscriber_max_buffer_size = unwrap_or r.subscriber_max_buffer_size (after_6 r).subscriber_max_buffer_size }
+    { subscriber_max_borrowed_samples = unwrap_or r.subscriber_max_borrowed_samples (after_6 r).subscriber_max_borrowed_samples }
+
+abbrev after_8 : Requirement → StaticConfig
+after_8 r = record (after_7 r)
+    { subscriber_max_buffer_size = unwrap_or r.subscriber_max_buffer_size (after_7 r).subscriber_max_buffer_size }
 
 pub fields : (r : Requirement) → asked r ≡ asked_fields r
 fields r =
@@ -84,8 +93,10 @@ fields r =
     (after_3 r) in
     let p5 = ap (changed_to changed MaxSubscribers (option_map value.Number r.max_subscribers)) p4 ∙ max_subscribers r.max_subscribers
     (after_4 r) in
-    let p6 = ap (changed_to changed SubscriberMaxBorrowedSamples (option_map value.Number r.subscriber_max_borrowed_samples)) p5 ∙
-    subscriber_max_borrowed_samples r.subscriber_max_borrowed_samples (after_5 r) in
-    let p7 = ap (changed_to changed SubscriberMaxBufferSize (option_map value.Number r.subscriber_max_buffer_size)) p6 ∙
-    subscriber_max_buffer_size r.subscriber_max_buffer_size (after_6 r) in
-    ap (λ (c : StaticConfig). record c { types = r.types }) p7
+    let p6 = ap (changed_to changed SequenceNumbers (option_map value.Switch r.sequence_numbers)) p5 ∙
+    sequence_numbers r.sequence_numbers (after_5 r) in
+    let p7 = ap (changed_to changed SubscriberMaxBorrowedSamples (option_map value.Number r.subscriber_max_borrowed_samples)) p6 ∙
+    subscriber_max_borrowed_samples r.subscriber_max_borrowed_samples (after_6 r) in
+    let p8 = ap (changed_to changed SubscriberMaxBufferSize (option_map value.Number r.subscriber_max_buffer_size)) p7 ∙
+    subscriber_max_buffer_size r.subscriber_max_buffer_size (after_7 r) in
+    ap (λ (c : StaticConfig). record c { types = r.types }) p8

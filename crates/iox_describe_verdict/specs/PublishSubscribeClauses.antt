@@ -7,7 +7,7 @@ use Rattle.iox_describe_verdict.specs.declared.requirement.publish_subscribe.Cla
 use Rattle.iox_describe_settings.specs.declared.static_config.publish_subscribe.Setting.{Setting}
 use Rattle.iox_describe_settings.specs.declared.static_config.publish_subscribe.Setting.TheVariants.{EnableSafeOverflow, HistorySize}
 use Rattle.iox_describe_settings.specs.declared.static_config.publish_subscribe.Setting.TheVariants.{MaxNodes, MaxPublishers}
-use Rattle.iox_describe_settings.specs.declared.static_config.publish_subscribe.Setting.TheVariants.{MaxSubscribers}
+use Rattle.iox_describe_settings.specs.declared.static_config.publish_subscribe.Setting.TheVariants.{MaxSubscribers, SequenceNumbers}
 use Rattle.iox_describe_settings.specs.declared.static_config.publish_subscribe.Setting.TheVariants.{SubscriberMaxBorrowedSamples}
 use Rattle.iox_describe_settings.specs.declared.static_config.publish_subscribe.Setting.TheVariants.{SubscriberMaxBufferSize, Types}
 use Rattle.iox_describe_settings.specs.declared.static_config.publish_subscribe.StaticConfig.{StaticConfig}
@@ -27,6 +27,7 @@ unnamed types attributes = record {
   types = types;
   attributes = attributes;
   enable_safe_overflow = None;
+  sequence_numbers = None;
   max_publishers = None;
   max_subscribers = None;
   subscriber_max_buffer_size = None;
@@ -42,6 +43,7 @@ named HistorySize r = option_map value.Number r.history_size
 named MaxNodes r = option_map value.Number r.max_nodes
 named MaxPublishers r = option_map value.Number r.max_publishers
 named MaxSubscribers r = option_map value.Number r.max_subscribers
+named SequenceNumbers r = option_map value.Switch r.sequence_numbers
 named SubscriberMaxBorrowedSamples r = option_map value.Number r.subscriber_max_borrowed_samples
 named SubscriberMaxBufferSize r = option_map value.Number r.subscriber_max_buffer_size
 named Types r = Some (value.Types r.types)
@@ -58,6 +60,7 @@ asked_fields r = record {
   max_nodes = unwrap_or r.max_nodes 20;
   max_publishers = unwrap_or r.max_publishers 2;
   max_subscribers = unwrap_or r.max_subscribers 8;
+  sequence_numbers = unwrap_or r.sequence_numbers false;
   subscriber_max_borrowed_samples = unwrap_or r.subscriber_max_borrowed_samples 2;
   subscriber_max_buffer_size = unwrap_or r.subscriber_max_buffer_size 2;
   types = r.types;
@@ -70,6 +73,7 @@ error_of HistorySize = error.DoesNotSupportRequestedMinHistorySize
 error_of MaxNodes = error.DoesNotSupportRequestedAmountOfNodes
 error_of MaxPublishers = error.DoesNotSupportRequestedAmountOfPublishers
 error_of MaxSubscribers = error.DoesNotSupportRequestedAmountOfSubscribers
+error_of SequenceNumbers = error.IncompatibleSequenceNumbers
 error_of SubscriberMaxBorrowedSamples = error.DoesNotSupportRequestedMinSubscriberBorrowedSamples
 error_of SubscriberMaxBufferSize = error.DoesNotSupportRequestedMinBufferSize
 error_of Types = error.IncompatibleTypes
@@ -84,6 +88,7 @@ clauses_on r attributes c =
     clause r c Types
     ∷ (has_required r.attributes attributes, error.IncompatibleAttributes)
     ∷ clause r c EnableSafeOverflow
+    ∷ clause r c SequenceNumbers
     ∷ clause r c MaxPublishers
     ∷ clause r c MaxSubscribers
     ∷ clause r c SubscriberMaxBufferSize

@@ -9,7 +9,7 @@ use Rattle.iox_describe_settings.specs.declared.static_config.Settings.{Settings
 use Rattle.iox_describe_settings.specs.declared.static_config.Settings.TheVariants.{RequestResponse, PublishSubscribe, Event}
 use Rattle.iox_describe_settings.specs.declared.static_config.publish_subscribe.Setting.TheVariants.{EnableSafeOverflow, HistorySize}
 use Rattle.iox_describe_settings.specs.declared.static_config.publish_subscribe.Setting.TheVariants.{MaxNodes, MaxPublishers}
-use Rattle.iox_describe_settings.specs.declared.static_config.publish_subscribe.Setting.TheVariants.{MaxSubscribers}
+use Rattle.iox_describe_settings.specs.declared.static_config.publish_subscribe.Setting.TheVariants.{MaxSubscribers, SequenceNumbers}
 use Rattle.iox_describe_settings.specs.declared.static_config.publish_subscribe.Setting.TheVariants.{SubscriberMaxBorrowedSamples}
 use Rattle.iox_describe_settings.specs.declared.static_config.publish_subscribe.Setting.TheVariants.{SubscriberMaxBufferSize, Types}
 use Rattle.iox_describe_settings.specs.PublishSubscribeSettings.{value}
@@ -24,6 +24,8 @@ on weak strong given c h =
     (step _ _ _ _ _ (attributes weak.attributes strong.attributes given h.attributes)
     (step _ _ _ _ _ (setting (named EnableSafeOverflow weak) (named EnableSafeOverflow strong) (value EnableSafeOverflow c)
     (h.settings EnableSafeOverflow))
+    (step _ _ _ _ _ (setting (named SequenceNumbers weak) (named SequenceNumbers strong) (value SequenceNumbers c)
+    (h.settings SequenceNumbers))
     (step _ _ _ _ _ (setting (named MaxPublishers weak) (named MaxPublishers strong) (value MaxPublishers c) (h.settings MaxPublishers))
     (step _ _ _ _ _ (setting (named MaxSubscribers weak) (named MaxSubscribers strong) (value MaxSubscribers c) (h.settings MaxSubscribers))
     (step _ _ _ _ _ (setting (named SubscriberMaxBufferSize weak) (named SubscriberMaxBufferSize strong)
@@ -32,7 +34,7 @@ on weak strong given c h =
     (step _ _ _ _ _ (setting (named SubscriberMaxBorrowedSamples weak) (named SubscriberMaxBorrowedSamples strong)
     (value SubscriberMaxBorrowedSamples c) (h.settings SubscriberMaxBorrowedSamples))
     (step _ _ _ _ _ (setting (named MaxNodes weak) (named MaxNodes strong) (value MaxNodes c) (h.settings MaxNodes))
-    (λ e. e)))))))))
+    (λ e. e))))))))))
 
 pub weaker : (weak strong : Requirement) (given : List Attribute) (settings : Settings) → IsWeaker weak strong
     → first_unmet (clauses_of strong given settings) ≡ met → first_unmet (clauses_of weak given settings) ≡ met

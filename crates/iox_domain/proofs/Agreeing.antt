@@ -28,6 +28,7 @@ agree service sizes id agreed =
     && (sizes.subscriber_max_buffer_size == agreed.subscriber_max_buffer_size)
     && (sizes.subscriber_max_borrowed_samples == agreed.subscriber_max_borrowed_samples)
     && (sizes.history_size == agreed.history_size) && beq sizes.enable_safe_overflow agreed.enable_safe_overflow
+    && beq sizes.sequence_numbers agreed.sequence_numbers
     && nat_le agreed.subscriber_max_borrowed_samples sizes.expired_connections
 
 same_number : (n : ℕ) → (n == n) ≡ true
@@ -46,7 +47,8 @@ agree_new expired id agreed = rw (same_number id.service)
     (rw (same_number agreed.max_publishers) (rw (same_number agreed.max_subscribers) (rw (same_number agreed.subscriber_max_buffer_size)
     (rw (same_number agreed.subscriber_max_borrowed_samples)
     (rw (same_number agreed.history_size)
-    (rw (same_switch agreed.enable_safe_overflow) (within agreed.subscriber_max_borrowed_samples expired)))))))
+    (rw (same_switch agreed.enable_safe_overflow)
+    (rw (same_switch agreed.sequence_numbers) (within agreed.subscriber_max_borrowed_samples expired))))))))
 
 new : {T U B D : Type 0} (which : DomainId) (expired : ℕ) (settings : Settings) (domain : Domain T U B D)
     → IsNewDomain which expired settings domain → agrees (parts_of domain) ≡ true

@@ -23,7 +23,7 @@ use Rattle.iox_domain.specs.DomainPorts.declared.publisher_entry.PublisherEntry.
 use Rattle.iox_domain.specs.DomainPorts.declared.subscriber_port.SubscriberPort.{SubscriberPort}
 use Rattle.iox_domain.specs.Lending.{LoansOne}
 use Rattle.iox_domain.specs.Making.{slots_needed, publisher_place, subscriber_place, identity_of, sender_config, AddsPublisher}
-use Rattle.iox_domain.specs.Making.{CreatesPublisher, AddsSubscriber, CreatesSubscriber}
+use Rattle.iox_domain.specs.Making.{sequence_before, CreatesPublisher, AddsSubscriber, CreatesSubscriber}
 use Rattle.iox_domain.specs.Ports.{AtPublisher, AtSubscriber}
 use Rattle.iox_domain.specs.PortsPublishing.{is_free}
 use Rattle.iox_domain.specs.PortsPublishing as publishing
@@ -132,7 +132,7 @@ adds : {T U : Type 0} (may : DegradationInfo → DegradationAction → Type 0) (
     → AddsPublisher may config user_header place slots old (Ok number) new → loans_left new ≤ loans_left old + config.max_loaned_samples
 adds {T} {U} may config user_header place slots number old new (listed, is_list, outcome, port, updates, next, is) =
     let first : PublisherPort T U = new_port (identity_of config.owner place old) old.sizes.max_subscribers config.allocation
-    config.unit (sender_config config slots old) user_header in
+    config.unit (sequence_before config old) (sender_config config slots old) user_header in
     let same : loans_left new ≡ left_among (added old.next_port port old.publishers) = ap loans_left is in
     omega (
       arith,

@@ -17,6 +17,7 @@ use Rattle.iox_domain.specs.DomainPorts.declared.publisher_port.PublisherPort.{P
 use Rattle.iox_domain.specs.DomainPorts.declared.reader.Reader.{Reader}
 use Rattle.iox_domain.specs.DomainPorts.Reading.{given_back_at}
 use Rattle.iox_domain.specs.Order.{IsPartOf, leads_at}
+use Rattle.iox_domain.specs.Gaps.{AreNumbered}
 use Rattle.iox_domain.proofs.Books.{Books, Missing}
 use Rattle.iox_domain.proofs.PortLawsParts.{part_first, part_nothing}
 use Rattle.iox_domain.proofs.TiedWell.{MadeAt, connects_made, ok_same, found_leads, gone_there}
@@ -27,6 +28,7 @@ use Rattle.iox_domain.proofs.WellKept.{left_leads, settled_goes}
 pub record Steady {T U : Type 0} (index subscriber : ℕ) (old new : PublisherPort T U) : Type 0 where
   pub sending : new.sender.uses.sending ≡ old.sender.uses.sending
   pub history : new.sender.uses.history ≡ old.sender.uses.history
+  pub sequence : new.last_sequence ≡ old.last_sequence
   pub stands : new.stands ≡ old.stands
   pub place : new.progress.place ≡ old.progress.place
   pub ties : new.ties ≡ old.ties
@@ -50,6 +52,7 @@ steady_books : {T U : Type 0} (index subscriber : ℕ) (sent taken : List (Messa
     → Books index subscriber sent taken new
 steady_books {T} {U} index subscriber sent taken old new steady books missing = record {
   history = subst (λ (all : List (Message T U)). IsPartOf all sent) (sym steady.history) books.history;
+  numbered = subst (λ last. AreNumbered sent last) (sym steady.sequence) books.numbered;
   last = λ message sending. books.last message (sym steady.sending ∙ sending);
   left = λ left. steady.sending ∙ books.left (sym steady.stands ∙ left);
   part = λ leads. part (steady.leads leads);
@@ -132,13 +135,14 @@ steady_port {T} {U} index subscriber old new steady = record {
 
 -- the connection and its reader are as they were
 pub steady_alike : {T U : Type 0} (index subscriber : ℕ) (old new : PublisherPort T U)
-    → new.sender.uses.sending ≡ old.sender.uses.sending → new.sender.uses.history ≡ old.sender.uses.history → new.stands ≡ old.stands
-    → new.progress.place ≡ old.progress.place
+    → new.sender.uses.sending ≡ old.sender.uses.sending → new.sender.uses.history ≡ old.sender.uses.history
+    → new.last_sequence ≡ old.last_sequence → new.stands ≡ old.stands → new.progress.place ≡ old.progress.place
     → new.ties ≡ old.ties → leads_at index subscriber new ≡ leads_at index subscriber old
     → (connection_of index new).waiting ≡ (connection_of index old).waiting → Steady index subscriber old new
-steady_alike index subscriber old new sending history stands place ties leads waits = record {
+steady_alike index subscriber old new sending history sequence stands place ties leads waits = record {
   sending = sending;
   history = history;
+  sequence = sequence;
   stands = stands;
   place = place;
   ties = ties;
@@ -150,7 +154,7 @@ steady_alike index subscriber old new sending history stands place ties leads wa
 pub steady_is : {T U : Type 0} (index subscriber : ℕ) (old new : PublisherPort T U) → new ≡ old → Steady index subscriber old new
 steady_is index subscriber old new is =
     steady_alike index subscriber old new (ap (λ port. port.sender.uses.sending) is) (ap (λ port. port.sender.uses.history) is)
-    (ap (λ port. port.stands) is) (ap (λ port. port.progress.place) is) (ap (λ port. port.ties) is)
+    (ap (λ port. port.last_sequence) is) (ap (λ port. port.stands) is) (ap (λ port. port.progress.place) is) (ap (λ port. port.ties) is)
     (ap (λ port. leads_at index subscriber port) is) (ap (λ port. (connection_of index port).waiting) is)
 
 pub by_parts : {T U : Type 0} (index subscriber : ℕ) (old new : PublisherPort T U)
@@ -164,7 +168,7 @@ by_parts index subscriber old new live leads
 pub detached_steady : {T U : Type 0} (index subscriber at : ℕ) (port : PublisherPort T U)
     → Steady index subscriber port (detached_at at port)
 detached_steady index subscriber at port =
-    steady_alike index subscriber port (detached_at at port) refl refl refl refl refl
+    steady_alike index subscriber port (detached_at at port) refl refl refl refl refl refl
     (by_parts index subscriber port (detached_at at port) refl (left_leads subscriber at index port.readers)) refl
 
 -- a connection ends, where the publisher left
@@ -197,6 +201,7 @@ ended_steady_by {T} {U} index subscriber at true port left =
           record {
             sending = refl;
             history = refl;
+            sequence = refl;
             stands = refl;
             place = refl;
             ties = refl;
@@ -207,7 +212,7 @@ ended_steady_by {T} {U} index subscriber at true port left =
       | inr not ↦
           let same : connection_of index new ≡ connection_of index port
           = get_or-set_other port.sender.uses.connections at index (ended (connection_of at port)) nobody not in
-          steady_alike index subscriber port new refl refl refl refl refl
+          steady_alike index subscriber port new refl refl refl refl refl refl
           (by_parts index subscriber port new (ap (λ one. goes_on one.stage) same)
           (ap (λ reader. leads_to subscriber reader) (get_or-set_other port.readers at index None None not)))
           (ap (λ one. one.waiting) same)
@@ -265,6 +270,7 @@ given_back_steady {T} {U} index subscriber at (Some place) port =
             record {
               sending = refl;
               history = refl;
+              sequence = refl;
               stands = refl;
               place = refl;
               ties = refl;
@@ -282,13 +288,13 @@ given_back_steady {T} {U} index subscriber at (Some place) port =
         | inr is ↦
             let here : connection_of index new ≡ connection_of index port
             = ap (λ n. connection_of n new) same ∙ is ∙ ap (λ n. connection_of n port) (sym same) in
-            steady_alike index subscriber port new refl refl refl refl refl
+            steady_alike index subscriber port new refl refl refl refl refl refl
             (by_parts index subscriber port new (ap (λ one. goes_on one.stage) here) refl) (ap (λ one. one.waiting) here)
       ]
       | inr not ↦
           let here : connection_of index new ≡ connection_of index port
           = get_or-set_other port.sender.uses.connections at index back nobody not in
-          steady_alike index subscriber port new refl refl refl refl refl
+          steady_alike index subscriber port new refl refl refl refl refl refl
           (by_parts index subscriber port new (ap (λ one. goes_on one.stage) here) refl) (ap (λ one. one.waiting) here)
     ]
   where
@@ -330,7 +336,8 @@ attaches_steady {T} {U} index subscriber reading limit at (Some there) old joine
     let whole : new ≡ attached_at reading at old = is ∙ ap (λ port. attached_at reading at port) joins.1 in
     let within : at < length old.readers = (position-Some (leads_to reading) old.readers at None found).0 in
     steady_alike index subscriber old new (ap (λ port. port.sender.uses.sending) whole) (ap (λ port. port.sender.uses.history) whole)
-    (ap (λ port. port.stands) whole) (ap (λ port. port.progress.place) whole) (ap (λ port. port.ties) whole)
+    (ap (λ port. port.last_sequence) whole) (ap (λ port. port.stands) whole)
+    (ap (λ port. port.progress.place) whole) (ap (λ port. port.ties) whole)
     (ap (λ port. leads_at index subscriber port) whole ∙ by_parts index subscriber old (attached_at reading at old) refl
     (attached_reader index reading at subscriber old (found_leads reading at old found) within))
     (ap (λ port. (connection_of index port).waiting) whole)
@@ -346,6 +353,7 @@ attaches_steady {T} {U} index subscriber reading limit at None old joined new is
           record {
             sending = ap (λ port. port.sender.uses.sending) is ∙ ap (λ port. port.sender.uses.sending) joins.2;
             history = ap (λ port. port.sender.uses.history) is ∙ ap (λ port. port.sender.uses.history) joins.2;
+            sequence = ap (λ port. port.last_sequence) is ∙ ap (λ port. port.last_sequence) joins.2;
             stands = ap (λ port. port.stands) is ∙ made.stands;
             place = ap (λ port. port.progress.place) is ∙ ap (λ port. port.progress.place) joins.2;
             ties = ap (λ port. port.ties) is ∙ made.ties;
@@ -361,6 +369,7 @@ attaches_steady {T} {U} index subscriber reading limit at None old joined new is
           steady_alike index subscriber old new
           (ap (λ port. port.sender.uses.sending) is ∙ ap (λ port. port.sender.uses.sending) joins.2)
           (ap (λ port. port.sender.uses.history) is ∙ ap (λ port. port.sender.uses.history) joins.2)
+          (ap (λ port. port.last_sequence) is ∙ ap (λ port. port.last_sequence) joins.2)
           (ap (λ port. port.stands) is ∙ made.stands) (ap (λ port. port.progress.place) is ∙ ap (λ port. port.progress.place) joins.2)
           (ap (λ port. port.ties) is ∙ made.ties)
           (by_parts index subscriber old new (ap (λ one. goes_on one.stage) here) (ap (λ r. leads_to subscriber r) readers))
@@ -390,6 +399,7 @@ departed_books {T} {U} index subscriber sent taken port silent books missing =
     let gone : PublisherPort T U = record port { stands = false } in
     parted_books index subscriber sent taken (length port.sender.uses.connections) 0 gone refl (record {
       history = books.history;
+      numbered = books.numbered;
       last = books.last;
       left = λ left. silent;
       part = books.part;

@@ -10,6 +10,7 @@ use Rattle.iox_domain.specs.DomainValues.declared.data_segment.AllocationStrateg
 use Rattle.iox_domain.specs.DomainValues.declared.degradation.DegradationAction.{DegradationAction}
 use Rattle.iox_domain.specs.DomainValues.declared.degradation.DegradationInfo.{DegradationInfo}
 use Rattle.iox_domain.specs.DomainValues.declared.port_error.LoanError.{LoanError}
+use Rattle.iox_domain.specs.DomainValues.Sequences.{next_sequence, is_used_up}
 use Rattle.iox_domain.specs.DomainValues.declared.port_error.SendError.{SendError}
 use Rattle.iox_domain.specs.DomainValues.declared.port_error.SendError.TheVariants as sending
 use Rattle.iox_domain.specs.DomainSlots.Uses.{nobody}
@@ -21,7 +22,7 @@ use Rattle.iox_domain.specs.DomainPorts.Loaning.{with_sender, LendsHere, LendsIn
 use Rattle.iox_domain.specs.DomainPorts.Loaning.{first_refusal}
 use Rattle.iox_domain.specs.DomainPorts.Progress.{tried_again}
 use Rattle.iox_domain.specs.DomainPorts.Sending.{Finishes, with_progress, ready_at, ready_loan, begun_by, begun_at, dropped_at}
-use Rattle.iox_domain.specs.DomainPorts.Sending.{SendsAfter, SendsIf, Sends}
+use Rattle.iox_domain.specs.DomainPorts.Sending.{SendsAfter, SendsStanding, SendsIf, Sends}
 use Rattle.iox_domain.specs.DomainPorts.Writing.{changed_if, place_of, given_up_at, given_up, loan_of}
 use Rattle.iox_domain.specs.DomainPorts.declared.meeting.Sent.{Sent}
 use Rattle.iox_domain.specs.DomainPorts.declared.meeting.Sent.TheVariants as sent
@@ -66,6 +67,7 @@ record Quiet {T U : Type 0} (old new : PublisherPort T U) : Type 0 where
   readers : new.readers ≡ old.readers
   sending : new.sender.uses.sending ≡ old.sender.uses.sending
   history : new.sender.uses.history ≡ old.sender.uses.history
+  sequence : new.last_sequence ≡ old.last_sequence
   stands : new.stands ≡ old.stands
   place : new.progress.place ≡ old.progress.place
   ties : new.ties ≡ old.ties
@@ -76,6 +78,7 @@ quiet_is old new is = record {
   readers = ap (λ port. port.readers) is;
   sending = ap (λ port. port.sender.uses.sending) is;
   history = ap (λ port. port.sender.uses.history) is;
+  sequence = ap (λ port. port.last_sequence) is;
   stands = ap (λ port. port.stands) is;
   place = ap (λ port. port.progress.place) is;
   ties = ap (λ port. port.ties) is;
@@ -84,7 +87,8 @@ quiet_is old new is = record {
 quiet_port : {T U : Type 0} (index subscriber : ℕ) (old new : PublisherPort T U) → Quiet old new → PortBooks index subscriber old new
 quiet_port index subscriber old new quiet
     = steady_port index subscriber old new
-    (steady_alike index subscriber old new quiet.sending quiet.history quiet.stands quiet.place quiet.ties
+    (steady_alike index subscriber old new quiet.sending quiet.history quiet.sequence quiet.stands quiet.place
+    quiet.ties
     (leads_same index subscriber old new quiet.connections quiet.readers) (ap (λ all. (get_or all index nobody).waiting) quiet.connections))
 
 quiet_lends : {T U : Type 0} (values elements : ℕ) (old new : PublisherPort T U) (answer : Result ℕ LoanError)
@@ -94,6 +98,7 @@ quiet_lends values elements old new (Ok slot) lends = record {
   readers = ap (λ port. port.readers) lends.1;
   sending = ap (λ sender. sender.uses.sending) lends.0.3;
   history = ap (λ sender. sender.uses.history) lends.0.3;
+  sequence = ap (λ port. port.last_sequence) lends.1;
   stands = ap (λ port. port.stands) lends.1;
   place = ap (λ port. port.progress.place) lends.1;
   ties = ap (λ port. port.ties) lends.1;
@@ -103,6 +108,7 @@ quiet_lends values elements old new (Err error) lends = record {
   readers = ap (λ port. port.readers) lends.2;
   sending = ap (λ sender. sender.uses.sending) lends.1.1;
   history = ap (λ sender. sender.uses.history) lends.1.1;
+  sequence = ap (λ port. port.last_sequence) lends.2;
   stands = ap (λ port. port.stands) lends.2;
   place = ap (λ port. port.progress.place) lends.2;
   ties = ap (λ port. port.ties) lends.2;
@@ -118,6 +124,7 @@ quiet_new {T} {U} room values elements old new answer (inl lends) =
       readers = all.readers;
       sending = all.sending;
       history = all.history;
+      sequence = all.sequence;
       stands
           = all.stands;
       place = all.place;
@@ -166,7 +173,16 @@ pub port_changed : {T U : Type 0} (index subscriber : ℕ) (allowed : Bool) (slo
     (port : PublisherPort T U) → PortBooks index subscriber port (changed_if allowed slot change port)
 port_changed index subscriber true slot change port
     = quiet_port index subscriber port _
-    (record { connections = refl; readers = refl; sending = refl; history = refl; stands = refl; place = refl; ties = refl })
+    (record {
+      connections = refl;
+      readers = refl;
+      sending = refl;
+      history = refl;
+      sequence = refl;
+      stands = refl;
+      place = refl;
+      ties = refl;
+    })
 port_changed index subscriber false slot change port = quiet_port index subscriber port port (quiet_is port port refl)
 
 given_up_at_books : {T U : Type 0} (index subscriber : ℕ) (at : Option ℕ) (port : PublisherPort T U)
@@ -174,7 +190,16 @@ given_up_at_books : {T U : Type 0} (index subscriber : ℕ) (at : Option ℕ) (p
 given_up_at_books index subscriber None port = quiet_port index subscriber port port (quiet_is port port refl)
 given_up_at_books index subscriber (Some at) port
     = quiet_port index subscriber port (dropped_at at port)
-    (record { connections = refl; readers = refl; sending = refl; history = refl; stands = refl; place = refl; ties = refl })
+    (record {
+      connections = refl;
+      readers = refl;
+      sending = refl;
+      history = refl;
+      sequence = refl;
+      stands = refl;
+      place = refl;
+      ties = refl;
+    })
 
 pub port_given_up : {T U : Type 0} (index subscriber slot : ℕ) (port : PublisherPort T U)
     → PortBooks index subscriber port (given_up slot port)
@@ -226,7 +251,7 @@ retry_if {T} {U} index subscriber true decide elapsed old new value apart blocke
       keeps = λ sent taken books missing. more_none index subscriber sent taken [] new refl
           (finishes_books index subscriber sent taken decide again new outcome (apart (stands old.stands refl books.left))
           finishes (books_still index subscriber sent taken old again
-          (still_same index subscriber old again refl refl refl refl refl refl refl) books));
+          (still_same index subscriber old again refl refl refl refl refl refl refl refl) books));
     }
   where
     stands : (is : Bool) → old.stands ≡ is → (old.stands ≡ false → old.sender.uses.sending ≡ None) → old.stands ≡ true
@@ -255,7 +280,7 @@ port_gives_up index subscriber old new value gives = gives_up_if index subscribe
 -- a send
 begun_more : {T U : Type 0} (index subscriber : ℕ) (sent taken : List (Message T U)) (at : ℕ) (loan : Option (Loan T U))
     (port : PublisherPort T U) → port.stands ≡ true → Books index subscriber sent taken port
-    → Books index subscriber (sent ++ message_of loan) taken (begun_by at loan port)
+    → Books index subscriber (sent ++ message_of (next_sequence port.last_sequence) loan) taken (begun_by at loan port)
 begun_more index subscriber sent taken at None port stands books = more_none index subscriber sent taken [] port refl books
 begun_more index subscriber sent taken at (Some loan) port stands books = begun_books index subscriber sent taken at loan port stands books
 
@@ -278,44 +303,83 @@ begun_answer decide old new answer finishes =
     by_case true false delivered = refl
     by_case false fails delivered = refl
 
--- what a send that answers so makes of its loan
-abbrev pub sent_so : {T U : Type 0} → Option (Result Sent SendError) → Option (Loan T U) → List (Message T U)
-sent_so answer loan = if has_begun answer then message_of loan else []
+-- what a send that answers so makes of its loan, with this number
+abbrev pub sent_so : {T U : Type 0} → Option ℕ → Option (Result Sent SendError) → Option (Loan T U) → List (Message T U)
+sent_so sequence answer loan = if has_begun answer then message_of sequence loan else []
 
-so_none : {T U : Type 0} (answer : Option (Result Sent SendError)) (loan : Option (Loan T U)) → has_begun answer ≡ false
-    → sent_so answer loan ≡ []
-so_none answer loan off = ap (λ b. if b then message_of loan else []) off
+so_none : {T U : Type 0} (sequence : Option ℕ) (answer : Option (Result Sent SendError)) (loan : Option (Loan T U))
+    → has_begun answer ≡ false → sent_so sequence answer loan ≡ []
+so_none sequence answer loan off = ap (λ b. if b then message_of sequence loan else []) off
 
-so_all : {T U : Type 0} (answer : Option (Result Sent SendError)) (loan : Option (Loan T U)) → has_begun answer ≡ true
-    → sent_so answer loan ≡ message_of loan
-so_all answer loan on = ap (λ b. if b then message_of loan else []) on
+so_all : {T U : Type 0} (sequence : Option ℕ) (answer : Option (Result Sent SendError)) (loan : Option (Loan T U))
+    → has_begun answer ≡ true → sent_so sequence answer loan ≡ message_of sequence loan
+so_all sequence answer loan on = ap (λ b. if b then message_of sequence loan else []) on
 
 dropped_books : {T U : Type 0} (index subscriber : ℕ) (all taken : List (Message T U)) (at : ℕ) (port new : PublisherPort T U)
     → new ≡ dropped_at at port → Books index subscriber all taken port → Books index subscriber all taken new
 dropped_books index subscriber all taken at port new is books =
     books_still index subscriber all taken (dropped_at at port) new (still_is index subscriber (dropped_at at port) new is)
     (books_still index subscriber all taken port (dropped_at at port)
-    (still_same index subscriber port (dropped_at at port) refl refl refl refl refl refl refl) books)
+    (still_same index subscriber port (dropped_at at port) refl refl refl refl refl refl refl refl) books)
+
+-- a send that is refused gives its loan up, and nothing is sent
+refused_sends : {T U : Type 0} (index subscriber at : ℕ) (old new : PublisherPort T U) (value : Result Sent SendError)
+    (loan : Option (Loan T U)) → has_begun (Some value) ≡ false → new ≡ dropped_at at old
+    → PortSends index subscriber (sent_so (next_sequence old.last_sequence) (Some value) loan) old new
+refused_sends index subscriber at old new value loan off is = record {
+  keeps = λ all taken books missing. more_none index subscriber all taken
+      (sent_so (next_sequence old.last_sequence) (Some value) loan) new
+      (so_none (next_sequence old.last_sequence) (Some value) loan off) (dropped_books index subscriber all taken at old new is books);
+}
 
 sends_after : {T U : Type 0} (index subscriber : ℕ) (all taken : List (Message T U))
     (decide : BackpressureInfo → BackpressureDecision → Type 0) (at : ℕ) (outcome : Result (Unit {0}) ConnectionFailure)
-    (updated new : PublisherPort T U) (value : Result Sent SendError) (loan : Option (Loan T U))
-    → slice_get updated.sender.uses.loans at ≡ loan → updated.stands ≡ true → AreTiesApart updated
+    (updated new : PublisherPort T U) (value : Result Sent SendError) (loan : Option (Loan T U)) (last : Option ℕ)
+    → slice_get updated.sender.uses.loans at ≡ loan → updated.last_sequence ≡ last → updated.stands ≡ true → AreTiesApart updated
     → SendsAfter decide at outcome updated (Some value) new → Books index subscriber all taken updated
-    → Books index subscriber (all ++ sent_so (Some value) loan) taken new
-sends_after index subscriber all taken decide at (Err failure) updated new value loan is_loan stands apart sends books =
-    more_none index subscriber all taken (sent_so (Some value) loan) new (so_none (Some value) loan (ap has_begun sends.0))
+    → Books index subscriber (all ++ sent_so (next_sequence last) (Some value) loan) taken new
+sends_after index subscriber all taken decide at (Err failure) updated new value loan last is_loan is_last stands apart sends books =
+    more_none index subscriber all taken (sent_so (next_sequence last) (Some value) loan) new
+    (so_none (next_sequence last) (Some value) loan (ap has_begun sends.0))
     (dropped_books index subscriber all taken at updated new sends.1 books)
-sends_after {T} {U} index subscriber all taken decide at (Ok done) updated new value loan is_loan stands apart
+sends_after {T} {U} index subscriber all taken decide at (Ok done) updated new value loan last is_loan is_last stands apart
     (finished, finishes, is_answer) books =
     let begun : PublisherPort T U = begun_by at loan updated in
     let same : begun_at at updated ≡ begun = ap (λ found. begun_by at found updated) is_loan in
     let goes : Finishes decide begun finished new = subst (λ (port : PublisherPort T U). Finishes decide port finished new) same finishes in
-    let finished_books : Books index subscriber (all ++ message_of loan) taken new =
-    finishes_books index subscriber (all ++ message_of loan) taken decide begun new finished (begun_apart at loan updated apart) goes
+    let sequence : Option ℕ = next_sequence updated.last_sequence in
+    let finished_books : Books index subscriber (all ++ message_of sequence loan) taken new =
+    finishes_books index subscriber (all ++ message_of sequence loan) taken decide begun new finished
+    (begun_apart at loan updated apart) goes
     (begun_more index subscriber all taken at loan updated stands books) in
     let on : has_begun (Some value) ≡ true = ap has_begun is_answer ∙ begun_answer decide begun new finished goes in
-    subst (λ (more : List (Message T U)). Books index subscriber (all ++ more) taken new) (sym (so_all (Some value) loan on)) finished_books
+    let more : sent_so (next_sequence last) (Some value) loan ≡ message_of sequence loan =
+    so_all (next_sequence last) (Some value) loan on ∙ ap (λ number. message_of (next_sequence number) loan) (sym is_last) in
+    subst (λ (more : List (Message T U)). Books index subscriber (all ++ more) taken new) (sym more) finished_books
+
+sends_standing : {T U : Type 0} (next : ℕ) (list : RollState SubscriberEntry) (index subscriber : ℕ) (used : Bool)
+    (may_degrade : DegradationInfo → DegradationAction → Type 0) (decide : BackpressureInfo → BackpressureDecision → Type 0)
+    (listed : List (Option (Member SubscriberEntry))) (at : ℕ)
+    (old new : PublisherPort T U) (value : Result Sent SendError) (loan : Option (Loan T U)) → IsListApart next list.places
+    → (old.stands ≡ true → IsTiedWell next list.places old)
+    → ((place : ℕ) → get_or list.places place None ≡ get_or listed place None) → old.stands ≡ true
+    → old.sender.uses.sending ≡ None → slice_get old.sender.uses.loans at ≡ loan
+    → SendsStanding used may_degrade decide listed list.changes at old (Some value) new
+    → PortSends index subscriber (sent_so (next_sequence old.last_sequence) (Some value) loan) old new
+sends_standing next list index subscriber true may_degrade decide listed at old new value loan apart well told stands silent is_loan sends
+    = refused_sends index subscriber at old new value loan (ap has_begun sends.0) sends.1
+sends_standing {T} {U} next list index subscriber false may_degrade decide listed at old new value loan apart well told stands silent
+    is_loan (outcome, updated, update, after) =
+    let done = updates_well next list.places may_degrade listed list.changes old updated outcome apart (λ k within. told k)
+    (well stands) update in
+    record {
+      keeps = λ all taken books missing.
+          let kept : Updated index subscriber all taken old updated
+          = updates_books next list.places index subscriber all taken may_degrade listed list.changes old updated outcome apart told
+          (well stands) stands silent update books missing in
+          sends_after index subscriber all taken decide at outcome updated new value loan old.last_sequence
+          (ap (λ loans. slice_get loans at) kept.loans ∙ is_loan) kept.sequence (done.0 ∙ stands) done.1.apart after kept.books;
+    }
 
 sends_if : {T U : Type 0} (next : ℕ) (list : RollState SubscriberEntry) (index subscriber : ℕ) (stands : Bool)
     (may_degrade : DegradationInfo → DegradationAction → Type 0) (decide : BackpressureInfo → BackpressureDecision → Type 0)
@@ -325,24 +389,12 @@ sends_if : {T U : Type 0} (next : ℕ) (list : RollState SubscriberEntry) (index
     → ((place : ℕ) → get_or list.places place None ≡ get_or listed place None) → old.stands ≡ stands
     → old.sender.uses.sending ≡ None → slice_get old.sender.uses.loans at ≡ loan
     → SendsIf stands may_degrade decide listed list.changes at old (Some value) new
-    → PortSends index subscriber (sent_so (Some value) loan) old new
+    → PortSends index subscriber (sent_so (next_sequence old.last_sequence) (Some value) loan) old new
 sends_if next list index subscriber false may_degrade decide listed at old new value loan apart well told stands silent is_loan sends
-    = record {
-      keeps = λ all taken books missing. more_none index subscriber all taken (sent_so (Some value) loan) new
-          (so_none (Some value) loan (ap has_begun sends.0)) (dropped_books index subscriber all taken at old new sends.1 books);
-    }
-sends_if {T} {U} next list index subscriber true may_degrade decide listed at old new value loan apart well told stands silent is_loan
-    (outcome, updated, update, after) =
-    let done = updates_well next list.places may_degrade listed list.changes old updated outcome apart (λ k within. told k)
-    (well stands) update in
-    record {
-      keeps = λ all taken books missing.
-          let kept : Updated index subscriber all taken old updated
-          = updates_books next list.places index subscriber all taken may_degrade listed list.changes old updated outcome apart told
-          (well stands) stands silent update books missing in
-          sends_after index subscriber all taken decide at outcome updated new value loan
-          (ap (λ loans. slice_get loans at) kept.loans ∙ is_loan) (done.0 ∙ stands) done.1.apart after kept.books;
-    }
+    = refused_sends index subscriber at old new value loan (ap has_begun sends.0) sends.1
+sends_if next list index subscriber true may_degrade decide listed at old new value loan apart well told stands silent is_loan sends =
+    sends_standing next list index subscriber (is_used_up old.last_sequence) may_degrade decide listed at old new value loan apart well
+    told stands silent is_loan sends
 
 -- a loan that may be sent is the one in its slot, and nothing is being sent
 ready_is : {T U : Type 0} (slot : ℕ) (place : Option ℕ) (at : ℕ) (port : PublisherPort T U)
@@ -365,7 +417,7 @@ sends_ready : {T U : Type 0} (next : ℕ) (list : RollState SubscriberEntry) (in
     → (old.stands ≡ true → IsTiedWell next list.places old)
     → ((place : ℕ) → get_or list.places place None ≡ get_or listed place None) → ready_loan slot old ≡ ready
     → Sends may_degrade decide listed list.changes ready old (Some value) new
-    → PortSends index subscriber (sent_so (Some value) (loan_of slot old)) old new
+    → PortSends index subscriber (sent_so (next_sequence old.last_sequence) (Some value) (loan_of slot old)) old new
 sends_ready next list index subscriber None may_degrade decide listed slot old new value apart well told ready sends
     = let no : Some value ≡ None = sends.0 in absurd (cc)
 sends_ready next list index subscriber (Some at) may_degrade decide listed slot old new value apart well told ready sends =
@@ -378,7 +430,7 @@ pub port_sends : {T U : Type 0} (next : ℕ) (list : RollState SubscriberEntry) 
     (old new : PublisherPort T U) (value : Result Sent SendError)
     → IsListApart next list.places → (old.stands ≡ true → IsTiedWell next list.places old)
     → SendsOne may_degrade decide list slot old (Some value) new
-    → PortSends index subscriber (sent_so (Some value) (loan_of slot old)) old new
+    → PortSends index subscriber (sent_so (next_sequence old.last_sequence) (Some value) (loan_of slot old)) old new
 port_sends next list index subscriber may_degrade decide slot old new value apart well sends =
     sends_ready next list index subscriber (ready_loan slot old) may_degrade decide sends.0 slot old new value apart well
     (told_same sends.0 list sends.1) refl sends.2

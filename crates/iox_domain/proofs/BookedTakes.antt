@@ -71,6 +71,7 @@ take_books {T} {U} index subscriber sent before port books =
     = ap (λ one. (before ++ take 1 waiting) ++ one.waiting) here ∙ whole before waiting in
     record {
       history = books.history;
+      numbered = books.numbered;
       last = books.last;
       left = books.left;
       part = λ leads. subst (λ (one : List (Message T U)). IsPartOf one sent) (sym all) (books.part (sym leads_is ∙ leads));
@@ -115,7 +116,7 @@ taken_elsewhere publisher index subscriber attached ports not = elim (cases_eq p
       (eq-eqb index attached.index at)) ∙ not in cc in
       let here = take_other index attached.index port apart in
       steady_port index subscriber port (taken_at attached.index port)
-      (steady_alike index subscriber port (taken_at attached.index port) refl refl refl refl refl
+      (steady_alike index subscriber port (taken_at attached.index port) refl refl refl refl refl refl
       (by_parts index subscriber port (taken_at attached.index port) (ap (λ one. goes_on one.stage) here) refl)
       (ap (λ one. one.waiting) here)))
   | inr other ↦ lists_other publisher index subscriber attached.publisher (taken_at attached.index) ports other
@@ -137,6 +138,7 @@ taken_off {T} {U} publisher index subscriber sent before port ports there off bo
     = by_parts index subscriber port after (ap (λ one. goes_on one.stage) (taken_set port.sender.uses.connections index)) refl ∙ off in
     let books : Books index subscriber sent before after = record {
       history = was.history;
+      numbered = was.numbered;
       last = was.last;
       left = was.left;
       part = λ leads. let no : false ≡ true = sym gone ∙ leads in absurd (cc);

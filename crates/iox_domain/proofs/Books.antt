@@ -3,6 +3,7 @@ use Rattle.std.proofs.Common.{arith, ◌≡◌, ◌≢◌, ◌≤◌, ◌&&◌, 
 use Rattle.std.proofs.Common.{length, drop, nat_lt, None, Some, Result, refl, sym, ap, ◌∙◌, subst, if◌then◌else◌, inl, inr}
 use Rattle.iox_domain.specs.DomainValues.declared.backpressure.BackpressureDecision.{BackpressureDecision}
 use Rattle.iox_domain.specs.DomainValues.declared.backpressure.BackpressureInfo.{BackpressureInfo}
+use Rattle.iox_domain.specs.DomainValues.Sequences.{next_sequence}
 use Rattle.iox_domain.specs.DomainValues.declared.port_error.SendError.{SendError}
 use Rattle.iox_domain.specs.DomainSlots.Uses.{Connection, nobody, offered}
 use Rattle.iox_domain.specs.DomainPorts.Messages.{Message, Loan, sent_as}
@@ -13,6 +14,8 @@ use Rattle.iox_domain.specs.DomainPorts.declared.meeting.Sent.{Sent}
 use Rattle.iox_domain.specs.DomainPorts.declared.publisher_port.PublisherPort.{PublisherPort}
 use Rattle.iox_domain.specs.PortLawsLaws.{AreTiesApart, GotAtMostOnce}
 use Rattle.iox_domain.specs.Order.{IsPartOf, leads_at}
+use Rattle.iox_domain.specs.Gaps.{AreNumbered}
+use Rattle.iox_domain.proofs.Gaps.{numbered_more}
 use Rattle.iox_domain.proofs.Once.{Gone, delivers_got}
 use Rattle.iox_domain.proofs.PortLawsParts.{part_same, part_on, part_behind, part_last, part_within, part_drop, before_last}
 
@@ -21,6 +24,7 @@ use Rattle.iox_domain.proofs.PortLawsParts.{part_same, part_on, part_behind, par
 -- nothing before it is tied.
 pub record Books {T U : Type 0} (index subscriber : ℕ) (sent taken : List (Message T U)) (port : PublisherPort T U) : Type 0 where
   pub history : IsPartOf port.sender.uses.history sent
+  pub numbered : AreNumbered sent port.last_sequence
   pub last : (message : Message T U) → port.sender.uses.sending ≡ Some message → (before : List (Message T U))
       × (sent ≡ before ++ message ∷ [])
   pub left : port.stands ≡ false → port.sender.uses.sending ≡ None
@@ -41,6 +45,7 @@ Missing index subscriber sent taken port = leads_at index subscriber port ≡ fa
 pub record Still {T U : Type 0} (index subscriber : ℕ) (old new : PublisherPort T U) : Type 0 where
   pub sending : new.sender.uses.sending ≡ old.sender.uses.sending
   pub history : new.sender.uses.history ≡ old.sender.uses.history
+  pub sequence : new.last_sequence ≡ old.last_sequence
   pub stands : new.stands ≡ old.stands
   pub place : new.progress.place ≡ old.progress.place
   pub ties : new.ties ≡ old.ties
@@ -51,6 +56,7 @@ pub books_still : {T U : Type 0} (index subscriber : ℕ) (sent taken : List (Me
     → Still index subscriber old new → Books index subscriber sent taken old → Books index subscriber sent taken new
 books_still {T} {U} index subscriber sent taken old new still books = record {
   history = subst (λ (all : List (Message T U)). IsPartOf all sent) (sym still.history) books.history;
+  numbered = subst (λ last. AreNumbered sent last) (sym still.sequence) books.numbered;
   last = λ message sending. books.last message (sym still.sending ∙ sending);
   left = λ left. still.sending ∙ books.left (sym still.stands ∙ left);
   part = λ leads. let was = still.leads leads in subst (λ (all : List (Message T U)). IsPartOf (taken ++ all) sent) (sym was.1)
@@ -77,11 +83,13 @@ leads_same index subscriber old new connections readers =
 pub still_same : {T U : Type 0} (index subscriber : ℕ) (old new : PublisherPort T U)
     → new.sender.uses.connections ≡ old.sender.uses.connections → new.readers ≡ old.readers
     → new.sender.uses.sending ≡ old.sender.uses.sending
-    → new.sender.uses.history ≡ old.sender.uses.history → new.stands ≡ old.stands → new.progress.place ≡ old.progress.place
+    → new.sender.uses.history ≡ old.sender.uses.history → new.last_sequence ≡ old.last_sequence → new.stands ≡ old.stands
+    → new.progress.place ≡ old.progress.place
     → new.ties ≡ old.ties → Still index subscriber old new
-still_same index subscriber old new connections readers sending history stands place ties = record {
+still_same index subscriber old new connections readers sending history sequence stands place ties = record {
   sending = sending;
   history = history;
+  sequence = sequence;
   stands = stands;
   place = place;
   ties = ties;
@@ -95,7 +103,7 @@ still_same index subscriber old new connections readers sending history stands p
 pub still_is : {T U : Type 0} (index subscriber : ℕ) (old new : PublisherPort T U) → new ≡ old → Still index subscriber old new
 still_is index subscriber old new is =
     still_same index subscriber old new (ap (λ port. port.sender.uses.connections) is) (ap (λ port. port.readers) is)
-    (ap (λ port. port.sender.uses.sending) is) (ap (λ port. port.sender.uses.history) is)
+    (ap (λ port. port.sender.uses.sending) is) (ap (λ port. port.sender.uses.history) is) (ap (λ port. port.last_sequence) is)
     (ap (λ port. port.stands) is) (ap (λ port. port.progress.place) is) (ap (λ port. port.ties) is)
 
 -- a message is put into a mailbox
@@ -143,6 +151,7 @@ delivered_books {T} {U} index subscriber sent taken old new apart gone (inl same
     let waits : (connection_of index new).waiting ≡ (connection_of index old).waiting = ap (λ one. one.waiting) same in
     record {
       history = subst (λ (all : List (Message T U)). IsPartOf all sent) (sym gone.same.rest.history) books.history;
+      numbered = subst (λ last. AreNumbered sent last) (sym gone.same.rest.sequence) books.numbered;
       last = λ message sending. books.last message (sym gone.same.sending ∙ sending);
       left = λ left. gone.same.sending ∙ books.left (sym gone.same.rest.stands ∙ left);
       part = λ leads. subst (λ (all : List (Message T U)). IsPartOf (taken ++ all) sent) (sym waits) (books.part (sym leads_is ∙ leads));
@@ -161,6 +170,7 @@ delivered_books {T} {U} index subscriber sent taken old new apart gone (inr (at,
     = ap (λ one. one.waiting) is in
     record {
       history = subst (λ (all : List (Message T U)). IsPartOf all sent) (sym gone.same.rest.history) books.history;
+      numbered = subst (λ last. AreNumbered sent last) (sym gone.same.rest.sequence) books.numbered;
       last = λ one sends. books.last one (sym gone.same.sending ∙ sends);
       left = λ left. gone.same.sending ∙ books.left (sym gone.same.rest.stands ∙ left);
       part = λ leads.
@@ -182,6 +192,7 @@ concluded_books : {T U : Type 0} (index subscriber : ℕ) (sent taken : List (Me
 concluded_books index subscriber sent taken false port books = books
 concluded_books index subscriber sent taken true port books = record {
   history = books.history;
+  numbered = books.numbered;
   last = λ message sending. let no : None ≡ Some message = sending in cc;
   left = λ left. refl;
   part = books.part;
@@ -207,13 +218,14 @@ given_up_books index subscriber sent taken port books = concluded_books index su
 -- a send begins: its message is the last that was sent
 pub begun_books : {T U : Type 0} (index subscriber : ℕ) (sent taken : List (Message T U)) (at : ℕ) (loan : Loan T U)
     (port : PublisherPort T U) → port.stands ≡ true → Books index subscriber sent taken port
-    → Books index subscriber (sent ++ sent_as loan ∷ []) taken (begun_by at (Some loan) port)
+    → Books index subscriber (sent ++ sent_as (next_sequence port.last_sequence) loan ∷ []) taken (begun_by at (Some loan) port)
 begun_books {T} {U} index subscriber sent taken at loan port stands books =
-    let message : Message T U = sent_as loan in
+    let message : Message T U = sent_as (next_sequence port.last_sequence) loan in
     record {
       history = part_on _ (port.sender.uses.history ++ message ∷ []) _
           (part_drop (length (port.sender.uses.history ++ message ∷ []) - port.sender.uses.kept) (port.sender.uses.history ++ message ∷ []))
           (part_last message port.sender.uses.history sent books.history);
+      numbered = numbered_more message sent port.last_sequence refl books.numbered;
       last = λ one sending. let same : message ≡ one = cc in (sent, ap (λ m. sent ++ m ∷ []) same);
       left = λ left. let no : true ≡ false = sym stands ∙ left in absurd (cc);
       part = λ leads. part_behind (taken ++ (connection_of index port).waiting) sent (message ∷ []) (books.part leads);

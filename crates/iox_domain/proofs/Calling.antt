@@ -10,6 +10,7 @@ use Rattle.std.proofs.lemmas.List.Quantifiers.{position-Some}
 use Rattle.std.proofs.lemmas.Map.Entries.{sum_by-set_value}
 use Rattle.std.proofs.lemmas.Option.{none-some, slice_get_cases}
 use Rattle.iox_domain.specs.Container.declared.container.Member.{Member}
+use Rattle.iox_domain.specs.DomainValues.Sequences.{is_used_up}
 use Rattle.iox_domain.specs.DomainValues.declared.backpressure.BackpressureDecision.{BackpressureDecision}
 use Rattle.iox_domain.specs.DomainValues.declared.backpressure.BackpressureInfo.{BackpressureInfo}
 use Rattle.iox_domain.specs.DomainValues.declared.connection_failure.ConnectionFailure.{ConnectionFailure}
@@ -23,6 +24,7 @@ use Rattle.iox_domain.specs.DomainPorts.Leaving.{departed}
 use Rattle.iox_domain.specs.DomainPorts.Loaning as lending
 use Rattle.iox_domain.specs.DomainPorts.Progress.{tried_again}
 use Rattle.iox_domain.specs.DomainPorts.Sending.{ready_at, ready_loan, begun_at, begun_by, dropped_at, with_progress, SendsAfter, SendsIf}
+use Rattle.iox_domain.specs.DomainPorts.Sending.{SendsStanding}
 use Rattle.iox_domain.specs.DomainPorts.Sending.{Sends}
 use Rattle.iox_domain.specs.DomainPorts.Writing.{place_of, changed_if, given_up, given_up_at}
 use Rattle.iox_domain.specs.DomainPorts.declared.meeting.Sent.{Sent}
@@ -201,6 +203,17 @@ sends_after may at (Ok done) port updated outcome after below alone same (finish
       ),
     )
 
+sends_standing : {T U : Type 0} (used : Bool) (may_degrade : DegradationInfo → DegradationAction → Type 0)
+    (may : BackpressureInfo → BackpressureDecision → Type 0) (listed : List (Option (Member SubscriberEntry)))
+    (changes at : ℕ) (port : PublisherPort T U) (outcome : Result Sent SendError) (after : PublisherPort T U)
+    → at < length port.sender.uses.loans → is_some port.sender.uses.sending ≡ false
+    → SendsStanding used may_degrade may listed changes at port (Some outcome) after → Took port outcome after
+sends_standing true may_degrade may listed changes at port outcome after below alone sends
+    = told port outcome _ after sends.0 (dropped_takes at port port after below refl sends.1)
+sends_standing false may_degrade may listed changes at port outcome after below alone (result, updated, updates, sends) =
+    sends_after may at result port updated outcome after below alone
+    (updates_life may_degrade listed changes port result updated updates) sends
+
 sends_if : {T U : Type 0} (stands : Bool) (may_degrade : DegradationInfo → DegradationAction → Type 0)
     (may : BackpressureInfo → BackpressureDecision → Type 0) (listed : List (Option (Member SubscriberEntry)))
     (changes at : ℕ) (port : PublisherPort T U) (outcome : Result Sent SendError) (after : PublisherPort T U)
@@ -208,9 +221,8 @@ sends_if : {T U : Type 0} (stands : Bool) (may_degrade : DegradationInfo → Deg
     → SendsIf stands may_degrade may listed changes at port (Some outcome) after → Took port outcome after
 sends_if false may_degrade may listed changes at port outcome after below alone sends
     = told port outcome _ after sends.0 (dropped_takes at port port after below refl sends.1)
-sends_if true may_degrade may listed changes at port outcome after below alone (result, updated, updates, sends) =
-    sends_after may at result port updated outcome after below alone
-    (updates_life may_degrade listed changes port result updated updates) sends
+sends_if true may_degrade may listed changes at port outcome after below alone sends
+    = sends_standing (is_used_up port.last_sequence) may_degrade may listed changes at port outcome after below alone sends
 
 -- a loan that may be sent is there, and nothing is being sent
 ready_tells : {T U : Type 0} (slot : ℕ) (place : Option ℕ) (at : ℕ) (port : PublisherPort T U) → place_of slot port ≡ place

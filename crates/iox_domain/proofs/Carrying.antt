@@ -3,6 +3,7 @@ use Rattle.std.proofs.Common.{arith, ◌≡◌, ◌-◌, ◌<◌, ◌≤◌, ◌
 use Rattle.std.proofs.Common.{get_or, length, nat_lt, nat_le, slice_get, is_some, Option, None, Some, Result, Ok, Err, refl, ap, ◌∙◌}
 use Rattle.std.proofs.Common.{if◌then◌else◌, inl, inr}
 use Rattle.iox_domain.specs.Container.declared.container.Member.{Member}
+use Rattle.iox_domain.specs.DomainValues.Sequences.{next_sequence, is_used_up}
 use Rattle.iox_domain.specs.DomainValues.declared.backpressure.BackpressureDecision.{BackpressureDecision}
 use Rattle.iox_domain.specs.DomainValues.declared.backpressure.BackpressureDecision.TheVariants as decided
 use Rattle.iox_domain.specs.DomainValues.declared.backpressure.BackpressureInfo.{BackpressureInfo}
@@ -22,6 +23,7 @@ use Rattle.iox_domain.specs.DomainPorts.Ports.{connection_of, with_connection_of
 use Rattle.iox_domain.specs.DomainPorts.Progress.{tried_again}
 use Rattle.iox_domain.specs.DomainPorts.Sending.{with_message, met_by, met, meeting_at, with_progress, decided_by, Steps, GoesOn}
 use Rattle.iox_domain.specs.DomainPorts.Sending.{Delivers, concluded, Finishes, begun_by, begun_at, dropped_at, SendsAfter, SendsIf}
+use Rattle.iox_domain.specs.DomainPorts.Sending.{SendsStanding}
 use Rattle.iox_domain.specs.DomainPorts.Sending.{Sends}
 use Rattle.iox_domain.specs.DomainPorts.PublisherUpdating.{Updates}
 use Rattle.iox_domain.specs.DomainPorts.Writing.{changed_if, place_of, given_up_at, given_up}
@@ -136,10 +138,16 @@ carry_finishes {T} {U} w may old new answer finishes =
     w.on old gone new (carry_delivers w may (length old.ties.items - old.progress.place) old gone arrived delivers)
     (carry_to w gone (concluded arrived gone) new is_new (carry_concluded w arrived gone))
 
+still_numbered : (last : Option ℕ) → is_some (next_sequence last) ≡ is_some last
+still_numbered None = refl
+still_numbered (Some number) = refl
+
 carry_begun : {T U : Type 0} {R : PublisherPort T U → PublisherPort T U → Type 0} (w : Carries R) (at : ℕ) (loan : Option (Loan T U))
     (port : PublisherPort T U) → R port (begun_by at loan port)
 carry_begun w at None port = w.is port port refl
-carry_begun w at (Some loan) port = w.still port _ refl refl refl refl refl
+carry_begun w at (Some loan) port
+    = w.still port _ refl refl refl refl
+    (ap (λ numbered. record (made_for port) { numbered = numbered }) (still_numbered port.last_sequence))
 
 -- a send
 carry_sends_after : {T U : Type 0} {R : PublisherPort T U → PublisherPort T U → Type 0} (w : Carries R)
@@ -152,6 +160,19 @@ carry_sends_after w may at (Ok done) updated new answer sends =
     w.on updated (begun_at at updated) new (carry_begun w at (slice_get updated.sender.uses.loans at) updated)
     (carry_finishes w may (begun_at at updated) new sends.0 sends.1)
 
+carry_sends_standing : {T U : Type 0} {R : PublisherPort T U → PublisherPort T U → Type 0} (w : Carries R) (used : Bool)
+    (may_degrade : DegradationInfo → DegradationAction → Type 0) (may : BackpressureInfo → BackpressureDecision → Type 0)
+    (listed : List (Option (Member SubscriberEntry))) (changes at : ℕ)
+    (old new : PublisherPort T U) (answer : Option (Result Sent SendError))
+    → ((outcome : Result (Unit {0}) ConnectionFailure) (updated : PublisherPort T U)
+    → Updates may_degrade listed changes old outcome updated → R old updated)
+    → SendsStanding used may_degrade may listed changes at old answer new → R old new
+carry_sends_standing w true may_degrade may listed changes at old new answer follows sends
+    = carry_to w old (dropped_at at old) new sends.1 (w.still old _ refl refl refl refl refl)
+carry_sends_standing {T} {U} w false may_degrade may listed changes at old new answer follows sends =
+    let (outcome, updated, updates, after) = sends in
+    w.on old updated new (follows outcome updated updates) (carry_sends_after w may at outcome updated new answer after)
+
 carry_sends_if : {T U : Type 0} {R : PublisherPort T U → PublisherPort T U → Type 0} (w : Carries R) (stands : Bool)
     (may_degrade : DegradationInfo → DegradationAction → Type 0) (may : BackpressureInfo → BackpressureDecision → Type 0)
     (listed : List (Option (Member SubscriberEntry))) (changes at : ℕ)
@@ -161,9 +182,8 @@ carry_sends_if : {T U : Type 0} {R : PublisherPort T U → PublisherPort T U →
     → SendsIf stands may_degrade may listed changes at old answer new → R old new
 carry_sends_if w false may_degrade may listed changes at old new answer is follows sends
     = carry_to w old (dropped_at at old) new sends.1 (w.still old _ refl refl refl refl refl)
-carry_sends_if {T} {U} w true may_degrade may listed changes at old new answer is follows sends =
-    let (outcome, updated, updates, after) = sends in
-    w.on old updated new (follows is outcome updated updates) (carry_sends_after w may at outcome updated new answer after)
+carry_sends_if w true may_degrade may listed changes at old new answer is follows sends
+    = carry_sends_standing w (is_used_up old.last_sequence) may_degrade may listed changes at old new answer (follows is) sends
 
 pub carry_sends : {T U : Type 0} {R : PublisherPort T U → PublisherPort T U → Type 0} (w : Carries R)
     (may_degrade : DegradationInfo → DegradationAction → Type 0) (may : BackpressureInfo → BackpressureDecision → Type 0)
@@ -189,6 +209,7 @@ carry_lends_here w values elements old new (Ok slot) lends = w.still old new
       most_waiting
           = sender.uses.most_waiting;
       most_borrowed = sender.uses.most_borrowed;
+      numbered = is_some old.last_sequence;
     }) lends.0.3)
 carry_lends_here w values elements old new (Err error) lends = w.still old new
     (ap (λ port. port.sender.uses.connections) lends.2 ∙ ap (λ sender. sender.uses.connections) lends.1.1)
@@ -200,6 +221,7 @@ carry_lends_here w values elements old new (Err error) lends = w.still old new
       most_waiting
           = sender.uses.most_waiting;
       most_borrowed = sender.uses.most_borrowed;
+      numbered = is_some old.last_sequence;
     }) lends.1.1)
 
 carry_lends_new : {T U : Type 0} {R : PublisherPort T U → PublisherPort T U → Type 0} (w : Carries R) (room values elements : ℕ)

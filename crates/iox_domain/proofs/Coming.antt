@@ -25,7 +25,7 @@ use Rattle.iox_domain_ports.specs.Publishers.{added}
 use Rattle.iox_domain_ports.specs.declared.publisher_entry.PublisherEntry.{PublisherEntry}
 use Rattle.iox_domain_ports.specs.declared.subscriber_port.SubscriberPort.{SubscriberPort}
 use Rattle.iox_domain.specs.Making.{slots_needed, publisher_place, subscriber_place, sender_config, identity_of, publisher_answer}
-use Rattle.iox_domain.specs.Making.{AddsPublisher, CreatesPublisher, FollowsFirst, AddsSubscriber}
+use Rattle.iox_domain.specs.Making.{sequence_before, AddsPublisher, CreatesPublisher, FollowsFirst, AddsSubscriber}
 use Rattle.iox_domain.specs.Rolls.{RollState, IsListOf, free_place, entered}
 use Rattle.iox_domain.specs.Subscribers.{subscriber_of, subscriber_added}
 use Rattle.iox_domain.specs.declared.ports.making.PublisherConfig.{PublisherConfig}
@@ -64,26 +64,26 @@ entered-there answered place entry before after is listed
 
 pub adds_publisher : {T U : Type 0} (may : DegradationInfo → DegradationAction → Type 0) (config : PublisherConfig) (user_header : U)
     (place slots : ℕ) (old : ServicePorts T U)
-    (listed : List (Option (Member SubscriberEntry))) (changes : ℕ) (identity : PortIdentity) (sender : SenderConfig)
+    (listed : List (Option (Member SubscriberEntry))) (changes : ℕ) (identity : PortIdentity) (last : Option ℕ) (sender : SenderConfig)
     (port after : PublisherPort T U) (outcome : Result (Unit {0}) ConnectionFailure)
     (publishers_after : List (ℕ × PublisherPort T U)) (answered : Option ℕ) (list_after : RollState PublisherEntry)
     → IsListOf listed old.subscriber_list → changes ≡ old.subscriber_list.changes → identity ≡ identity_of config.owner place old
-    → sender ≡ sender_config config slots old
-    → port ≡ new_port identity old.sizes.max_subscribers config.allocation config.unit sender user_header
+    → last ≡ sequence_before config old → sender ≡ sender_config config slots old
+    → port ≡ new_port identity old.sizes.max_subscribers config.allocation config.unit last sender user_header
     → publisher.Updates may listed changes port outcome after → publishers_after ≡ added old.next_port after old.publishers
     → publisher_place old ≡ Some place → answered ≡ free_place old.publisher_list
     → IfSome answered (λ at. list_after ≡ entered at (record { publisher = old.next_port }) old.publisher_list)
     → AddsPublisher may config user_header place slots old (Ok old.next_port)
     (record old { next_port = old.next_port + 1; publisher_list = list_after; publishers = publishers_after })
-adds_publisher {T} {U} may config user_header place slots old listed changes identity sender port after outcome publishers_after
-    answered list_after whole changes_is identity_is sender_is port_is updates publishers_is place_is free entered_is =
+adds_publisher {T} {U} may config user_header place slots old listed changes identity last sender port after outcome publishers_after
+    answered list_after whole changes_is identity_is last_is sender_is port_is updates publishers_is place_is free entered_is =
     let there = entered-there answered place (record { publisher = old.next_port }) old.publisher_list list_after
     (free ∙ place_of-numbered (nat_lt (old.next_port + 1) (2 ^ 64)) (free_place old.publisher_list) place place_is) entered_is in (
       listed,
       whole,
       outcome,
       after,
-      rw (changes_is, port_is, identity_is, sender_is) at updates,
+      rw (changes_is, port_is, identity_is, last_is, sender_is) at updates,
       refl,
       ap (λ list. record old { next_port = old.next_port + 1; publisher_list = list; publishers = publishers_after }) there
           ∙ ap (λ publishers. record old {

@@ -19,6 +19,7 @@ use Rattle.iox_domain.specs.DomainPorts.PublisherUpdating.{FollowsTo, FollowsAll
 use Rattle.iox_domain.specs.DomainPorts.declared.publisher_port.PublisherPort.{PublisherPort}
 use Rattle.iox_domain.specs.DomainPorts.declared.subscriber_entry.SubscriberEntry.{SubscriberEntry}
 use Rattle.iox_domain.specs.PortLawsLaws.{IsListApart, IsTiedWell}
+use Rattle.iox_domain.specs.Gaps.{AreNumbered}
 use Rattle.iox_domain.specs.Order.{IsPartOf, leads_at}
 use Rattle.iox_domain.proofs.Books.{Books, Missing, got_leads}
 use Rattle.iox_domain.proofs.Once.{live_within}
@@ -46,12 +47,14 @@ record Left {T U : Type 0} (old new : PublisherPort T U) : Type 0 where
   sending : new.sender.uses.sending ≡ old.sender.uses.sending
   history : new.sender.uses.history ≡ old.sender.uses.history
   loans : new.sender.uses.loans ≡ old.sender.uses.loans
+  sequence : new.last_sequence ≡ old.last_sequence
 
 left_is : {T U : Type 0} (old new : PublisherPort T U) → new ≡ old → Left old new
 left_is old new is = record {
   sending = ap (λ port. port.sender.uses.sending) is;
   history = ap (λ port. port.sender.uses.history) is;
   loans = ap (λ port. port.sender.uses.loans) is;
+  sequence = ap (λ port. port.last_sequence) is;
 }
 
 left_on : {T U : Type 0} (old between new : PublisherPort T U) → Left old between → Left between new → Left old new
@@ -59,6 +62,7 @@ left_on old between new one two = record {
   sending = two.sending ∙ one.sending;
   history = two.history ∙ one.history;
   loans = two.loans ∙ one.loans;
+  sequence = two.sequence ∙ one.sequence;
 }
 
 -- the connection is as it was, and the publisher's history; what was tied to it is
@@ -137,7 +141,12 @@ let_go_mid {T} {U} places index subscriber sent taken place at true port gone ti
             gone = λ off. was_there same (leads_to subscriber (get_or port.readers at None)) refl;
           }
       | inr not ↦ midway_alike places index subscriber sent taken port new (record {
-        left = record { sending = ap (λ one. one.sender.uses.sending) is; history = history; loans = ap (λ one. one.sender.uses.loans) is };
+        left = record {
+          sending = ap (λ one. one.sender.uses.sending) is;
+          history = history;
+          loans = ap (λ one. one.sender.uses.loans) is;
+          sequence = ap (λ one. one.last_sequence) is;
+        };
         leads = other_leads index at subscriber port new
             (get_or-set_other gone.sender.uses.connections at index (ended (connection_of at gone)) nobody not ∙ ap
             (λ one. connection_of index one) is)
@@ -194,7 +203,7 @@ untied_mid next places index subscriber sent taken place port well not_its midwa
 reached_alike : {T U : Type 0} (index subscriber place : ℕ) (port : PublisherPort T U)
     → Alike index subscriber port (within_reach place port)
 reached_alike index subscriber place port = record {
-  left = record { sending = refl; history = refl; loans = refl };
+  left = record { sending = refl; history = refl; loans = refl; sequence = refl };
   leads = refl;
   waits = refl;
   ties = λ at tie. still_there port.ties.items (place + 1 - length port.ties.items) at ∙ tie;
@@ -217,14 +226,14 @@ one_member one other found first second = let both : Some one ≡ Some other = s
 let_go_left : {T U : Type 0} (at : ℕ) (live : Bool) (port gone : PublisherPort T U) → Left port gone
     → Left port (if live then record (with_connection_of at (ended (connection_of at gone)) gone) { readers = set gone.readers at None }
     else gone)
-let_go_left at true port gone left = record { sending = left.sending; history = left.history; loans = left.loans }
+let_go_left at true port gone left = record { sending = left.sending; history = left.history; loans = left.loans; sequence = left.sequence }
 let_go_left at false port gone left = left
 
 untied_left : {T U : Type 0} (place : ℕ) (tie : Option ℕ) (port : PublisherPort T U) → Left port (let_go_of place tie port)
 untied_left place None port = left_is port port refl
 untied_left {T} {U} place (Some at) port =
     let gone : PublisherPort T U = record port { ties = tie_put place None port.ties } in
-    let_go_left at (is_live at gone) port gone (record { sending = refl; history = refl; loans = refl })
+    let_go_left at (is_live at gone) port gone (record { sending = refl; history = refl; loans = refl; sequence = refl })
 
 none_after : {T U : Type 0} (place at : ℕ) (live : Bool) (port gone : PublisherPort T U) → gone.ties ≡ tie_put place None port.ties
     → get_or (if live then record (with_connection_of at (ended (connection_of at gone)) gone) { readers = set gone.readers at None }
@@ -243,7 +252,8 @@ greeted_left : {T U : Type 0} (at : ℕ) (live : Bool) (waiting : List (Message 
     → Left old (if live then greeted_at at waiting given else given)
 greeted_left at false waiting old given left = left
 greeted_left at true (message ∷ waiting) old given left = left
-greeted_left at true [] old given left = record { sending = left.sending; history = left.history; loans = left.loans }
+greeted_left at true [] old given left
+    = record { sending = left.sending; history = left.history; loans = left.loans; sequence = left.sequence }
 
 joined_ties : {T U : Type 0} (place at limit subscriber : ℕ) (found : Option ℕ) (old joined : PublisherPort T U)
     → Joins subscriber limit found (within_reach place old) (Ok at) joined → joined.ties ≡ (within_reach place old).ties
@@ -292,7 +302,7 @@ joined_mid {T} {U} places index subscriber sent taken place at limit member (Som
     (reached_alike index subscriber place old) midway in (
       midway_alike places index subscriber sent taken (within_reach place old) joined
           (alike_is index subscriber (within_reach place old) joined joins.1) reached_mid,
-      left_on old (within_reach place old) joined (record { sending = refl; history = refl; loans = refl })
+      left_on old (within_reach place old) joined (record { sending = refl; history = refl; loans = refl; sequence = refl })
           (left_is (within_reach place old) joined joins.1),
     )
 joined_mid {T} {U} places index subscriber sent taken place at limit member None old joined listed joins midway =
@@ -302,10 +312,11 @@ joined_mid {T} {U} places index subscriber sent taken place at limit member None
       sending = ap (λ port. port.sender.uses.sending) joins.2;
       history = ap (λ port. port.sender.uses.history) joins.2;
       loans = ap (λ port. port.sender.uses.loans) joins.2;
+      sequence = ap (λ port. port.last_sequence) joins.2;
     } in (
       made_mid places index subscriber sent taken place at member (within_reach place old) joined listed
           (connects_made member.value.subscriber limit at false (within_reach place old) joined joins) left reached_mid,
-      left_on old (within_reach place old) joined (record { sending = refl; history = refl; loans = refl }) left,
+      left_on old (within_reach place old) joined (record { sending = refl; history = refl; loans = refl; sequence = refl }) left,
     )
 
 -- of a connection to which nothing was delivered, and from which nothing was taken, the history waits
@@ -349,7 +360,7 @@ greeted_mid {T} {U} places index subscriber sent taken at true [] old given live
             gone = λ off. mid.gone (sym leads_is ∙ off);
           }
       | inr not ↦ midway_alike places index subscriber sent taken given new (record {
-        left = record { sending = refl; history = refl; loans = refl };
+        left = record { sending = refl; history = refl; loans = refl; sequence = refl };
         leads = other_leads index at subscriber given new
             (get_or-set_other given.sender.uses.connections at index (welcomed history (connection_of at given)) nobody not) refl;
         waits = ap (λ one. one.waiting) (get_or-set_other given.sender.uses.connections at index
@@ -403,7 +414,7 @@ ties_mid {T} {U} next places index subscriber sent taken place member old new (O
       | inr apart ↦ get_or-set_other joined.ties.items place other (Some at) None apart ∙ there
     ] in
     let alike : Alike index subscriber joined given
-    = record { left = record { sending = refl; history = refl; loans = refl }; leads = refl; waits = refl; ties = kept } in
+    = record { left = record { sending = refl; history = refl; loans = refl; sequence = refl }; leads = refl; waits = refl; ties = kept } in
     let greeted : Midway places index subscriber sent taken (tied place at joined) =
     greeted_mid places index subscriber sent taken at (is_live at given) (connection_of at given).waiting joined given refl refl alike
     free put_there between.0 in (
@@ -411,7 +422,7 @@ ties_mid {T} {U} next places index subscriber sent taken place member old new (O
           (alike_is index subscriber (tied place at joined) new is) greeted,
       left_on old joined new between.1 (left_on joined (tied place at joined) new
           (greeted_left at (is_live at given) (connection_of at given).waiting joined given
-          (record { sending = refl; history = refl; loans = refl })) (left_is (tied place at joined) new is)),
+          (record { sending = refl; history = refl; loans = refl; sequence = refl })) (left_is (tied place at joined) new is)),
     )
 
 -- a place is followed
@@ -494,6 +505,7 @@ pub record Updated {T U : Type 0} (index subscriber : ℕ) (sent taken : List (M
   pub books : Books index subscriber sent taken new
   pub sending : new.sender.uses.sending ≡ None
   pub loans : new.sender.uses.loans ≡ old.sender.uses.loans
+  pub sequence : new.last_sequence ≡ old.last_sequence
 
 midway_of : {T U : Type 0} (places : List (Option (Member SubscriberEntry))) (index subscriber : ℕ) (sent taken : List (Message T U))
     (port : PublisherPort T U) → port.stands ≡ true → Books index subscriber sent taken port → Missing index subscriber sent taken port
@@ -510,13 +522,14 @@ midway_of {T} {U} places index subscriber sent taken port stands books missing =
     none (inr left) = let no : true ≡ false = sym stands ∙ left.0 in absurd (cc)
 
 updated_of : {T U : Type 0} (places : List (Option (Member SubscriberEntry))) (index subscriber : ℕ) (sent taken : List (Message T U))
-    (old new : PublisherPort T U) → old.sender.uses.sending ≡ None → Left old new → Midway places index subscriber sent taken new
-    → Updated index subscriber sent taken old new
-updated_of places index subscriber sent taken old new silent left midway =
+    (old new : PublisherPort T U) → old.sender.uses.sending ≡ None → AreNumbered sent old.last_sequence → Left old new
+    → Midway places index subscriber sent taken new → Updated index subscriber sent taken old new
+updated_of places index subscriber sent taken old new silent numbered left midway =
     let none : new.sender.uses.sending ≡ None = left.sending ∙ silent in
     record {
       books = record {
         history = midway.history;
+        numbered = subst (λ last. AreNumbered sent last) (sym left.sequence) numbered;
         last = λ message sending. let no : None ≡ Some message = sym none ∙ sending in cc;
         left = λ gone. none;
         part = midway.part;
@@ -525,6 +538,7 @@ updated_of places index subscriber sent taken old new silent left midway =
       };
       sending = none;
       loans = left.loans;
+      sequence = left.sequence;
     }
 
 updated_if : {T U : Type 0} (next : ℕ) (places : List (Option (Member SubscriberEntry))) (index subscriber : ℕ)
@@ -546,7 +560,7 @@ updated_if {T} {U} next places index subscriber sent taken false may listed chan
     let begun_well : IsTiedWell next places begun = well_alike next places old begun (alike_still old begun refl refl refl refl) well in
     let all = follows_all_mid next places index subscriber sent taken may 0 listed None begun new answer list
     (λ k. ap (λ n. get_or places n None) (omega arith) ∙ same k) begun_well updates mid in
-    (all.0, left_on old begun new (record { sending = refl; history = refl; loans = refl }) all.1)
+    (all.0, left_on old begun new (record { sending = refl; history = refl; loans = refl; sequence = refl }) all.1)
 
 pub updates_books : {T U : Type 0} (next : ℕ) (places : List (Option (Member SubscriberEntry))) (index subscriber : ℕ)
     (sent taken : List (Message T U)) (may : DegradationInfo → DegradationAction → Type 0)
@@ -559,4 +573,4 @@ pub updates_books : {T U : Type 0} (next : ℕ) (places : List (Option (Member S
 updates_books next places index subscriber sent taken may listed changes old new answer list same well stands silent updates books missing =
     let all = updated_if next places index subscriber sent taken (old.seen == changes) may listed changes old new answer list same well
     updates (midway_of places index subscriber sent taken old stands books missing) in
-    updated_of places index subscriber sent taken old new silent all.1 all.0
+    updated_of places index subscriber sent taken old new silent books.numbered all.1 all.0

@@ -1,10 +1,11 @@
 -- What each call of a port leaves held.
 use Rattle.std.proofs.Common.{arith, ◌≡◌, ◌≢◌, ◌+◌, ◌==◌, ◌&&◌, [], ℕ, Bool, true, false, List, Option, None, Some, Result, Ok, Err, refl}
-use Rattle.std.proofs.Common.{sym, ap, ◌∙◌, subst}
+use Rattle.std.proofs.Common.{sym, ap, ◌∙◌, subst, is_some}
 use Rattle.std.proofs.lemmas.Bool.{eq-eqb}
 use Rattle.std.proofs.lemmas.List.Elements.{All-nil}
 use Rattle.std.specs.List.{All}
 use Rattle.std.specs.declared.alloc.AllocError.{AllocError}
+use Rattle.iox_domain.specs.DomainValues.Sequences.{before_first}
 use Rattle.iox_domain.specs.DomainValues.declared.backpressure.BackpressureDecision.{BackpressureDecision}
 use Rattle.iox_domain.specs.DomainValues.declared.backpressure.BackpressureInfo.{BackpressureInfo}
 use Rattle.iox_domain.specs.DomainValues.declared.connection_failure.ConnectionFailure.{ConnectionFailure}
@@ -31,7 +32,7 @@ use Rattle.iox_domain.specs.Calls.{SubscriberLeaves, Happens}
 use Rattle.iox_domain.specs.PortLawsLaws.{IsTidy, IsSoundEntry, IsSound, gives_back, HeldStays}
 use Rattle.iox_domain.specs.DomainValues.Sizes.{buffer_of}
 use Rattle.iox_domain.specs.Making.{slots_needed, publisher_place, subscriber_place, identity_of, sender_config, AddsPublisher}
-use Rattle.iox_domain.specs.Making.{CreatesPublisher, AddsSubscriber, CreatesSubscriber}
+use Rattle.iox_domain.specs.Making.{sequence_before, CreatesPublisher, AddsSubscriber, CreatesSubscriber}
 use Rattle.iox_domain.specs.Ports.{AtPublisher, AtSubscriber, with_publisher}
 use Rattle.iox_domain.specs.PortsPublishing.{is_free}
 use Rattle.iox_domain.specs.PortsPublishing as publishing
@@ -139,6 +140,10 @@ receives_keep true may list port after ports ports_after answer receives =
 new_tidy : {T U : Type 0} (port after : PublisherPort T U) → port.sender.uses.connections ≡ [] → PortKeeps port after → IsTidy after
 new_tidy port after none keeps = tidy_after port after keeps (λ index vacant. rw none refl)
 
+numbered_first : (numbered : Bool) (first : ℕ) → is_some (before_first numbered first) ≡ numbered
+numbered_first true first = refl
+numbered_first false first = refl
+
 added_keeps : {T U : Type 0} (spared : Taken → Type 0) (may : DegradationInfo → DegradationAction → Type 0) (config : PublisherConfig)
     (user_header : U) (place slots : ℕ) (old new : ServicePorts T U) (outcome : Result ℕ AllocError)
     → AddsPublisher may config user_header place slots old outcome new → CallKeeps spared old new
@@ -146,13 +151,16 @@ added_keeps spared may config user_header place slots old new (Err error) adds =
 added_keeps {T} {U} spared may config user_header place slots old new (Ok number) adds =
     let (listed, is_list, outcome, port, updates, is_number, is_new) = adds in
     let first : PublisherPort T U = new_port (identity_of config.owner place old) old.sizes.max_subscribers config.allocation
-    config.unit (sender_config config slots old) user_header in
+    config.unit (sequence_before config old) (sender_config config slots old) user_header in
     let kept : PortKeeps first port = port_updates may listed old.subscriber_list.changes first port outcome updates in
     let tidy : IsTidy port = new_tidy first port refl kept in
     let made : (made_for port ≡ allowed_by old.sizes)
     × ((index : ℕ) → IsWithin (allowed_by old.sizes) (connection_of index port))
-    = made_still (allowed_by old.sizes) first port kept.sizes kept.within
-    (refl, λ index. nobody_within (Message T U) (allowed_by old.sizes)) in
+    = made_still (allowed_by old.sizes) first port kept.sizes kept.within (
+      ap (λ numbered. record (allowed_by old.sizes) { numbered = numbered })
+          (numbered_first old.sizes.sequence_numbers config.first_sequence),
+      λ index. nobody_within (Message T U) (allowed_by old.sizes),
+    ) in
     call_to spared old new _ is_new (record {
       sound = λ sound. all_came (IsSoundEntry (old.next_port + 1)) old.next_port old.publishers port (omega arith, tidy)
           (λ one is. (is.0, tidy))

@@ -3,6 +3,8 @@ use Rattle.std.proofs.Common.{arith, ◌≡◌, ◌≢◌, ◌+◌, ◌≤◌, �
 use Rattle.std.proofs.Common.{get_or, Option, None, Some, Result, Ok, Err, refl, sym, ap, ◌∙◌, subst, if◌then◌else◌, inl, inr, take}
 use Rattle.std.proofs.lemmas.Bool.{cases_eq, eqb-true, eq-eqb}
 use Rattle.std.specs.declared.alloc.AllocError.{AllocError}
+use Rattle.iox_domain.specs.DomainValues.declared.service_sizes.ServiceSizes.{ServiceSizes}
+use Rattle.iox_domain.specs.DomainValues.Sequences.{next_sequence}
 use Rattle.iox_domain.specs.DomainValues.declared.backpressure.BackpressureDecision.{BackpressureDecision}
 use Rattle.iox_domain.specs.DomainValues.declared.backpressure.BackpressureInfo.{BackpressureInfo}
 use Rattle.iox_domain.specs.DomainValues.declared.connection_failure.ConnectionFailure.{ConnectionFailure}
@@ -34,12 +36,13 @@ use Rattle.iox_domain.specs.Calls.{Retries, GivesSendUp, PublisherLeaves, Subscr
 use Rattle.iox_domain.specs.Calls.{SubscriberLeaves, Happens}
 use Rattle.iox_domain.specs.PortLawsLaws.{IsSound, IsApart, IsTiedWell}
 use Rattle.iox_domain.specs.Order.{IsPartOf, leads_at, leads_at_port, leads_in, has_begun, message_of, sent_by, is_named, taken_by}
-use Rattle.iox_domain.specs.Order.{Account, account_on, account_after, Happen, nothing_yet, InOrder}
+use Rattle.iox_domain.specs.Order.{sequence_at_port, sequence_in, Account, account_on, account_after, Happen, nothing_yet, InOrder}
+use Rattle.iox_domain.proofs.Gaps.{numbered_none}
 use Rattle.iox_domain.proofs.Coming.{lookup-came}
 use Rattle.iox_domain.specs.Lending.{loan_in, loan_at_port}
 use Rattle.iox_domain.specs.Lending as lending
 use Rattle.iox_domain.specs.Making.{slots_needed, publisher_place, subscriber_place, identity_of, sender_config, AddsPublisher}
-use Rattle.iox_domain.specs.Making.{CreatesPublisher, AddsSubscriber, CreatesSubscriber}
+use Rattle.iox_domain.specs.Making.{sequence_before, CreatesPublisher, AddsSubscriber, CreatesSubscriber}
 use Rattle.iox_domain.specs.Ports.{AtPublisher, AtSubscriber, no_ports, with_publisher}
 use Rattle.iox_domain.specs.PortsPublishing.{is_free, is_blocked}
 use Rattle.iox_domain.specs.PortsPublishing as publishing
@@ -244,6 +247,7 @@ new_books {T} {U} index subscriber port history silent none stands =
     let empty : (connection_of index port).waiting ≡ [] = ap (λ all. (get_or all index nobody).waiting) none in
     record {
       history = part_nothing port.sender.uses.history [] history;
+      numbered = numbered_none T U port.last_sequence;
       last = λ message sending. let no : None ≡ Some message = sym silent ∙ sending in cc;
       left = λ left. silent;
       part = λ leads. part_nothing (connection_of index port).waiting [] empty;
@@ -277,7 +281,7 @@ call_added publisher index subscriber led may config user_header place slots old
 call_added {T} {U} publisher index subscriber led may config user_header place slots old new (Ok number) sound apart adds =
     let (listed, is_list, outcome, port, updates, is_number, is_new) = adds in
     let first : PublisherPort T U = new_port (identity_of config.owner place old) old.sizes.max_subscribers config.allocation
-    config.unit (sender_config config slots old) user_header in
+    config.unit (sequence_before config old) (sender_config config slots old) user_header in
     let are : new.publishers ≡ publishers.added old.next_port port old.publishers = ap (λ one. one.publishers) is_new in
     let next : new.next_port ≡ old.next_port + 1 = ap (λ one. one.next_port) is_new in
     let well : IsTiedWell old.next_port old.subscriber_list.places first
@@ -439,25 +443,28 @@ call_releases publisher index subscriber led (Some port) number given old new an
 sent_other : {T U : Type 0} (publisher number slot : ℕ) (answer : Option (Result Sent SendError)) (old : ServicePorts T U)
     → publisher ≢ number → sent_by publisher (Sends number slot answer) old ≡ []
 sent_other publisher number slot answer old not =
-    ap (λ b. if b && has_begun answer then message_of (loan_in number slot old) else [])
+    ap (λ b. if b && has_begun answer then message_of (sequence_in number old) (loan_in number slot old) else [])
     (bool_false (publisher == number) (λ same. not (eqb-true publisher number same)))
 
 sent_none : {T U : Type 0} (publisher number slot : ℕ) (answer : Option (Result Sent SendError)) (old : ServicePorts T U)
     → answer ≡ None → sent_by publisher (Sends number slot answer) old ≡ []
 sent_none publisher number slot answer old is
-    = ap (λ one. if (publisher == number) && has_begun one then message_of (loan_in number slot old) else []) is ∙ by_case
+    = ap (λ one. if (publisher == number) && has_begun one then message_of (sequence_in number old) (loan_in number slot old) else []) is
+    ∙ by_case
     (publisher == number)
   where
-    by_case : (same : Bool) → (if same && false then message_of (loan_in number slot old) else []) ≡ []
+    by_case : (same : Bool) → (if same && false then message_of (sequence_in number old) (loan_in number slot old) else []) ≡ []
     by_case true = refl
     by_case false = refl
 
 sent_here : {T U : Type 0} (publisher number slot : ℕ) (value : Result Sent SendError) (port : PublisherPort T U)
     (old : ServicePorts T U) → publisher ≡ number → port_of number old.publishers ≡ Some port
-    → sent_so (Some value) (loan_of slot port) ≡ sent_by publisher (Sends number slot (Some value)) old
+    → sent_so (next_sequence port.last_sequence) (Some value) (loan_of slot port)
+    ≡ sent_by publisher (Sends number slot (Some value)) old
 sent_here publisher number slot value port old same there =
-    sym (ap (λ b. if b && has_begun (Some value) then message_of (loan_in number slot old) else []) (eq-eqb publisher number same)
-    ∙ ap (λ found. if has_begun (Some value) then message_of (loan_at_port slot found) else []) there)
+    sym (ap (λ b. if b && has_begun (Some value) then message_of (sequence_in number old) (loan_in number slot old) else [])
+    (eq-eqb publisher number same)
+    ∙ ap (λ found. if has_begun (Some value) then message_of (sequence_at_port found) (loan_at_port slot found) else []) there)
 
 with_takes : {T U : Type 0} (publisher index subscriber : ℕ) (led : Bool) (sends : List (Message T U)) (old new : ServicePorts T U)
     → CallBooks publisher index subscriber led sends [] old new
@@ -552,7 +559,8 @@ call_books publisher index subscriber led overrides may decide (Sends number slo
     (call_publisher publisher index subscriber led (sent_by publisher (Sends number slot answer) old) number
     (publishing.SendsOne may decide old.subscriber_list slot) (port_of number old.publishers) old new answer
     (sent_other publisher number slot answer old) (sent_none publisher number slot answer old) refl
-    (λ port after value same is_found is_answer sends. sends_so index subscriber port after (sent_so (Some value) (loan_of slot port)) _
+    (λ port after value same is_found is_answer sends.
+    sends_so index subscriber port after (sent_so (next_sequence port.last_sequence) (Some value) (loan_of slot port)) _
     (sent_here publisher number slot value port old same is_found ∙ ap (λ one. sent_by publisher (Sends number slot one) old)
     (sym is_answer))
     (port_sends old.next_port old.subscriber_list index subscriber may decide slot port after value apart.list
@@ -561,12 +569,12 @@ call_books publisher index subscriber led overrides may decide (Receives number 
     = call_receives publisher index subscriber led may number (subscriber_of number old.subscribers) old new answer happens
 
 -- What holds after calls.
-record Holds {T U : Type 0} (publisher index subscriber : ℕ) (account : Account T U) (ports : ServicePorts T U) : Type 0 where
+pub record Holds {T U : Type 0} (publisher index subscriber : ℕ) (account : Account T U) (ports : ServicePorts T U) : Type 0 where
   sound : IsSound ports
   apart : IsApart ports
   sole : IsSole publisher ports.publishers
   fresh : ports.next_port ≤ publisher → account.sent ≡ []
-  books : (port : PublisherPort T U) → port_of publisher ports.publishers ≡ Some port
+  pub books : (port : PublisherPort T U) → port_of publisher ports.publishers ≡ Some port
       → Books index subscriber account.sent account.taken port
 
 -- of a connection that isn't there nothing was taken
@@ -574,6 +582,7 @@ books_off : {T U : Type 0} (index subscriber : ℕ) (sent taken : List (Message 
     → leads_at index subscriber port ≡ false → Books index subscriber sent taken port → Books index subscriber sent [] port
 books_off index subscriber sent taken port off books = record {
   history = books.history;
+  numbered = books.numbered;
   last = books.last;
   left = books.left;
   part = λ leads. let no : false ≡ true = sym off ∙ leads in absurd (cc);
@@ -609,7 +618,7 @@ sent_nothing : {T U : Type 0} (publisher : ℕ) (call : PortCall T U) (old : Ser
     → sent_by publisher call old ≡ []
 sent_nothing publisher (Sends number slot answer) old none = elim (cases_eq publisher number) [
   | inl same ↦
-      ap (λ found. if (publisher == number) && has_begun answer then message_of (loan_at_port slot found) else [])
+      ap (λ found. if (publisher == number) && has_begun answer then message_of (sequence_at_port found) (loan_at_port slot found) else [])
       (ap (λ n. port_of n old.publishers) (sym same) ∙ none) ∙ nothing ((publisher == number) && has_begun answer)
   | inr other ↦ sent_other publisher number slot answer old other
 ]
@@ -662,7 +671,22 @@ holds_after publisher index subscriber overrides may decide ((call, next) ∷ ca
     holds_after publisher index subscriber overrides may decide calls next new (account_on publisher index subscriber call old account)
     further (holds_call publisher index subscriber overrides may decide call old next account happens holds)
 
-order_of : {T U : Type 0} (publisher index subscriber : ℕ) (account : Account T U) (ports : ServicePorts T U)
+-- it holds after any calls from a new service on
+pub holds_so : {T U : Type 0} (publisher index subscriber : ℕ) (overrides : ℕ → ℕ → Type 0)
+    (may : DegradationInfo → DegradationAction → Type 0) (decide : BackpressureInfo → BackpressureDecision → Type 0)
+    (service : ℕ) (sizes : ServiceSizes) (calls : List (PortCall T U × ServicePorts T U)) (new : ServicePorts T U)
+    → Happen overrides may decide calls (no_ports service sizes) new
+    → Holds publisher index subscriber (account_after publisher index subscriber calls (no_ports service sizes) nothing_yet) new
+holds_so {T} {U} publisher index subscriber overrides may decide service sizes calls new happen =
+    holds_after publisher index subscriber overrides may decide calls (no_ports service sizes) new nothing_yet happen (record {
+      sound = (held_stays {T = T} {U = U} overrides may decide).begins service sizes (no_ports service sizes) refl;
+      apart = new_apart service sizes (no_ports service sizes) refl;
+      sole = tt;
+      fresh = λ from. refl;
+      books = λ port there. let no : None ≡ Some port = there in absurd (cc);
+    })
+
+pub order_of : {T U : Type 0} (publisher index subscriber : ℕ) (account : Account T U) (ports : ServicePorts T U)
     (found : Option (PublisherPort T U)) → port_of publisher ports.publishers ≡ found → leads_at_port index subscriber found ≡ true
     → Holds publisher index subscriber account ports
     → IsPartOf (account.taken ++ (connection_in publisher index ports.publishers).waiting) account.sent
@@ -703,18 +727,9 @@ in_order {T} {U} overrides may decide = record {
       let first : ServicePorts T U = no_ports service sizes in
       order_of publisher index subscriber (account_after publisher index subscriber calls first nothing_yet) new
       (port_of publisher new.publishers) refl led
-      (holds_after publisher index subscriber overrides may decide calls first new nothing_yet happen (record {
-        sound = (held_stays {T = T} {U = U} overrides may decide).begins service sizes first refl;
-        apart = new_apart service sizes first refl;
-        sole = tt;
-        fresh = λ from. refl;
-        books = λ port there. let no : None ≡ Some port = there in absurd (cc);
-      }));
+      (holds_so publisher index subscriber overrides may decide service sizes calls new happen);
   names = λ service sizes calls old new subscriber one happen happens.
-      let first : ServicePorts T U = no_ports service sizes in
-      let holds : Holds one.publisher one.index subscriber (account_after one.publisher one.index subscriber calls first nothing_yet)
-      old = holds_after one.publisher one.index subscriber overrides may decide calls first old nothing_yet happen
-      (begins_so service sizes one.publisher one.index subscriber) in
+      let holds = holds_so one.publisher one.index subscriber overrides may decide service sizes calls old happen in
       let (message, taken, slot) = slot_at may subscriber (subscriber_of subscriber old.subscribers) old new one happens holds.sole in (
         message,
         named_so (one.publisher == one.publisher) (one.index == one.index)
@@ -723,13 +738,3 @@ in_order {T} {U} overrides may decide = record {
         slot,
       );
 }
-  where
-    begins_so : (service : ℕ) (sizes : _) (publisher index subscriber : ℕ)
-        → Holds {T = T} {U = U} publisher index subscriber nothing_yet (no_ports service sizes)
-    begins_so service sizes publisher index subscriber = record {
-      sound = (held_stays {T = T} {U = U} overrides may decide).begins service sizes (no_ports service sizes) refl;
-      apart = new_apart service sizes (no_ports service sizes) refl;
-      sole = tt;
-      fresh = λ from. refl;
-      books = λ port there. let no : None ≡ Some port = there in absurd (cc);
-    }

@@ -3,6 +3,7 @@ use Rattle.std.proofs.Common.{arith, ◌≡◌, ◌+◌, ◌-◌, ◌<◌, ◌�
 use Rattle.std.proofs.Common.{nat_lt, slice_get, remove, Option, None, Some, Result, Ok, Err, if◌then◌else◌, refl, sym, ap}
 use Rattle.std.proofs.Math.Logic.{⊎_elim}
 use Rattle.std.proofs.lemmas.List.{length-map}
+use Rattle.iox_domain.specs.DomainValues.Sequences.{is_used_up}
 use Rattle.iox_domain.specs.DomainValues.declared.backpressure.BackpressureDecision.{BackpressureDecision}
 use Rattle.iox_domain.specs.DomainValues.declared.backpressure.BackpressureInfo.{BackpressureInfo}
 use Rattle.iox_domain.specs.DomainValues.declared.connection_failure.ConnectionFailure.{ConnectionFailure}
@@ -20,6 +21,7 @@ use Rattle.iox_domain.specs.DomainPorts.Loaning.{first_refusal}
 use Rattle.iox_domain.specs.DomainPorts.Loaning as loaning
 use Rattle.iox_domain.specs.DomainPorts.Progress.{tried_again}
 use Rattle.iox_domain.specs.DomainPorts.Sending.{begun_at, begun_by, dropped_at, ready_loan, with_progress, SendsAfter, SendsIf, Sends}
+use Rattle.iox_domain.specs.DomainPorts.Sending.{SendsStanding}
 use Rattle.iox_domain.specs.DomainPorts.Writing.{place_of, changed_there, changed_if, given_up_at, given_up}
 use Rattle.iox_domain.specs.DomainPorts.declared.meeting.Sent.{Sent}
 use Rattle.iox_domain.specs.DomainPorts.declared.publisher_port.PublisherPort.{PublisherPort}
@@ -196,19 +198,28 @@ sends_after may at (Ok done) updated answer after (finished, finishes, is) = ome
   begun_by_spares at (slice_get updated.sender.uses.loans at) updated,
 )
 
-sends_if : {T U : Type 0} (stands : Bool) (may_degrade : DegradationInfo → DegradationAction → Type 0)
+sends_standing : {T U : Type 0} (used : Bool) (may_degrade : DegradationInfo → DegradationAction → Type 0)
     (may : BackpressureInfo → BackpressureDecision → Type 0) (listed : List (Option (Member SubscriberEntry))) (changes at : ℕ)
     (port : PublisherPort T U) (answer : Option (Result Sent SendError)) (after : PublisherPort T U)
-    → SendsIf stands may_degrade may listed changes at port answer after → spare_loans after ≤ spare_loans port + 1
-sends_if false may_degrade may listed changes at port answer after sends =
+    → SendsStanding used may_degrade may listed changes at port answer after → spare_loans after ≤ spare_loans port + 1
+sends_standing true may_degrade may listed changes at port answer after sends =
     omega (arith, as_spare (dropped_at at port) after (ap allowance_of sends.1), dropped_spares at port)
-sends_if true may_degrade may listed changes at port answer after (outcome, updated, updates, sends) =
+sends_standing false may_degrade may listed changes at port answer after (outcome, updated, updates, sends) =
     omega (
       arith,
       as_spare port updated (updates_allows may_degrade listed changes port outcome updated updates),
       sends_after may at
           outcome updated answer after sends,
     )
+
+sends_if : {T U : Type 0} (stands : Bool) (may_degrade : DegradationInfo → DegradationAction → Type 0)
+    (may : BackpressureInfo → BackpressureDecision → Type 0) (listed : List (Option (Member SubscriberEntry))) (changes at : ℕ)
+    (port : PublisherPort T U) (answer : Option (Result Sent SendError)) (after : PublisherPort T U)
+    → SendsIf stands may_degrade may listed changes at port answer after → spare_loans after ≤ spare_loans port + 1
+sends_if false may_degrade may listed changes at port answer after sends =
+    omega (arith, as_spare (dropped_at at port) after (ap allowance_of sends.1), dropped_spares at port)
+sends_if true may_degrade may listed changes at port answer after sends
+    = sends_standing (is_used_up port.last_sequence) may_degrade may listed changes at port answer after sends
 
 sends_ready : {T U : Type 0} (may_degrade : DegradationInfo → DegradationAction → Type 0)
     (may : BackpressureInfo → BackpressureDecision → Type 0) (listed : List (Option (Member SubscriberEntry))) (changes : ℕ)

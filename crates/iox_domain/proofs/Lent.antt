@@ -8,6 +8,7 @@ use Rattle.std.proofs.Math.Dec.{eqb}
 use Rattle.std.proofs.lemmas.Bool.{cases_Bool}
 use Rattle.std.proofs.lemmas.Bool.Decides.{eqb_tells}
 use Rattle.iox_domain.specs.Container.declared.container.Member.{Member}
+use Rattle.iox_domain.specs.DomainValues.Sequences.{is_used_up}
 use Rattle.iox_domain.specs.DomainValues.declared.backpressure.BackpressureDecision.{BackpressureDecision}
 use Rattle.iox_domain.specs.DomainValues.declared.backpressure.BackpressureInfo.{BackpressureInfo}
 use Rattle.iox_domain.specs.DomainValues.declared.connection_failure.ConnectionFailure.{ConnectionFailure}
@@ -24,7 +25,7 @@ use Rattle.iox_domain.proofs.DomainPorts.Finding.{no_loan, at_place, at_none}
 use Rattle.iox_domain.specs.DomainPorts.Loaning as loaning
 use Rattle.iox_domain.specs.DomainPorts.Lengths.{extent}
 use Rattle.iox_domain.specs.DomainPorts.Loaning.{with_sender, first_refusal, LendsBeyond, LendsWhere, LendsUnless, Lends}
-use Rattle.iox_domain.specs.DomainPorts.Sending.{ready_at, Sends, SendsIf, SendsAfter}
+use Rattle.iox_domain.specs.DomainPorts.Sending.{ready_at, Sends, SendsStanding, SendsIf, SendsAfter}
 use Rattle.iox_domain.specs.DomainPorts.Writing.{loan_of}
 use Rattle.iox_domain.specs.DomainPorts.declared.publisher_port.PublisherPort.{PublisherPort}
 use Rattle.iox_domain.specs.DomainPorts.declared.subscriber_entry.SubscriberEntry.{SubscriberEntry}
@@ -185,12 +186,20 @@ answers_after : {T U : Type 0} (may : BackpressureInfo → BackpressureDecision 
 answers_after may at (Err failure) updated new sends = let is : None ≡ Some _ = sends.0 in cc
 answers_after may at (Ok done) updated new sends = let is : None ≡ Some _ = sends.2 in cc
 
+answers_standing : {T U : Type 0} (used : Bool) (may_degrade : DegradationInfo → DegradationAction → Type 0)
+    (may : BackpressureInfo → BackpressureDecision → Type 0) (listed : List (Option (Member SubscriberEntry))) (changes at : ℕ)
+    (old new : PublisherPort T U)
+    → SendsStanding used may_degrade may listed changes at old None new → ⊥
+answers_standing true may_degrade may listed changes at old new sends = let is : None ≡ Some _ = sends.0 in cc
+answers_standing false may_degrade may listed changes at old new sends = answers_after may at sends.0 sends.1 new sends.3
+
 answers_if : {T U : Type 0} (stands : Bool) (may_degrade : DegradationInfo → DegradationAction → Type 0)
     (may : BackpressureInfo → BackpressureDecision → Type 0) (listed : List (Option (Member SubscriberEntry))) (changes at : ℕ)
     (old new : PublisherPort T U)
     → SendsIf stands may_degrade may listed changes at old None new → ⊥
 answers_if false may_degrade may listed changes at old new sends = let is : None ≡ Some _ = sends.0 in cc
-answers_if true may_degrade may listed changes at old new sends = answers_after may at sends.0 sends.1 new sends.3
+answers_if true may_degrade may listed changes at old new sends
+    = answers_standing (is_used_up old.last_sequence) may_degrade may listed changes at old new sends
 
 -- only where no loan may be sent there is no answer
 pub none_ready : {T U : Type 0} (may_degrade : DegradationInfo → DegradationAction → Type 0)

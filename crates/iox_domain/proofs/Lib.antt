@@ -1,4 +1,5 @@
 pub mod Keeping
+pub mod Limits
 pub mod Homely
 mod Apart
 pub mod Agreeing
@@ -29,6 +30,7 @@ pub mod Roomy
 pub mod Once
 pub mod AtMostOnce
 pub mod PortLawsParts
+pub mod Gaps
 pub mod Books
 pub mod Followed
 pub mod Sole
@@ -38,6 +40,7 @@ pub mod BookedSends
 pub mod BookedTakes
 pub mod TakenHeld
 pub mod InOrder
+pub mod GapsTold
 pub mod Tried
 pub mod Keys
 pub mod Fitting

@@ -28,11 +28,12 @@ GotThere {T} {U} tie index old new =
     ⊎ ((message : Message T U) × (tie ≡ Some index) × (old.sender.uses.sending ≡ Some message)
     × (connection_of index new ≡ offered old.sender.uses.overflows message (connection_of index old)))
 
--- who reads where, whether the publisher stands, and its history are as before
+-- who reads where, whether the publisher stands, its history and the last number of its messages are as before
 pub record Rest {T U : Type 0} (old new : PublisherPort T U) : Type 0 where
   pub readers : new.readers ≡ old.readers
   pub stands : new.stands ≡ old.stands
   pub history : new.sender.uses.history ≡ old.sender.uses.history
+  pub sequence : new.last_sequence ≡ old.last_sequence
 
 -- what a message leaves as it is
 pub record Same {T U : Type 0} (old new : PublisherPort T U) : Type 0 where
@@ -49,8 +50,8 @@ same_on old between new one two = record {
   rest = record {
     readers = two.rest.readers ∙ one.rest.readers;
     stands = two.rest.stands ∙ one.rest.stands;
-    history
-        = two.rest.history ∙ one.rest.history;
+    history = two.rest.history ∙ one.rest.history;
+    sequence = two.rest.sequence ∙ one.rest.sequence;
   };
 }
 
@@ -64,8 +65,8 @@ same_progress old new progress is = record {
   rest = record {
     readers = ap (λ port. port.readers) is;
     stands = ap (λ port. port.stands) is;
-    history
-        = ap (λ port. port.sender.uses.history) is;
+    history = ap (λ port. port.sender.uses.history) is;
+    sequence = ap (λ port. port.last_sequence) is;
   };
 }
 
@@ -74,25 +75,26 @@ same_is old new is = same_progress old new old.progress is
 
 message_same : {T U : Type 0} (index : ℕ) (message : Option (Message T U)) (port : PublisherPort T U)
     → Same port (with_message index message port) × ((with_message index message port).progress ≡ port.progress)
-message_same index None port
-    = (record { ties = refl; sending = refl; overflows = refl; rest = record { readers = refl; stands = refl; history = refl } }, refl)
-message_same index (Some message) port
-    = (record { ties = refl; sending = refl; overflows = refl; rest = record { readers = refl; stands = refl; history = refl } }, refl)
+message_same index None port = (same_is port port refl, refl)
+message_same index (Some message) port = (
+  record {
+    ties = refl;
+    sending = refl;
+    overflows = refl;
+    rest = record { readers = refl; stands = refl; history = refl; sequence = refl };
+  },
+  refl,
+)
 
 put_same : {T U : Type 0} (live : Bool) (index : ℕ) (port : PublisherPort T U)
     → Same port (if live then with_message index port.sender.uses.sending port else port)
     × ((if live then with_message index port.sender.uses.sending port else port).progress ≡ port.progress)
 put_same true index port = message_same index port.sender.uses.sending port
-put_same false index port
-    = (record { ties = refl; sending = refl; overflows = refl; rest = record { readers = refl; stands = refl; history = refl } }, refl)
+put_same false index port = (same_is port port refl, refl)
 
 pub met_same : {T U : Type 0} (tie : Option ℕ) (port : PublisherPort T U) → Same port (met_by tie port)
     × ((met_by tie port).progress ≡ port.progress)
-met_same None port = (
-  record
-      { ties = refl; sending = refl; overflows = refl; rest = record { readers = refl; stands = refl; history = refl } },
-  refl,
-)
+met_same None port = (same_is port port refl, refl)
 met_same (Some index) port = put_same (is_live index port) index port
 
 -- a connection that goes on is there

@@ -33,7 +33,7 @@ use Rattle.iox_domain.specs.Calls.{SubscriberLeaves, Happens}
 use Rattle.iox_domain.specs.PortLawsLaws.{IsListApart, IsTiedWell, IsWellEntry, IsApart}
 use Rattle.iox_domain.specs.DomainValues.Sizes.{buffer_of}
 use Rattle.iox_domain.specs.Making.{slots_needed, publisher_place, subscriber_place, identity_of, sender_config, AddsPublisher}
-use Rattle.iox_domain.specs.Making.{CreatesPublisher, AddsSubscriber, CreatesSubscriber}
+use Rattle.iox_domain.specs.Making.{sequence_before, CreatesPublisher, AddsSubscriber, CreatesSubscriber}
 use Rattle.iox_domain.specs.Ports.{AtPublisher, AtSubscriber, no_ports, with_publisher}
 use Rattle.iox_domain.specs.PortsPublishing.{is_free}
 use Rattle.iox_domain.specs.PortsPublishing as publishing
@@ -176,7 +176,7 @@ added_apart may config user_header place slots old new (Err error) adds = apart_
 added_apart {T} {U} may config user_header place slots old new (Ok number) adds =
     let (listed, is_list, outcome, port, updates, is_number, is_new) = adds in
     let first : PublisherPort T U = new_port (identity_of config.owner place old) old.sizes.max_subscribers config.allocation
-    config.unit (sender_config config slots old) user_header in
+    config.unit (sequence_before config old) (sender_config config slots old) user_header in
     apart_to old new _ is_new (record {
       apart = λ apart.
           let places = old.subscriber_list.places in

@@ -9,6 +9,7 @@ use Rattle.std.proofs.Math.Dec.{eqb}
 use Rattle.std.proofs.Math.Logic.{⊎_elim}
 use Rattle.std.proofs.lemmas.List.{length-replicate}
 use Rattle.iox_domain.specs.Container.declared.container.Member.{Member}
+use Rattle.iox_domain.specs.DomainValues.Sequences.{is_used_up}
 use Rattle.iox_domain.specs.DomainValues.declared.backpressure.BackpressureDecision.{BackpressureDecision}
 use Rattle.iox_domain.specs.DomainValues.declared.backpressure.BackpressureInfo.{BackpressureInfo}
 use Rattle.iox_domain.specs.DomainValues.declared.connection_failure.ConnectionFailure.{ConnectionFailure}
@@ -23,7 +24,7 @@ use Rattle.iox_domain.proofs.DomainPorts.Lent.{loan_tells}
 use Rattle.iox_domain.specs.DomainPorts.Lengths.{extent}
 use Rattle.iox_domain.specs.DomainPorts.Loaning.{with_sender, first_refusal, LendsHere, LendsBeyond, LendsWhere, LendsUnless, Loans}
 use Rattle.iox_domain.specs.DomainPorts.Loaning as loaning
-use Rattle.iox_domain.specs.DomainPorts.Sending.{ready_loan, begun_at, begun_by, Sends, SendsIf, SendsAfter}
+use Rattle.iox_domain.specs.DomainPorts.Sending.{ready_loan, begun_at, begun_by, Sends, SendsStanding, SendsIf, SendsAfter}
 use Rattle.iox_domain.specs.DomainPorts.Writing.{loan_of, changed_if, changed_there}
 use Rattle.iox_domain.specs.DomainPorts.declared.meeting.Sent.{Sent}
 use Rattle.iox_domain.specs.DomainPorts.declared.publisher_port.PublisherPort.{PublisherPort}
@@ -138,14 +139,22 @@ after_stands may at (Ok done) updated answer new (finished, finishes, is) =
     ap (λ allowance. allowance.stands) (finishes_allows may (begun_at at updated) finished new finishes) ∙ begun_stands at
     (slice_get updated.sender.uses.loans at) updated
 
+standing_stands : {T U : Type 0} (used : Bool) (may_degrade : DegradationInfo → DegradationAction → Type 0)
+    (may : BackpressureInfo → BackpressureDecision → Type 0) (listed : List (Option (Member SubscriberEntry))) (changes at : ℕ)
+    (old : PublisherPort T U) (answer : Option (Result Sent SendError)) (new : PublisherPort T U)
+    → SendsStanding used may_degrade may listed changes at old answer new → new.stands ≡ old.stands
+standing_stands true may_degrade may listed changes at old answer new sends = ap (λ port. port.stands) sends.1
+standing_stands false may_degrade may listed changes at old answer new (outcome, updated, updates, after) =
+    after_stands may at outcome updated answer new after ∙ ap (λ allowance. allowance.stands)
+    (updates_allows may_degrade listed changes old outcome updated updates)
+
 sends_if_stands : {T U : Type 0} (stands : Bool) (may_degrade : DegradationInfo → DegradationAction → Type 0)
     (may : BackpressureInfo → BackpressureDecision → Type 0) (listed : List (Option (Member SubscriberEntry))) (changes at : ℕ)
     (old : PublisherPort T U) (answer : Option (Result Sent SendError)) (new : PublisherPort T U)
     → SendsIf stands may_degrade may listed changes at old answer new → new.stands ≡ old.stands
 sends_if_stands false may_degrade may listed changes at old answer new sends = ap (λ port. port.stands) sends.1
-sends_if_stands true may_degrade may listed changes at old answer new (outcome, updated, updates, after) =
-    after_stands may at outcome updated answer new after ∙ ap (λ allowance. allowance.stands)
-    (updates_allows may_degrade listed changes old outcome updated updates)
+sends_if_stands true may_degrade may listed changes at old answer new sends
+    = standing_stands (is_used_up old.last_sequence) may_degrade may listed changes at old answer new sends
 
 sends_stands : {T U : Type 0} (may_degrade : DegradationInfo → DegradationAction → Type 0)
     (may : BackpressureInfo → BackpressureDecision → Type 0) (listed : List (Option (Member SubscriberEntry))) (changes : ℕ)

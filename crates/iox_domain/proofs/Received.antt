@@ -27,7 +27,7 @@ use Rattle.iox_domain.specs.DomainPorts.declared.publisher_entry.PublisherEntry.
 use Rattle.iox_domain.specs.DomainPorts.declared.subscriber_port.SubscriberPort.{SubscriberPort}
 use Rattle.iox_domain.specs.Living.{living, living_subscribers}
 use Rattle.iox_domain.specs.LivingSteps.{AsMuchLives, OneMoreLives, OneLessLives, ReceivingAdds, SubscriberSteps, CreatingSteps}
-use Rattle.iox_domain.specs.Making.{identity_of, sender_config, CreatesPublisher, CreatesSubscriber}
+use Rattle.iox_domain.specs.Making.{identity_of, sequence_before, sender_config, CreatesPublisher, CreatesSubscriber}
 use Rattle.iox_domain.specs.Ports.{AtSubscriber, with_both}
 use Rattle.iox_domain.specs.Rolls.{RollState}
 use Rattle.iox_domain.specs.Subscribers.{subscriber_of, with_subscriber, subscriber_added, subscriber_removed, is_over, is_over_in, settled}
@@ -271,7 +271,7 @@ publisher_adds overrides may config user_header (Some needed) (Some place) numbe
 publisher_adds {T} {U} overrides may config user_header (Some needed) (Some place) number old new fresh
     (slots, allowed, Ok other, (listed, is_list, outcome, port, updates, next, made), is) = λ owner.
     let first : PublisherPort T U = new_port (identity_of config.owner place old) old.sizes.max_subscribers config.allocation
-    config.unit (sender_config config (places (max needed 1) slots) old) user_header in
+    config.unit (sequence_before config old) (sender_config config (places (max needed 1) slots) old) user_header in
     let life = updates_life may listed old.subscriber_list.changes first outcome port updates in
     omega (
       arith,

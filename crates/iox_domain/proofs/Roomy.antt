@@ -4,6 +4,7 @@ use Rattle.std.proofs.Common.{Err, refl, sym, ap, ◌∙◌, inl, inr}
 use Rattle.std.proofs.lemmas.Bool.{cases_lt}
 use Rattle.std.proofs.lemmas.List.{get_or_past}
 use Rattle.iox_domain.specs.Container.declared.container.Member.{Member}
+use Rattle.iox_domain.specs.DomainValues.Sequences.{is_used_up}
 use Rattle.iox_domain.specs.DomainValues.declared.backpressure.BackpressureDecision.{BackpressureDecision}
 use Rattle.iox_domain.specs.DomainValues.declared.backpressure.BackpressureInfo.{BackpressureInfo}
 use Rattle.iox_domain.specs.DomainValues.declared.connection_failure.ConnectionFailure.{ConnectionFailure}
@@ -14,7 +15,7 @@ use Rattle.iox_domain.specs.DomainValues.declared.port_error.SendError.TheVarian
 use Rattle.iox_domain.proofs.DomainPorts.Asked.{finishes_else}
 use Rattle.iox_domain.proofs.DomainPorts.Enough.{updates_made}
 use Rattle.iox_domain.specs.DomainPorts.Memory.{HasRoom}
-use Rattle.iox_domain.specs.DomainPorts.Sending.{Sends, SendsIf, SendsAfter, begun_at, ready_loan}
+use Rattle.iox_domain.specs.DomainPorts.Sending.{Sends, SendsStanding, SendsIf, SendsAfter, begun_at, ready_loan}
 use Rattle.iox_domain.specs.DomainPorts.declared.meeting.Sent.{Sent}
 use Rattle.iox_domain.specs.DomainPorts.declared.publisher_port.PublisherPort.{PublisherPort}
 use Rattle.iox_domain.specs.DomainPorts.declared.subscriber_entry.SubscriberEntry.{SubscriberEntry}
@@ -82,6 +83,21 @@ send_after may at (Ok done) port after outcome failure made sends is =
     let (finished, finishes, is_answer) = sends in
     finishes_else may (begun_at at port) after finished finishes failure (sym is_answer ∙ ap (λ one. Some one) is)
 
+send_standing : {T U : Type 0} (used : Bool) (may : DegradationInfo → DegradationAction → Type 0)
+    (decide : BackpressureInfo → BackpressureDecision → Type 0) (ports : ServicePorts T U) (number at : ℕ)
+    (listed : List (Option (Member SubscriberEntry))) (port after : PublisherPort T U)
+    (outcome : Result Sent SendError) (failure : ConnectionFailure) → IsApart ports → port_of number ports.publishers ≡ Some port
+    → ConnectsAll ports port → IsListOf listed ports.subscriber_list → port.stands ≡ true
+    → SendsStanding used may decide listed ports.subscriber_list.changes at port (Some outcome) after
+    → outcome ≢ Err (sending.ConnectionError failure)
+send_standing true may decide ports number at listed port after outcome failure apart there connects is stands sends refused =
+    let used_up : Some outcome ≡ Some (Err sending.InternalError) = sends.0 in cc
+send_standing false may decide ports number at listed port after outcome failure apart there connects is stands sends refused =
+    let (updated, between, update, further) = sends in
+    let made : updated ≡ Ok tt = updates_made may listed ports.subscriber_list.changes port between updated
+    (room_of ports listed port (well_of ports number port apart there stands) connects is) update in
+    send_after decide at updated between after outcome failure made further refused
+
 send_made : {T U : Type 0} (stands : Bool) (may : DegradationInfo → DegradationAction → Type 0)
     (decide : BackpressureInfo → BackpressureDecision → Type 0) (ports : ServicePorts T U) (number at : ℕ)
     (listed : List (Option (Member SubscriberEntry))) (port after : PublisherPort T U)
@@ -92,10 +108,8 @@ send_made : {T U : Type 0} (stands : Bool) (may : DegradationInfo → Degradatio
 send_made false may decide ports number at listed port after outcome failure apart there connects is stands sends refused =
     let left : Some outcome ≡ Some (Err sending.ConnectionBrokenSinceSenderNoLongerExists) = sends.0 in cc
 send_made true may decide ports number at listed port after outcome failure apart there connects is stands sends refused =
-    let (updated, between, update, further) = sends in
-    let made : updated ≡ Ok tt = updates_made may listed ports.subscriber_list.changes port between updated
-    (room_of ports listed port (well_of ports number port apart there stands) connects is) update in
-    send_after decide at updated between after outcome failure made further refused
+    send_standing (is_used_up port.last_sequence) may decide ports number at listed port after outcome failure apart there connects is
+    stands sends refused
 
 send_ready : {T U : Type 0} (ready : Option ℕ) (may : DegradationInfo → DegradationAction → Type 0)
     (decide : BackpressureInfo → BackpressureDecision → Type 0) (ports : ServicePorts T U) (number : ℕ)

@@ -17,7 +17,7 @@ use Rattle.iox_domain.specs.Calls.{SubscriberLeaves, Happens}
 use Rattle.iox_domain.specs.Lending.{LoansOne}
 use Rattle.iox_domain.specs.Container.SlotTable.{value_at}
 use Rattle.iox_domain.specs.Making.{slots_needed, publisher_place, subscriber_place, identity_of, sender_config, AddsPublisher}
-use Rattle.iox_domain.specs.Making.{CreatesPublisher, CreatesSubscriber}
+use Rattle.iox_domain.specs.Making.{sequence_before, CreatesPublisher, CreatesSubscriber}
 use Rattle.iox_domain.specs.Ports.{no_ports, AtPublisher, AtSubscriber, with_publisher, with_both}
 use Rattle.iox_domain.specs.PortsPublishing.{is_free}
 use Rattle.iox_domain.specs.PortsPublishing as publishing
@@ -222,7 +222,7 @@ publisher_comes {T} {U} overrides may config user_header (Some needed) (Some pla
     adds slots (Err error) step = stays_same old new step roomy
     adds slots (Ok number) (listed, is_list, outcome, port, updates, is_number, is_new) =
         let first : PublisherPort T U = new_port (identity_of config.owner place old) old.sizes.max_subscribers config.allocation
-        config.unit (sender_config config slots old) user_header in
+        config.unit (sequence_before config old) (sender_config config slots old) user_header in
         let well : IsTiedWell old.next_port old.subscriber_list.places first
         = new_well old.next_port old.subscriber_list.places first refl refl (omega (arith, roomy.tied.places)) in
         let lead : LeadsOn port = lead_updates old.next_port old.subscriber_list may listed first port outcome roomy.tied.list is_list

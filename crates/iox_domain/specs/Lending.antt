@@ -41,9 +41,14 @@ loan_at_port slot (Some port) = loan_of slot port
 abbrev pub loan_in : {T U : Type 0} → ℕ → ℕ → ServicePorts T U → Option (Loan T U)
 loan_in number slot ports = loan_at_port slot (port_of number ports.publishers)
 
--- what the header of a loan of a publisher tells: who is to send it, and how many elements it has
+-- what the header of a loan of a publisher tells: who is to send it, and how many elements it has; it has no number yet
 abbrev pub header_of_loan : {T U : Type 0} → PublisherPort T U → Loan T U → Header
-header_of_loan port loan = record { node_id = port.owner.node_id; publisher_id = port.number; number_of_elements = loan.elements }
+header_of_loan port loan = record {
+  node_id = port.owner.node_id;
+  publisher_id = port.number;
+  number_of_elements = loan.elements;
+  sequence = None;
+}
 
 -- the header of the loan in a slot of a publisher; none without one
 abbrev pub loan_header_at_port : {T U : Type 0} → ℕ → Option (PublisherPort T U) → Option Header

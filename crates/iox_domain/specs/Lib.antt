@@ -35,6 +35,7 @@ pub mod LivingLaws
 pub mod LivingSteps
 pub mod NumberLaws
 pub mod Order
+pub mod Gaps
 pub mod ServiceLaws
 pub mod SizeLaws
 pub mod Tries

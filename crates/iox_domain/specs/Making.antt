@@ -3,6 +3,7 @@ use Rattle.std.specs.Prelude.{ℕ, ◌≡◌, ◌+◌, ◌^◌, max, nat_lt, Lis
 use Rattle.std.specs.declared.alloc.AllocError.{AllocError}
 use Rattle.iox_domain_ports.specs.Container.declared.container.Member.{Member}
 use Rattle.iox_domain_ports.specs.DomainValues.OverrideAnswers.{places}
+use Rattle.iox_domain_ports.specs.DomainValues.Sequences.{before_first}
 use Rattle.iox_domain_ports.specs.DomainValues.Sizes.{worst_case, within}
 use Rattle.iox_domain_ports.specs.DomainValues.declared.connection_failure.ConnectionFailure.{ConnectionFailure}
 use Rattle.iox_domain_ports.specs.DomainValues.declared.create_error.PublisherCreateError.{PublisherCreateError}
@@ -70,6 +71,10 @@ sender_config config slots ports = record {
 abbrev pub identity_of : {T U : Type 0} → PortOwner → ℕ → ServicePorts T U → PortIdentity
 identity_of owner place ports = record { service = ports.service; number = ports.next_port; owner = owner; place = place }
 
+-- the number before the first message of a publisher of this config; none where the service doesn't number messages
+abbrev pub sequence_before : {T U : Type 0} → PublisherConfig → ServicePorts T U → Option ℕ
+sequence_before config ports = before_first ports.sizes.sequence_numbers config.first_sequence
+
 -- A publisher comes at a place, with so many slots, as one that followed the list of subscribers; without memory nothing changes.
 abbrev pub AddsPublisher : {T U : Type 0} → (DegradationInfo → DegradationAction → Type 0) → PublisherConfig → U → ℕ → ℕ
     → ServicePorts T U → Result ℕ AllocError → ServicePorts T U → Type 0
@@ -79,7 +84,7 @@ AddsPublisher {T} {U} may config user_header place slots old (Ok number) new =
     × (outcome : Result (Unit {0}) ConnectionFailure) × (port : PublisherPort T U)
     × publisher.Updates may listed old.subscriber_list.changes
     (new_port (identity_of config.owner place old) old.sizes.max_subscribers config.allocation config.unit
-    (sender_config config slots old) user_header) outcome port
+    (sequence_before config old) (sender_config config slots old) user_header) outcome port
     × (number ≡ old.next_port)
     × (new ≡ record old {
       next_port = old.next_port + 1;

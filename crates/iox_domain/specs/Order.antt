@@ -9,6 +9,7 @@ use Rattle.iox_domain.specs.DomainValues.declared.port_error.ReceiveError.{Recei
 use Rattle.iox_domain.specs.DomainValues.declared.port_error.SendError.{SendError}
 use Rattle.iox_domain.specs.DomainValues.declared.port_error.SendError.TheVariants as sending
 use Rattle.iox_domain.specs.DomainValues.declared.service_sizes.ServiceSizes.{ServiceSizes}
+use Rattle.iox_domain.specs.DomainValues.Sequences.{next_sequence}
 use Rattle.iox_domain.specs.DomainPorts.Messages.{Message, Loan, sent_as}
 use Rattle.iox_domain.specs.DomainPorts.Places.{leads_to}
 use Rattle.iox_domain.specs.DomainPorts.Ports.{is_live}
@@ -47,15 +48,24 @@ has_begun (Some (Ok done)) = true
 has_begun (Some (Err sending.UnableToDeliver)) = true
 has_begun (Some (Err error)) = false
 
--- the message that a loan becomes
-abbrev pub message_of : {T U : Type 0} → Option (Loan T U) → List (Message T U)
-message_of None = []
-message_of (Some loan) = sent_as loan ∷ []
+-- the message that a loan becomes, with its number
+abbrev pub message_of : {T U : Type 0} → Option ℕ → Option (Loan T U) → List (Message T U)
+message_of sequence None = []
+message_of sequence (Some loan) = sent_as sequence loan ∷ []
 
--- what a call makes a publisher send: the message of the loan in the slot that is sent
+-- the number that a publisher gives its next message; none without a publisher, and where the service doesn't number messages
+abbrev pub sequence_at_port : {T U : Type 0} → Option (PublisherPort T U) → Option ℕ
+sequence_at_port None = None
+sequence_at_port (Some port) = next_sequence port.last_sequence
+
+-- the same of the publisher of a number
+abbrev pub sequence_in : {T U : Type 0} → ℕ → ServicePorts T U → Option ℕ
+sequence_in number ports = sequence_at_port (port_of number ports.publishers)
+
+-- what a call makes a publisher send: the message of the loan in the slot that is sent, with the next number
 abbrev pub sent_by : {T U : Type 0} → ℕ → PortCall T U → ServicePorts T U → List (Message T U)
 sent_by publisher (Sends number slot answer) old = if (publisher == number)
-    && has_begun answer then message_of (loan_in number slot old) else []
+    && has_begun answer then message_of (sequence_in number old) (loan_in number slot old) else []
 sent_by publisher call old = []
 
 -- whether the answer of a receive names a connection

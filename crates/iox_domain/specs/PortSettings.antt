@@ -5,9 +5,16 @@ use Rattle.iox_domain_values.specs.declared.data_segment.AllocationStrategy.TheV
 use Rattle.iox_domain.specs.declared.settings.publisher_settings.PublisherSettings.{PublisherSettings}
 use Rattle.iox_domain.specs.declared.settings.subscriber_settings.SubscriberSettings.{SubscriberSettings}
 
--- what stands where nothing is named: two loans, sends that wait for room, slices of one value, and a room that doesn't grow
+-- what stands where nothing is named: two loans, sends that wait for room, slices of one value, a room that doesn't grow, and numbers
+-- from 1 on
 abbrev pub publisher_defaults : PublisherSettings
-publisher_defaults = record { max_loaned_samples = 2; strategy = RetryUntilDelivered; initial_max_slice_len = 1; allocation = Static }
+publisher_defaults = record {
+  max_loaned_samples = 2;
+  strategy = RetryUntilDelivered;
+  initial_max_slice_len = 1;
+  allocation = Static;
+  first_sequence = 1;
+}
 
 -- no buffer size is named
 abbrev pub subscriber_defaults : SubscriberSettings

@@ -18,9 +18,14 @@ sample_at_port sample (Some port) = borrowed_in sample.slot (connection_of sampl
 abbrev pub sample_in : {T U : Type 0} → Taken → ServicePorts T U → Option (Message T U)
 sample_in sample ports = sample_at_port sample (port_of sample.publisher ports.publishers)
 
--- what a header tells: who sent the message, and how many elements it has
+-- what a header tells: who sent the message, how many elements it has, and its number
 abbrev pub header_of : {T U : Type 0} → PublisherPort T U → Message T U → Header
-header_of port message = record { node_id = port.owner.node_id; publisher_id = port.number; number_of_elements = message.elements }
+header_of port message = record {
+  node_id = port.owner.node_id;
+  publisher_id = port.number;
+  number_of_elements = message.elements;
+  sequence = message.sequence;
+}
 
 -- the header of a sample that is held of a publisher; none without one
 abbrev pub header_at_port : {T U : Type 0} → Taken → Option (PublisherPort T U) → Option Header

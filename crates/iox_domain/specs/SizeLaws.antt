@@ -1,5 +1,5 @@
 -- What publishers and their connections are made for, and what their service allows.
-use Rattle.std.specs.Prelude.{ℕ, ◌≡◌, ◌≤◌, Bool, List, length}
+use Rattle.std.specs.Prelude.{ℕ, ◌≡◌, ◌≤◌, Bool, List, length, is_some}
 use Rattle.std.specs.List.{All}
 use Rattle.iox_domain.specs.DomainValues.declared.backpressure.BackpressureDecision.{BackpressureDecision}
 use Rattle.iox_domain.specs.DomainValues.declared.backpressure.BackpressureInfo.{BackpressureInfo}
@@ -14,13 +14,14 @@ use Rattle.iox_domain.specs.declared.ports.service_ports.ServicePorts.{ServicePo
 use Rattle.iox_domain.specs.Calls.{PortCall, Happens}
 use Rattle.iox_domain.specs.Order.{Happen}
 
--- Whether a full mailbox lets its oldest message go, how many messages are kept for subscribers that come later, and how many of
--- a connection may wait and be borrowed.
+-- Whether a full mailbox lets its oldest message go, how many messages are kept for subscribers that come later, how many of a
+-- connection may wait and be borrowed, and whether messages have numbers.
 pub record MadeFor : Type 0 where
   pub overflows : Bool
   pub history : ℕ
   pub most_waiting : ℕ
   pub most_borrowed : ℕ
+  pub numbered : Bool
 
 -- what a publisher and its connections are made for
 abbrev pub made_for : {T U : Type 0} → PublisherPort T U → MadeFor
@@ -29,6 +30,7 @@ made_for port = record {
   history = port.sender.uses.kept;
   most_waiting = port.sender.uses.most_waiting;
   most_borrowed = port.sender.uses.most_borrowed;
+  numbered = is_some port.last_sequence;
 }
 
 -- what a service allows
@@ -38,6 +40,7 @@ allowed_by sizes = record {
   history = sizes.history_size;
   most_waiting = sizes.subscriber_max_buffer_size;
   most_borrowed = sizes.subscriber_max_borrowed_samples;
+  numbered = sizes.sequence_numbers;
 }
 
 -- no more messages wait at a connection than it is made for, it is made for no more than may wait, and no more of it are borrowed

@@ -16,6 +16,7 @@ sizes expired_connection_buffer config = record {
   subscriber_max_borrowed_samples = config.subscriber_max_borrowed_samples;
   history_size = config.history_size;
   enable_safe_overflow = config.enable_safe_overflow;
+  sequence_numbers = config.sequence_numbers;
   expired_connections = max expired_connection_buffer config.subscriber_max_borrowed_samples;
 }
 

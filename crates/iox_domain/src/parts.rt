@@ -58,6 +58,7 @@ impl<T, U, B, D> DomainParts<T, U, B, D> {
                 == agreed.subscriber_max_borrowed_samples
             && sizes.history_size as u64 == agreed.history_size
             && sizes.enable_safe_overflow == agreed.enable_safe_overflow
+            && sizes.sequence_numbers == agreed.sequence_numbers
             && agreed.subscriber_max_borrowed_samples <= sizes.expired_connections as u64
     }
 }

@@ -41,10 +41,11 @@ use Rattle.iox_domain.specs.DomainPorts.declared.publisher_port.PublisherPort.{P
 use Rattle.iox_domain.specs.DomainPorts.declared.subscriber_entry.SubscriberEntry.{SubscriberEntry}
 use Rattle.iox_domain.specs.DomainPorts.declared.subscriber_port.SubscriberPort.{SubscriberPort}
 use Rattle.iox_domain.specs.DomainValues.OverrideAnswers.{places}
+use Rattle.iox_domain.specs.DomainValues.Sequences.{before_first}
 use Rattle.iox_domain.specs.DomainValues.Sizes as domain
 use Rattle.iox_domain.specs.DomainValues.declared.service_sizes.ServiceSizes.{ServiceSizes}
 use Rattle.iox_domain.specs.Making.{AddsPublisher, CreatesPublisher, identity_of, publisher_answer, publisher_place, sender_config}
-use Rattle.iox_domain.specs.Making.{slots_needed}
+use Rattle.iox_domain.specs.Making.{sequence_before, slots_needed}
 use Rattle.iox_domain.specs.PortLawsLaws.{IsApart, IsTiedWell, IsWellEntry}
 use Rattle.iox_domain.specs.Rolls.{IsListOf, may_change}
 use Rattle.iox_domain.specs.Roomy.{AreRoomy}
@@ -274,7 +275,7 @@ module _ {T U : Type 0} (types : MessageTypeDetails) (choices : Choices T) (buff
         -- the publisher before it follows the list
         abbrev first : PublisherPort T U
         first = new_port (identity_of config.owner place old) old.sizes.max_subscribers config.allocation config.unit
-            (sender_config config (places (max needed 1) slots) old) user_header
+            (sequence_before config old) (sender_config config (places (max needed 1) slots) old) user_header
 
         named_so : name ≢ 0
         named_so same = absurd (omega (arith, same))
@@ -300,6 +301,9 @@ module _ {T U : Type 0} (types : MessageTypeDetails) (choices : Choices T) (buff
           slots = many_slots;
           room = sym asked.values;
           segments = refl;
+          last_sequence =
+              ap (λ (all : ServiceSizes). before_first all.sequence_numbers 1) (sym stands.sizes)
+              ∙ ap (before_first old.sizes.sequence_numbers) (sym asked.first_sequence);
           history = refl;
           once = λ slot. omega arith;
           seen = refl;
@@ -398,7 +402,14 @@ module _ {T U : Type 0} (types : MessageTypeDetails) (choices : Choices T) (buff
         }
 
         allowed_first : (number : ℕ) → IsMadeFor (allowed_by old.sizes) (number, first)
-        allowed_first number = (refl, λ index. (omega arith, omega arith, omega arith))
+        allowed_first number = (
+          ap (λ b. record (allowed_by old.sizes) { numbered = b }) (is_numbered old.sizes.sequence_numbers),
+          λ index. (omega arith, omega arith, omega arith),
+        )
+          where
+            is_numbered : (b : Bool) → is_some (before_first b config.first_sequence) ≡ b
+            is_numbered true = refl
+            is_numbered false = refl
 
         allowed_now : AreAllowed there_ports
         allowed_now =

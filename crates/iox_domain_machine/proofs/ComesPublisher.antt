@@ -7,7 +7,7 @@ use Rattle.std.proofs.lemmas.List.Elements.{All-contains, All-contains_itself, A
 use Rattle.std.specs.List.{All, Contains, filter}
 use Rattle.std.specs.Map.{keys_of}
 use Rattle.std.specs.Option.{option_map_or}
-use Rattle.std.specs.Prelude.{is_some, option_map}
+use Rattle.std.specs.Prelude.{is_some, option_and_then, option_map}
 use Rattle.iox_domain.proofs.Coming.{lookup-came}
 use Rattle.iox_domain.proofs.Keys.{adds_other, adds_same}
 use Rattle.iox_domain.proofs.Numbered.{other_came}
@@ -297,6 +297,7 @@ module _ {T U : Type 0} (names : Naming) (lent : List (ℕ × LentSlot)) (held :
       ∙ ap (λ found. record (sample_as listed_names old taken) {
         message = record {
           number = names.message taken.publisher taken.slot;
+          sequence = option_and_then (λ (message : domain.Message T U). message.sequence) (sample_at_port taken found);
           values = option_map_or (λ (message : domain.Message T U). message.values) (sample_at_port taken found) [];
         };
       }) (sym (elsewhere taken.publisher apart))

@@ -490,6 +490,7 @@ module _ {T U : Type 0} (name subscriber_name reader : ℕ → ℕ) (next most_s
           slots = is.slots;
           room = is.room;
           segments = is.segments;
+          last_sequence = is.last_sequence;
           history = is.history;
           once = is.once;
           seen = ap (λ one. one.changes) list;

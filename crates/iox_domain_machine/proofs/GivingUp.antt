@@ -81,6 +81,7 @@ module _ {T U : Type 0} (port : PublisherPort T U) where
     slots = is.slots;
     room = is.room;
     segments = is.segments;
+    last_sequence = is.last_sequence;
     history = is.history;
     once = is.once;
     seen = is.seen;

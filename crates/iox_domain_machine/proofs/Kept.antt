@@ -2,7 +2,7 @@
 use Rattle.std.proofs.Common.{◌≡◌, ◌≢◌, ◌⊎◌, ℕ, List, [], get_or, map, Option, None, Some, refl, sym, ap, inl, inr, ◌∙◌}
 use Rattle.std.proofs.lemmas.Bool.{cases_eq}
 use Rattle.std.specs.Option.{option_map_or}
-use Rattle.std.specs.Prelude.{find, ◌==◌}
+use Rattle.std.specs.Prelude.{find, option_and_then, ◌==◌}
 use Rattle.iox_domain.proofs.Numbered.{at_number, same_set}
 use Rattle.iox_domain.specs.DomainPorts.Messages.{Message, Loan}
 use Rattle.iox_domain.specs.DomainPorts.Publishers.{port_of, connection_in, connection_at_port}
@@ -115,6 +115,7 @@ module _ {T U : Type 0} where
               subscriber = names.subscriber taken.subscriber;
               message = record {
                 number = names.message taken.publisher taken.slot;
+                sequence = option_and_then (λ (message : Message T U). message.sequence) found;
                 values = option_map_or (λ
                     (message : Message T U). message.values) found [];
               };

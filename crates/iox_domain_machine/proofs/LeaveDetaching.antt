@@ -107,6 +107,7 @@ module _ {T U : Type 0} (names : Naming) (lent : List (ℕ × LentSlot)) (held :
         slots = was.2.slots;
         room = was.2.room;
         segments = was.2.segments;
+        last_sequence = was.2.last_sequence;
         history = was.2.history;
         once = was.2.once;
         seen = was.2.seen;

@@ -240,6 +240,7 @@ module _ {T U : Type 0} (port after : PublisherPort T U) (parted : HasParted (re
         slots = is.slots;
         room = is.room;
         segments = is.segments;
+        last_sequence = is.last_sequence;
         history = is.history;
         once = is.once;
         seen = is.seen;

@@ -46,7 +46,7 @@ module _ (slot next : ℕ) (name : ℕ → ℕ) where
         ∙ ap (λ rest. message_as named message ∷ rest) (messages_kept more (omega (arith, none, cons)))
       where
         renamed : name message.slot ≡ named message.slot → ◌≡◌ {A = machine.Message T} (message_as name message) (message_as named message)
-        renamed same = ap (λ (n : ℕ). record { number = n; values = message.values }) same
+        renamed same = ap (λ (n : ℕ). record (message_as name message) { number = n }) same
 
         one_at : message.slot ≡ slot → one slot message.slot ≡ 1
         one_at same = ap (λ n. one slot n) same ∙ one_same slot
@@ -187,6 +187,7 @@ module _ {T U : Type 0} (name reader : ℕ → ℕ) (most : ℕ) (port : Publish
           slots = was.slots;
           room = same_room;
           segments = same_segments;
+          last_sequence = was.last_sequence;
           history = was.history
               ∙ messages_kept slot publisher.next name port.sender.uses.history (omega (arith, unused, used_is port slot free));
           once = was.once;

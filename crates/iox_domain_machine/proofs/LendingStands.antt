@@ -184,7 +184,7 @@ module _ {T U : Type 0} (names : Naming) (lent : List (ℕ × LentSlot)) (held :
           ap (λ n. record {
             publisher = names.publisher taken.publisher;
             subscriber = names.subscriber taken.subscriber;
-            message = record { number = n; values = (sample_as names new taken).message.values };
+            message = record (sample_as names new taken).message { number = n };
           }) (name_kept taken.publisher taken.slot apart (cases_eq taken.publisher number))
 
       none_held : (index : ℕ) → times slot (slots_held_of number index held) ≡ 0

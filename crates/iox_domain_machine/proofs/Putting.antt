@@ -250,13 +250,14 @@ module _ {T U : Type 0} (types : MessageTypeDetails) (choices : Choices T) (buff
     sends_now answer new reader sent =
         let sends = sending_back choices loan now sent.0 (sent_or_skipped (Some answer)) (not_skipped answer) types buffer state one
         by.after (at_end loan one service.loans none_here) there_now sent.1 in
-        let as_put : Sends choices name (record { number = by.publisher.next; values = values }) by.after
+        let as_put : Sends choices name (record { number = by.publisher.next; sequence = None; values = values }) by.after
         (with_publisher name by.after service)
         (sent_or_skipped (Some answer)) sent.0 =
-        subst (λ (loans : List (ℕ × machine.Loan T)). Sends choices name (record { number = by.publisher.next; values = values }) by.after
+        subst (λ (loans : List (ℕ × machine.Loan T)). Sends choices name
+        (record { number = by.publisher.next; sequence = None; values = values }) by.after
         (record (with_publisher name by.after service) { loans = loans }) (sent_or_skipped (Some answer)) sent.0)
         (removed_end loan one service.loans none_here)
-        (subst (λ (it : List T). Sends choices name (record { number = by.publisher.next; values = it }) by.after
+        (subst (λ (it : List T). Sends choices name (record { number = by.publisher.next; sequence = None; values = it }) by.after
         (record now { loans = removed loan now.loans }) (sent_or_skipped (Some answer)) sent.0) (values_written values) sends) in (
           names_now.message,
           reader,

@@ -6,7 +6,7 @@ use Rattle.std.proofs.lemmas.Bool.{eq-eqb}
 use Rattle.std.proofs.lemmas.Bool.Decides.{eqb_tells}
 use Rattle.std.specs.Global.{Vec}
 use Rattle.std.specs.Option.{option_map_or}
-use Rattle.std.specs.Prelude.{filter, find, option_map, ◌==◌}
+use Rattle.std.specs.Prelude.{filter, find, option_and_then, option_map, ◌==◌}
 use Rattle.std.specs.Vec.{vec_items}
 use Rattle.iox_command.specs.declared.reply.Reply.{Reply}
 use Rattle.iox_command.specs.declared.reply.Reply.TheVariants as reply
@@ -15,8 +15,12 @@ use Rattle.iox_domain.specs.DomainPorts.Messages.{Message}
 use Rattle.iox_domain.specs.DomainPorts.Publishers.{connection_in}
 use Rattle.iox_domain.specs.DomainPorts.declared.attached.Taken.{Taken}
 use Rattle.iox_domain.specs.DomainSlots.Counting.{times}
-use Rattle.iox_domain_machine.specs.Laws.{ReadMatches}
-use Rattle.iox_domain_machine.specs.Tables.{sample_as, slots_held_of}
+use Rattle.iox_domain.specs.Reading.{sample_in}
+use Rattle.iox_domain.specs.declared.ports.service_ports.ServicePorts.{ServicePorts}
+use Rattle.iox_domain_machine.specs.Laws.{ReadMatches, SequenceMatches}
+use Rattle.iox_domain_machine.specs.Naming.{Naming}
+use Rattle.iox_domain_machine.specs.Standing.{StandsFor}
+use Rattle.iox_domain_machine.specs.Tables.{LentSlot, sample_as, slots_held_of}
 use Rattle.iox_domain_machine.proofs.Alone.{alone_does}
 use Rattle.iox_domain_machine.proofs.Found.{at_mapped, at_head, at_behind, same_some, never_some}
 use Rattle.iox_domain_machine.proofs.Kept.{sample_by}
@@ -78,27 +82,58 @@ borrowed_there {T} {U} slot (message ∷ messages) is = ⊎_elim
     (rest.0, ap (λ b. cond b (Some message) (find (λ (message : Message T U). message.slot == slot) messages)) other.0 ∙ rest.1))
     (eqb_tells message.slot slot)
 
+module _ {T U : Type 0} (names : Naming) (lent : List (ℕ × LentSlot)) (held : List (ℕ × Taken)) (buffer : ℕ) (ports : ServicePorts T U)
+    (service : Service T) (sample : ℕ) (taken : Taken) (stands : StandsFor names lent held buffer ports service)
+    (held_there : at sample held ≡ Some taken) where
+  -- the message of a sample that goes by a number
+  message_there : (message : Message T U) × (sample_in taken ports ≡ Some message)
+  message_there =
+      let borrowed = (connection_in taken.publisher taken.index ports.publishers).borrowed in
+      let found = borrowed_there taken.slot borrowed
+      (subst (λ (slots : List ℕ). 0 < times taken.slot slots) (stands.samples.all taken.publisher taken.index)
+      (held_counts sample taken held held_there)) in
+      (found.0, sample_by taken ports ∙ found.1)
+
+  -- and the machine's sample
+  sample_there : at sample service.samples ≡ Some (sample_as names ports taken)
+  sample_there =
+      ap (λ samples. at sample samples) stands.samples.same ∙ at_mapped (sample_as names ports) sample held
+      ∙ ap (option_map (sample_as names ports)) held_there
+
 pub read_matches : (T U : Type 0) (choices : Choices T) → ReadMatches T U choices
 read_matches T U choices types buffer names lent held ports service state sample taken stands held_there =
-    let borrowed = (connection_in taken.publisher taken.index ports.publishers).borrowed in
-    let found = borrowed_there taken.slot borrowed
-    (subst (λ (slots : List ℕ). 0 < times taken.slot slots) (stands.samples.all taken.publisher taken.index)
-    (held_counts sample taken held held_there)) in
-    let is_message = sample_by taken ports ∙ found.1 in
-    let there : at sample service.samples ≡ Some (sample_as names ports taken) =
-    ap (λ samples. at sample samples) stands.samples.same ∙ at_mapped (sample_as names ports) sample held
-    ∙ ap (option_map (sample_as names ports)) held_there in
+    let found = message_there names lent held buffer ports service sample taken stands held_there in
     let same : found.0.values ≡ (sample_as names ports taken).message.values =
-    sym (ap (λ (found : Option (Message T U)). option_map_or (λ (one : Message T U). one.values) found []) is_message) in (
+    sym (ap (λ (found : Option (Message T U)). option_map_or (λ (one : Message T U). one.values) found []) found.1) in (
       found.0,
-      is_message,
+      found.1,
       λ values are_values. (
         service,
         alone_does (λ (one : Service T). at sample one.samples)
             (λ (one : Sample T) (before : Service T) (answered : Reply T)
             (after : Service T). (read : Vec T) × (vec_items read ≡ one.message.values) × (answered ≡ reply.Values read) × (after ≡ before))
-            state service service (reply.Values values) (sample_as names ports taken) there
+            state service service (reply.Values values) (sample_as names ports taken)
+            (sample_there names lent held buffer ports service sample taken stands held_there)
             (values, are_values ∙ same, refl, refl),
+        stands,
+      ),
+    )
+
+pub sequence_matches : (T U : Type 0) (choices : Choices T) → SequenceMatches T U choices
+sequence_matches T U choices types buffer names lent held ports service state sample taken stands held_there =
+    let found = message_there names lent held buffer ports service sample taken stands held_there in
+    let same : found.0.sequence ≡ (sample_as names ports taken).message.sequence =
+    sym (ap (option_and_then (λ (one : Message T U). one.sequence)) found.1) in (
+      found.0,
+      found.1,
+      (
+        service,
+        alone_does (λ (one : Service T). at sample one.samples)
+            (λ (one : Sample T) (before : Service T) (answered : Reply T)
+            (after : Service T). (answered ≡ reply.Sequence one.message.sequence) × (after ≡ before))
+            state service service (reply.Sequence found.0.sequence) (sample_as names ports taken)
+            (sample_there names lent held buffer ports service sample taken stands held_there)
+            (ap (λ (number : Option ℕ). reply.Sequence number) same, refl),
         stands,
       ),
     )

@@ -129,6 +129,7 @@ module _ {T U : Type 0} (port : PublisherPort T U) (index : ℕ) (goes : is_live
     slots = is.slots;
     room = is.room;
     segments = is.segments;
+    last_sequence = is.last_sequence;
     history = is.history;
     once = is.once;
     seen = is.seen;

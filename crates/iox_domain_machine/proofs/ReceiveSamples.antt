@@ -7,7 +7,7 @@ use Rattle.std.proofs.lemmas.List.Elements.{All-append, All-cons, All-nil, filte
 use Rattle.std.proofs.lemmas.List.Sums.{sum_by-append}
 use Rattle.std.specs.Map.{keys_of}
 use Rattle.std.specs.Option.{option_map_or}
-use Rattle.std.specs.Prelude.{filter, find}
+use Rattle.std.specs.Prelude.{filter, find, option_and_then}
 use Rattle.iox_domain.proofs.BookedTakes.{taken_set}
 use Rattle.iox_domain.proofs.DomainSlots.Counts.{one, one_same, times_append, times_cons}
 use Rattle.iox_domain.proofs.Numbered.{at_number, same_set}
@@ -213,6 +213,7 @@ module _ {T U : Type 0} (names : Naming) (held : List (ℕ × Taken)) (old : Ser
     subscriber = names.subscriber taken.subscriber;
     message = record {
       number = names.message taken.publisher taken.slot;
+      sequence = option_and_then (λ (message : Message T U). message.sequence) found;
       values = option_map_or (λ (message : Message T U). message.values) found [];
     };
   }

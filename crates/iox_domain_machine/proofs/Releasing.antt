@@ -9,7 +9,7 @@ use Rattle.std.proofs.lemmas.List.Elements.{All-filter, All-head, All-tail}
 use Rattle.std.proofs.lemmas.Map.{keys-set_value}
 use Rattle.std.specs.List.{All, position_or_len}
 use Rattle.std.specs.Option.{option_map_or}
-use Rattle.std.specs.Prelude.{find, is_some, not, option_map, unwrap_or, ◌==◌, if◌then◌else◌}
+use Rattle.std.specs.Prelude.{find, is_some, not, option_and_then, option_map, unwrap_or, ◌==◌, if◌then◌else◌}
 use Rattle.iox_command.specs.declared.reply.Reply.{Reply}
 use Rattle.iox_command.specs.declared.reply.Reply.TheVariants as reply
 use Rattle.iox_domain.proofs.DomainSlots.Counts.{times_append}
@@ -329,6 +329,7 @@ module _ {T U : Type 0} (names : Naming) (lent : List (ℕ × LentSlot)) (held :
           subscriber = names.subscriber other.subscriber;
           message = record {
             number = names.message other.publisher other.slot;
+            sequence = option_and_then (λ (message : Message T U). message.sequence) found;
             values = option_map_or (λ (message : Message T U). message.values) found [];
           };
         }) (sample_by other new

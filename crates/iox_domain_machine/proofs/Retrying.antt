@@ -120,11 +120,12 @@ module _ {T U : Type 0} (types : MessageTypeDetails) (choices : Choices T) (buff
       goes : (answer : Result Sent SendError) (after : PublisherPort T U)
           → Finishes may (with_progress (tried_again nanoseconds port.progress) port) answer after
           → Finished choices names lent lent held buffer old service number port stands there (tried_again nanoseconds port.progress)
-          port.sender.uses.loans port.sender.uses.history was.0.history service.loans message (again blocked.0) may answer after
+          port.last_sequence was.0.last_sequence port.sender.uses.loans port.sender.uses.history was.0.history service.loans message
+          (again blocked.0) may answer after
       goes answer after finished =
           finishes choices names lent lent held buffer old service number port stands there (tried_again nanoseconds port.progress)
-          port.sender.uses.loans port.sender.uses.history was.0.history service.loans message (again blocked.0) may standing
-          was.2.history was.2.once
+          port.last_sequence was.0.last_sequence port.sender.uses.loans port.sender.uses.history was.0.history service.loans message
+          (again blocked.0) may standing was.2.last_sequence was.2.history was.2.once
           (subst (λ (sending : Option (Message T U)). NamesSlots (names.message number)
           (slots_of (with_uses (record port.sender.uses { sending = sending }) port.sender)) was.0.first was.0.next) waits was.2.named)
           (record {

@@ -23,6 +23,7 @@ use Rattle.iox_domain.specs.DomainPorts.declared.publisher_port.PublisherPort.{P
 use Rattle.iox_domain.specs.DomainSlots.Counting.{times}
 use Rattle.iox_domain.specs.DomainSlots.Uses.{Uses, in_use}
 use Rattle.iox_domain.specs.DomainSlots.Uses as uses
+use Rattle.iox_domain.specs.DomainValues.Sequences.{next_sequence}
 use Rattle.iox_domain.specs.declared.ports.service_ports.ServicePorts.{ServicePorts}
 use Rattle.iox_domain_machine.specs.Mailboxes.{MailboxesStandFor, times_held}
 use Rattle.iox_domain_machine.specs.Naming.{Naming, message_as}
@@ -114,25 +115,31 @@ module _ {T U : Type 0} (choices : Choices T) (names : Naming) (lent : List (ℕ
   dropped = dropping.after names lent held buffer ports service loan out stands goes
 
   abbrev message : domain.Message T U
-  message = domain.sent_as there.loan
+  message = domain.sent_as (next_sequence whose.last_sequence) there.loan
 
   -- the publisher that began to send
   abbrev begun : PublisherPort T U
   begun = begun_by place (Some there.loan) whose
 
-  -- and that of the machine
+  -- the message that the machine is handed, and what it makes of it
   abbrev pub message_there : machine.Message T
   message_there = sent_as (loan_as names ports out)
+
+  abbrev numbered_there : machine.Message T
+  numbered_there = record message_there { sequence = next_sequence was.0.last_sequence }
 
   abbrev before : Service T
   before = record service { loans = removed loan service.loans }
 
   abbrev publisher : Publisher T
-  publisher = record was.0 { history = newest service.settings.history_size (was.0.history ++ message_there ∷ []) }
+  publisher = record was.0 {
+    last_sequence = next_sequence was.0.last_sequence;
+    history = newest service.settings.history_size (was.0.history ++ numbered_there ∷ []);
+  }
 
   abbrev send : Send T
   send = record {
-    message = message_there;
+    message = numbered_there;
     left = those was.0.connected;
     retries = 0;
     elapsed = 0;
@@ -145,10 +152,14 @@ module _ {T U : Type 0} (choices : Choices T) (names : Naming) (lent : List (ℕ
       eqb-true there.loan.slot out.slot
       (found_at (λ (one : domain.Loan T U). one.slot == out.slot) whose.sender.uses.loans there.loan there.found).1
 
-  message_is : message_there ≡ message_as naming message
+  sequence_is : next_sequence was.0.last_sequence ≡ next_sequence whose.last_sequence
+  sequence_is = ap next_sequence was.2.last_sequence
+
+  message_is : numbered_there ≡ message_as naming message
   message_is =
-      ap (λ (n : ℕ). record { number = n; values = message_there.values }) (ap naming (sym in_slot_is))
-      ∙ ap (λ (values : List T). record { number = naming message.slot; values = values })
+      ap (λ (n : ℕ). record numbered_there { number = n }) (ap naming (sym in_slot_is))
+      ∙ ap (λ (sequence : Option ℕ). record numbered_there { number = naming message.slot; sequence = sequence }) sequence_is
+      ∙ ap (λ (values : List T). record (message_as naming message) { values = values })
       (ap (filter_map (λ value. value)) (same_values names lent held buffer ports service loan out stands goes)
       ∙ written_as there.loan.values)
 
@@ -241,7 +252,7 @@ module _ {T U : Type 0} (choices : Choices T) (names : Naming) (lent : List (ℕ
         (within : (index : ℕ) → length (connection_of index whose).waiting ≤ (connection_of index whose).limit) where
       history_is : publisher.history ≡ map (message_as naming) begun.sender.uses.history
       history_is =
-          ap (λ (history : List (machine.Message T)). newest service.settings.history_size (history ++ message_there ∷ [])) was.2.history
+          ap (λ (history : List (machine.Message T)). newest service.settings.history_size (history ++ numbered_there ∷ [])) was.2.history
           ∙ ap (λ one. newest service.settings.history_size (map (message_as naming) whose.sender.uses.history ++ one ∷ [])) message_is
           ∙ newest_as naming message service.settings.history_size whose.sender.uses.history
           ∙ ap (λ size. map (message_as naming) (drop (length (whose.sender.uses.history ++ message ∷ []) - size)
@@ -296,8 +307,9 @@ module _ {T U : Type 0} (choices : Choices T) (names : Naming) (lent : List (ℕ
           → BeginsAlike answer after
       begins answer after goes_on =
           finishes choices names lent (removed loan lent) held buffer ports service out.publisher whose stands there.there start
-          begun.sender.uses.loans begun.sender.uses.history publisher.history (removed loan service.loans) message send may standing
-          history_is once (named_still naming slots_was slots_now was.0.first was.0.next refl refl used_then sole was.2.named)
+          begun.last_sequence publisher.last_sequence begun.sender.uses.loans begun.sender.uses.history publisher.history
+          (removed loan service.loans) message send may standing sequence_is history_is once
+          (named_still naming slots_was slots_now was.0.first was.0.next refl refl used_then sole was.2.named)
           (record {
             carries = message_is;
             left = refl;

@@ -140,21 +140,23 @@ module _ {T U : Type 0} (choices : Choices T) (names : Naming) (lent after_lent 
     (buffer : ℕ)
     (old : ServicePorts T U) (service : Service T) (number : ℕ) (port : PublisherPort T U)
     (stands : StandsFor names lent held buffer old service) (there : port_of number old.publishers ≡ Some port) (from : ProgressState)
-    (out : List (domain.Loan T U)) (kept : List (domain.Message T U)) (history : List (Message T)) (loans : List (ℕ × Loan T))
-    (message : domain.Message T U) (send : Send T) (may : BackpressureInfo → BackpressureDecision → Type 0) where
+    (last last_there : Option ℕ) (out : List (domain.Loan T U)) (kept : List (domain.Message T U)) (history : List (Message T))
+    (loans : List (ℕ × Loan T)) (message : domain.Message T U) (send : Send T)
+    (may : BackpressureInfo → BackpressureDecision → Type 0) where
   abbrev was : PublisherIs names old service number port
   was = stands.publishers number port there
 
-  -- the publisher of a domain that sends the message, as far as this, with these loans and this history
+  -- the publisher of a domain that sends the message, as far as this, with this number as its last, these loans and this history
   abbrev pub started : PublisherPort T U
   started = record port {
+    last_sequence = last;
     sender = with_uses (record port.sender.uses { sending = Some message; loans = out; history = kept }) port.sender;
     progress = from;
   }
 
   -- and that of the machine
   abbrev pub publisher : Publisher T
-  publisher = record was.0 { history = history }
+  publisher = record was.0 { last_sequence = last_there; history = history }
 
   abbrev name : ℕ
   name = names.publisher number
@@ -187,7 +189,8 @@ module _ {T U : Type 0} (choices : Choices T) (names : Naming) (lent after_lent 
       (new : Service T) × GoesOn choices name publisher send before (sent_or_skipped (Some answer)) new
       × StandsFor names after_lent held buffer (with_one number after old) new × (after.stands ≡ true)
 
-  module _ (standing : port.stands ≡ true) (history_is : history ≡ map (message_as (names.message number)) kept)
+  module _ (standing : port.stands ≡ true) (sequence_is : last_there ≡ last)
+      (history_is : history ≡ map (message_as (names.message number)) kept)
       (once : (slot : ℕ) → times slot (slots_of started.sender).history ≤ 1)
       (named : NamesSlots (names.message number) (slots_of started.sender) was.0.first was.0.next)
       (begins : IsBegun (names.message number) was.0.connected port.ties.items from message send)
@@ -309,6 +312,7 @@ module _ {T U : Type 0} (choices : Choices T) (names : Naming) (lent after_lent 
         slots = was.2.slots;
         room = was.2.room;
         segments = was.2.segments;
+        last_sequence = sequence_is;
         history = history_is;
         once = once;
         seen = was.2.seen;

@@ -25,10 +25,12 @@ use Rattle.iox_domain.specs.DomainPorts.MessagesSending.{is_written_loan}
 use Rattle.iox_domain.specs.DomainPorts.PublisherUpdating.{Updates}
 use Rattle.iox_domain.specs.DomainPorts.Publishers.{with_port}
 use Rattle.iox_domain.specs.DomainPorts.Sending.{ready_at, ready_loan, begun_at, dropped_at, Finishes, Sends, SendsIf, SendsAfter}
+use Rattle.iox_domain.specs.DomainPorts.Sending.{SendsStanding}
 use Rattle.iox_domain.specs.DomainPorts.declared.attached.Taken.{Taken}
 use Rattle.iox_domain.specs.DomainPorts.declared.meeting.Sent.{Sent}
 use Rattle.iox_domain.specs.DomainPorts.declared.publisher_port.PublisherPort.{PublisherPort}
 use Rattle.iox_domain.specs.DomainPorts.declared.subscriber_entry.SubscriberEntry.{SubscriberEntry}
+use Rattle.iox_domain.specs.DomainValues.Sequences.{is_used_up}
 use Rattle.iox_domain.specs.Ports.{AtPublisher, with_publisher}
 use Rattle.iox_domain.specs.PortsPublishing.{SendsOne}
 use Rattle.iox_domain.specs.Rolls.{IsListOf}
@@ -124,13 +126,20 @@ module _ {T U : Type 0} (types : MessageTypeDetails) (choices : Choices T) (buff
       subst (λ reader. StandsFor (record names { reader = reader }) after_lent held buffer new after)
       (sym (same_name out.publisher names.reader)) it
 
-  -- what the machine does with the message of the loan, where its publisher stands, or left
-  abbrev SendsIt : Bool → Reply T → Service T → Type 0
-  SendsIt standing answered after =
-      MatchBool standing
+  -- what the machine does with the message of the loan, where the numbers of its publisher are used up, or aren't
+  abbrev SendsNumbered : Bool → Reply T → Service T → Type 0
+  SendsNumbered used answered after =
+      MatchBool used
+      (IsRefused {T = T} (refusal.Send error.InternalError) before answered after)
       (UpdatesFirst choices name (λ failure. refusal.Send (error.ConnectionError failure))
       (sending.Begins choices name (sent_as lent_loan)) was.0
       before answered after)
+
+  -- and where its publisher stands, or left
+  abbrev SendsIt : Bool → Reply T → Service T → Type 0
+  SendsIt standing answered after =
+      MatchBool standing
+      (SendsNumbered (is_used_up was.0.last_sequence) answered after)
       (IsRefused {T = T} (refusal.Send error.ConnectionBrokenSinceSenderNoLongerExists) before answered after)
 
   -- and where the loan is written and no send waits, or isn't and one does
@@ -174,15 +183,18 @@ module _ {T U : Type 0} (types : MessageTypeDetails) (choices : Choices T) (buff
   skips : (machine.is_written lent_loan && not (is_some was.0.blocked)) ≡ false → Comes None old
   skips is = comes false is None old service (refl, refl) (names.reader out.publisher) (stays lent old service stands)
 
-  -- the publisher left: the loan is given up
-  breaks : port.stands ≡ false → (machine.is_written lent_loan && not (is_some was.0.blocked)) ≡ true
-      → Comes (Some (Err error.ConnectionBrokenSinceSenderNoLongerExists))
-      (with_publisher out.publisher (dropping.after names lent held buffer old service loan out stands goes) old)
-  breaks left is =
-      comes true is (Some (Err error.ConnectionBrokenSinceSenderNoLongerExists))
+  -- numbers are used up of both, or of neither
+  used_alike : is_used_up was.0.last_sequence ≡ is_used_up port.last_sequence
+  used_alike = ap is_used_up was.2.last_sequence
+
+  -- a send is refused before its update: the loan is given up
+  refuses : (why : SendError) → (machine.is_written lent_loan && not (is_some was.0.blocked)) ≡ true
+      → SendsIt was.0.stands (reply.Refused (refusal.Send why)) before
+      → Comes (Some (Err why)) (with_publisher out.publisher (dropping.after names lent held buffer old service loan out stands goes) old)
+  refuses why is does =
+      comes true is (Some (Err why))
       (with_publisher out.publisher (dropping.after names lent held buffer old service loan out stands goes) old) before
-      (subst (λ b. SendsIt b (reply.Refused (refusal.Send error.ConnectionBrokenSinceSenderNoLongerExists)) before)
-      (sym (was.2.stands ∙ left)) (refl, refl)) (names.reader out.publisher)
+      does (names.reader out.publisher)
       (stays (removed loan lent)
       (with_publisher out.publisher (dropping.after names lent held buffer old service loan out stands goes) old) before
       (settled_stands names (removed loan lent) held buffer
@@ -193,9 +205,28 @@ module _ {T U : Type 0} (types : MessageTypeDetails) (choices : Choices T) (buff
       (same_set (at_number out.publisher) old.publishers
       (dropping.after names lent held buffer old service loan out stands goes) port there.there)))
 
-  module _ (free : port.sender.uses.sending ≡ None) (standing : port.stands ≡ true)
+  -- the publisher left
+  breaks : port.stands ≡ false → (machine.is_written lent_loan && not (is_some was.0.blocked)) ≡ true
+      → Comes (Some (Err error.ConnectionBrokenSinceSenderNoLongerExists))
+      (with_publisher out.publisher (dropping.after names lent held buffer old service loan out stands goes) old)
+  breaks left is =
+      refuses error.ConnectionBrokenSinceSenderNoLongerExists is
+      (subst (λ b. SendsIt b (reply.Refused (refusal.Send error.ConnectionBrokenSinceSenderNoLongerExists)) before)
+      (sym (was.2.stands ∙ left)) (refl, refl))
+
+  -- its last message has the last number
+  runs_out : port.stands ≡ true → is_used_up port.last_sequence ≡ true
+      → (machine.is_written lent_loan && not (is_some was.0.blocked)) ≡ true
+      → Comes (Some (Err error.InternalError))
+      (with_publisher out.publisher (dropping.after names lent held buffer old service loan out stands goes) old)
+  runs_out standing used is =
+      refuses error.InternalError is
+      (subst (λ b. SendsIt b (reply.Refused (refusal.Send error.InternalError)) before) (sym (was.2.stands ∙ standing))
+      (subst (λ b. SendsNumbered b (reply.Refused (refusal.Send error.InternalError)) before) (sym (used_alike ∙ used)) (refl, refl)))
+
+  module _ (free : port.sender.uses.sending ≡ None) (standing : port.stands ≡ true) (unused : is_used_up port.last_sequence ≡ false)
       (is : (machine.is_written lent_loan && not (is_some was.0.blocked)) ≡ true) where
-    -- what a publisher does that stands
+    -- what a publisher does that stands, and has a number left
     sends_it : (answer : Result Sent SendError) (after : PublisherPort T U) (new : Service T)
         → UpdatesAndSends choices names lent held buffer old service loan out stands roomy goes may may_degrade
         (sent_or_skipped (Some answer)) new → (reader : ℕ → ℕ)
@@ -203,7 +234,8 @@ module _ {T U : Type 0} (types : MessageTypeDetails) (choices : Choices T) (buff
         → Comes (Some answer) (with_publisher out.publisher after old)
     sends_it answer after new does reader after_stands =
         comes true is (Some answer) (with_publisher out.publisher after old) new
-        (subst (λ b. SendsIt b (sent_or_skipped (Some answer)) new) (sym (was.2.stands ∙ standing)) does) reader after_stands
+        (subst (λ b. SendsIt b (sent_or_skipped (Some answer)) new) (sym (was.2.stands ∙ standing))
+        (subst (λ b. SendsNumbered b (sent_or_skipped (Some answer)) new) (sym (used_alike ∙ unused)) does)) reader after_stands
 
     -- no update is due in the machine either
     seen_alike : (port.seen == old.subscriber_list.changes) ≡ true → (was.0.seen == before.subscriber_list.changes) ≡ true
@@ -231,7 +263,7 @@ module _ {T U : Type 0} (types : MessageTypeDetails) (choices : Choices T) (buff
       (result : Result Sent SendError) × (answer ≡ Some result) × Comes (Some result) (with_publisher out.publisher after old)
 
   module _ (listed : List (Option (Member SubscriberEntry))) (tells : IsListOf listed old.subscriber_list) where
-    module _ (free : port.sender.uses.sending ≡ None) (standing : port.stands ≡ true)
+    module _ (free : port.sender.uses.sending ≡ None) (standing : port.stands ≡ true) (unused : is_used_up port.last_sequence ≡ false)
         (is : (machine.is_written lent_loan && not (is_some was.0.blocked)) ≡ true) (outcome : Result (Unit {0}) ConnectionFailure)
         (updated : PublisherPort T U) (updates : Updates may_degrade listed old.subscriber_list.changes port outcome updated)
         (answer : Option (Result Sent SendError)) (after : PublisherPort T U) where
@@ -242,7 +274,7 @@ module _ {T U : Type 0} (types : MessageTypeDetails) (choices : Choices T) (buff
           let on : SendsAfter may place (Ok tt) port answer after =
           subst (λ (one : PublisherPort T U). SendsAfter may place (Ok tt) one answer after) same
           (subst (λ (result : Result (Unit {0}) ConnectionFailure). SendsAfter may place result updated answer after) done sent) in
-          (on.0, on.2, goes_on free standing is seen on.0 after on.1)
+          (on.0, on.2, goes_on free standing unused is seen on.0 after on.1)
 
       -- it did
       module _ (unseen : (port.seen == old.subscriber_list.changes) ≡ false)
@@ -255,7 +287,7 @@ module _ {T U : Type 0} (types : MessageTypeDetails) (choices : Choices T) (buff
             updated
             tells updates standing free (decides was.0 was.1 (was.2.stands ∙ standing)) followed unseen is_done
             sent.0 after sent.1 in
-            (sent.0, sent.2, sends_it free standing is sent.0 after to.0 to.1 followed.new_reader to.2)
+            (sent.0, sent.2, sends_it free standing unused is sent.0 after to.0 to.1 followed.new_reader to.2)
         follows (Err failure) failed sent =
             let to = updated_fails choices names lent held buffer old service loan out stands roomy goes may may_degrade listed outcome
             updated
@@ -265,7 +297,7 @@ module _ {T U : Type 0} (types : MessageTypeDetails) (choices : Choices T) (buff
               sent.0,
               subst (λ (one : PublisherPort T U). Comes (Some (Err (error.ConnectionError failure))) (with_publisher out.publisher one old))
                   (sym sent.1)
-                  (sends_it free standing is (Err (error.ConnectionError failure)) (dropped_at place updated) to.0 to.1
+                  (sends_it free standing unused is (Err (error.ConnectionError failure)) (dropped_at place updated) to.0 to.1
                   followed.new_reader to.2),
             )
 
@@ -277,6 +309,19 @@ module _ {T U : Type 0} (types : MessageTypeDetails) (choices : Choices T) (buff
           (choices.publisher_acts name was.0.degradation) outcome may_degrade
           roomy.tied roomy.allowed standing free (degrades was.0 was.1 (was.2.stands ∙ standing)) listed tells updates)
 
+    sends_standing : port.sender.uses.sending ≡ None → port.stands ≡ true
+        → (machine.is_written lent_loan && not (is_some was.0.blocked)) ≡ true
+        → (used : Bool) → is_used_up port.last_sequence ≡ used → (answer : Option (Result Sent SendError)) (after : PublisherPort T U)
+        → SendsStanding used may_degrade may listed old.subscriber_list.changes place port answer after → Gone answer after
+    sends_standing free standing is true used answer after sends = (
+      Err error.InternalError,
+      sends.0,
+      subst (λ (one : PublisherPort T U). Comes (Some (Err error.InternalError)) (with_publisher out.publisher one old)) (sym sends.1)
+          (runs_out standing used is),
+    )
+    sends_standing free standing is false unused answer after sends =
+        sends_after free standing unused is sends.0 sends.1 sends.2 answer after sends.3
+
     sends_if : port.sender.uses.sending ≡ None → (machine.is_written lent_loan && not (is_some was.0.blocked)) ≡ true
         → (standing : Bool) → port.stands ≡ standing → (answer : Option (Result Sent SendError)) (after : PublisherPort T U)
         → SendsIf standing may_degrade may listed old.subscriber_list.changes place port answer after → Gone answer after
@@ -287,7 +332,7 @@ module _ {T U : Type 0} (types : MessageTypeDetails) (choices : Choices T) (buff
           (with_publisher out.publisher one old)) (sym sends.1) (breaks left is),
     )
     sends_if free is true standing answer after sends =
-        sends_after free standing is sends.0 sends.1 sends.2 answer after sends.3
+        sends_standing free standing is (is_used_up port.last_sequence) refl answer after sends
 
     -- the ports after a call, which did nothing where it answers none
     abbrev Leaves : Option (Result Sent SendError) → PublisherPort T U → ServicePorts T U → Type 0

@@ -273,6 +273,7 @@ module _ {T U : Type 0} (names : ℕ → Naming) (lent : List (ℕ × (ℕ × Le
   has_none factories (command.GiveUp publisher) named = no_publisher publisher named
   has_none factories (command.Receive subscriber) named = no_subscriber subscriber named
   has_none factories (command.Read sample) named = no_sample sample named
+  has_none factories (command.Sequence sample) named = no_sample sample named
   has_none factories (command.Release sample) named = no_sample sample named
   has_none factories (command.Update (port.Publisher publisher)) named = no_publisher publisher named
   has_none factories (command.Update (port.Subscriber subscriber)) named = no_subscriber subscriber named
@@ -301,6 +302,7 @@ on_ports domain names lent held (command.Retry publisher nanoseconds) named = re
 on_ports domain names lent held (command.GiveUp publisher) named = refl
 on_ports domain names lent held (command.Receive subscriber) named = refl
 on_ports domain names lent held (command.Read sample) named = refl
+on_ports domain names lent held (command.Sequence sample) named = refl
 on_ports domain names lent held (command.Release sample) named = refl
 on_ports domain names lent held (command.Update which) named = refl
 on_ports domain names lent held (command.Leave which) named = refl

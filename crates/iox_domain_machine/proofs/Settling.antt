@@ -5,7 +5,7 @@ use Rattle.std.proofs.lemmas.Bool.{cases_eq, eqb-true, eq-eqb}
 use Rattle.std.specs.List.{list_any}
 use Rattle.std.specs.Map.{keys_of, lookup, remove_entry}
 use Rattle.std.specs.Option.{option_map_or}
-use Rattle.std.specs.Prelude.{is_some, find, if◌then◌else◌}
+use Rattle.std.specs.Prelude.{is_some, find, option_and_then, if◌then◌else◌}
 use Rattle.iox_domain.proofs.DomainSlots.Counts.{one}
 use Rattle.iox_domain.proofs.Numbered.{at_number, number_is, other_fails, other_gone}
 use Rattle.iox_domain.specs.DomainPorts.Messages.{Message, Loan}
@@ -196,6 +196,7 @@ module _ {T U : Type 0} (names : Naming) (lent : List (ℕ × LentSlot)) (held :
         subscriber = names.subscriber taken.subscriber;
         message = record {
           number = names.message taken.publisher taken.slot;
+          sequence = option_and_then (λ (message : Message T U). message.sequence) found;
           values = option_map_or (λ
               (message : Message T U). message.values) found [];
         };

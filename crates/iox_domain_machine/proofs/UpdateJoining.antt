@@ -297,6 +297,7 @@ module _ {T U : Type 0} (names : Naming) (lent : List (ℕ × LentSlot)) (held_s
           slots = before.slots;
           room = before.room;
           segments = before.segments;
+          last_sequence = before.last_sequence;
           history = before.history;
           once = before.once;
           seen = before.seen;
@@ -581,6 +582,7 @@ module _ {T U : Type 0} (names : Naming) (lent : List (ℕ × LentSlot)) (held_s
         slots = same.slots;
         room = same.room;
         segments = same.segments;
+        last_sequence = same.last_sequence;
         history = same.history;
         once = same.once;
         seen = same.seen;

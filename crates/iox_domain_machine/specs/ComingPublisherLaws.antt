@@ -36,8 +36,8 @@ with_publisher_came number name (Ok came) names = record names { publisher = wit
 with_publisher_came number name (Err why) names = names
 
 -- A command asks for what a domain is asked for: by this factory, for so many loans, so many values in a slot at first, single values, and
--- this way to grow, each with the domain's default where it isn't named; and as many slots are answered as the command names, or those that
--- are needed.
+-- this way to grow, each with the domain's default where it isn't named; for the domain's default as the first number of its messages; and
+-- as many slots are answered as the command names, or those that are needed.
 pub record IsPublisherAskedSo (overrides : ℕ → ℕ → Type 0) (factory : ℕ) (options : PublisherOptions)
     (config : PublisherConfig) : Type 0 where
   pub owner : config.owner.number ≡ factory
@@ -45,6 +45,7 @@ pub record IsPublisherAskedSo (overrides : ℕ → ℕ → Type 0) (factory : �
   pub values : config.values ≡ unwrap_or options.initial_max_slice_len publisher_defaults.initial_max_slice_len
   pub unit : config.unit ≡ 1
   pub allocation : config.allocation ≡ unwrap_or options.allocation_strategy publisher_defaults.allocation
+  pub first_sequence : config.first_sequence ≡ publisher_defaults.first_sequence
   pub slots : (needed named : ℕ) → overrides needed named → named ≡ unwrap_or options.preallocated_samples needed
 
 -- A publisher comes, by a factory of the service, and follows the list of subscribers; or it is told why it doesn't. It gets the next

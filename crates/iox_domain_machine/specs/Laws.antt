@@ -99,6 +99,14 @@ module _ (T U : Type 0) (choices : Choices T) where
       × ((values : Vec T) → vec_items values ≡ message.values
       → Matches types buffer (command.Read sample) (reply.Values values) state service names lent held ports)
 
+  -- A sample that goes by a number is there, and it is told which number its message has, if it has one.
+  abbrev pub SequenceMatches : Type 0
+  SequenceMatches = (types : MessageTypeDetails) (buffer : ℕ) (names : Naming) (lent : List (ℕ × LentSlot)) (held : List (ℕ × Taken))
+      (ports : ServicePorts T U) (service : Service T) (state : State T) (sample : ℕ) (taken : Taken)
+      → StandsFor names lent held buffer ports service → at sample held ≡ Some taken
+      → (message : domain.Message T U) × (sample_in taken ports ≡ Some message)
+      × Matches types buffer (command.Sequence sample) (reply.Sequence message.sequence) state service names lent held ports
+
   -- A send that waits is given up.
   abbrev pub GiveUpMatches : Type 0
   GiveUpMatches = (types : MessageTypeDetails) (buffer : ℕ) (names : Naming) (lent : List (ℕ × LentSlot)) (held : List (ℕ × Taken))

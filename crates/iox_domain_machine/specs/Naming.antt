@@ -41,9 +41,9 @@ abbrev pub list_as : {V : Type 0} → (V → ℕ) → RollState V → PortList
 list_as name roll = record { places = map (option_map (λ (member : Member _). name member.value)) roll.places; changes = roll.changes }
 
 module _ {T U : Type 0} (name : ℕ → ℕ) where
-  -- a message by its name
+  -- a message by its name; its sequence number is the same
   abbrev pub message_as : domain.Message T U → Message T
-  message_as message = record { number = name message.slot; values = message.values }
+  message_as message = record { number = name message.slot; sequence = message.sequence; values = message.values }
 
   -- what waits at a connection and is borrowed of it
   abbrev pub mailbox_as : Connection (domain.Message T U) → Mailbox T

@@ -56,6 +56,7 @@ pub record PublisherStandsFor {T U : Type 0} (name reader : ℕ → ℕ) (most_s
   pub slots : publisher.slots ≡ port.sender.uses.size
   pub room : publisher.room ≡ port.sender.room
   pub segments : publisher.segments ≡ port.sender.segments
+  pub last_sequence : publisher.last_sequence ≡ port.last_sequence
   pub history : publisher.history ≡ map (message_as name) port.sender.uses.history
   pub once : (slot : ℕ) → times slot (slots_of port.sender).history ≤ 1
   pub seen : publisher.seen ≡ port.seen

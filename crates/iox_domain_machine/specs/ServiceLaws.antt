@@ -44,6 +44,7 @@ NamesOf domain names lent held (command.Fill loan values) = GoesBy domain loan l
 NamesOf domain names lent held (command.Drop loan) = GoesBy domain loan lent
 NamesOf domain names lent held (command.Send loan) = GoesBy domain loan lent
 NamesOf domain names lent held (command.Read sample) = GoesBy domain sample held
+NamesOf domain names lent held (command.Sequence sample) = GoesBy domain sample held
 NamesOf domain names lent held (command.Release sample) = GoesBy domain sample held
 NamesOf domain names lent held other = ⊥
 

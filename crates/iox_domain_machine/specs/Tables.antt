@@ -1,5 +1,5 @@
 -- Which loans and samples of the machine are those of a domain that go by numbers.
-use Rattle.std.specs.Prelude.{ℕ, ◌==◌, ◌&&◌, ◌≡◌, ◌≤◌, List, [], filter, map, count_by, Option, None, Some}
+use Rattle.std.specs.Prelude.{ℕ, ◌==◌, ◌&&◌, ◌≡◌, ◌≤◌, List, [], filter, map, count_by, option_and_then, Option, None, Some}
 use Rattle.std.specs.List.{All}
 use Rattle.std.specs.Map.{keys_of}
 use Rattle.std.specs.Option.{option_map_or}
@@ -64,6 +64,7 @@ module _ {T U : Type 0} (names : Naming) (ports : ServicePorts T U) where
     subscriber = names.subscriber taken.subscriber;
     message = record {
       number = names.message taken.publisher taken.slot;
+      sequence = option_and_then (λ (message : domain.Message T U). message.sequence) (sample_in taken ports);
       values = option_map_or (λ (message : domain.Message T U). message.values) (sample_in taken ports) [];
     };
   }

@@ -13,7 +13,8 @@
 
 ghost use Rattle.iox_domain_values.specs.declared.degradation.DegradationCause.TheVariants as cause;
 ghost use Rattle.iox_machine.specs.Choices.{Handed, chosen_by};
-ghost use Rattle.iox_domain_machine.specs.Laws.{NewStands, SetMatches, FillMatches, DropMatches, ReadMatches, GiveUpMatches};
+ghost use Rattle.iox_domain_machine.specs.Laws.{NewStands, SetMatches, FillMatches, DropMatches, ReadMatches, SequenceMatches};
+ghost use Rattle.iox_domain_machine.specs.Laws.{GiveUpMatches};
 ghost use Rattle.iox_domain_machine.specs.ReleaseLaws.{ReleaseMatches};
 ghost use Rattle.iox_domain_machine.specs.LeaveLaws.{PublisherLeaveMatches, SubscriberLeaveMatches};
 ghost use Rattle.iox_domain_machine.specs.LendingLaws.{LendUninitMatches, LendMatches};
@@ -55,6 +56,13 @@ pub fn dropping_a_loan_matches<T: Default, U, B: Decides + Degrades, D: Degrades
 /// A sample that goes by a number is there, and is read with the same values. Nothing changes.
 pub fn reading_matches<T: Default, U, B: Decides + Degrades, D: Degrades>()
     ensures { (handed : Handed B D) → ReadMatches T U (chosen_by T.is_default (λ who. B.decides who)
+        (λ who. B.degrades who) (λ who. D.degrades who) handed) }
+{}
+
+/// A sample that goes by a number is there, and it is told which number its send gave its message, where its service numbers messages.
+/// Nothing changes.
+pub fn telling_a_sequence_number_matches<T: Default, U, B: Decides + Degrades, D: Degrades>()
+    ensures { (handed : Handed B D) → SequenceMatches T U (chosen_by T.is_default (λ who. B.decides who)
         (λ who. B.degrades who) (λ who. D.degrades who) handed) }
 {}
 

@@ -93,4 +93,4 @@ all_sent [] = refl
 all_sent (value ∷ values) = ap (λ rest. value ∷ rest) (all_sent values)
 
 pub whole_is_sent : {T U : Type 0} → WholeIsSent T U
-whole_is_sent = record { whole = λ values loan. all_whole values; values = λ values loan. all_sent values }
+whole_is_sent = record { whole = λ values loan. all_whole values; values = λ sequence values loan. all_sent values }

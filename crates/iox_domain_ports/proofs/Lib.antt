@@ -21,6 +21,7 @@ pub mod MessagesLoaning
 pub mod Again
 pub mod MessagesWriting
 pub mod Readings
+pub mod Numbering
 pub mod Opening
 pub mod Fullness
 pub mod Holding

@@ -58,12 +58,12 @@ pub record LoanPut {T U : Type 0} (old : Store T U) (slot count elements : ℕ) 
   pub long : length (payload_at slot new.values) ≡ count
   pub values : new.values ≡ with_payload slot (payload_at slot new.values) old.values
   pub written : new.written ≡ with_payload slot (replicate count false) old.written
-  pub headers : new.headers ≡ set old.headers slot (record { elements = elements; user_header = old.blank.user_header })
+  pub headers : new.headers ≡ set old.headers slot (record { elements = elements; user_header = old.blank.user_header; sequence = None })
   pub blank : new.blank ≡ old.blank
 
 -- a loan that was put is what was put into its slot
 put_of : {T U : Type 0} (old new : Store T U) (slot count elements : ℕ) → LoanPut old slot count elements new
-    → SlotPut old slot (record { elements = elements; user_header = old.blank.user_header }) (payload_at slot new.values)
+    → SlotPut old slot (record { elements = elements; user_header = old.blank.user_header; sequence = None }) (payload_at slot new.values)
     (replicate count false) new
 put_of old new slot count elements put = record { values = put.values; written = put.written; headers = put.headers; blank = put.blank }
 
@@ -74,10 +74,11 @@ loan_stands old new slot count elements put below here =
     ap (λ headers. loan_of slot (get_or headers slot new.blank) (masked (payload_at slot new.written) (payload_at slot new.values)))
     put.headers
     ∙ ap (λ header. loan_of slot header (masked (payload_at slot new.written) (payload_at slot new.values)))
-    (get_or-set_same old.headers slot (record { elements = elements; user_header = old.blank.user_header }) new.blank below)
-    ∙ ap (λ marks. loan_of slot (record { elements = elements; user_header = old.blank.user_header })
+    (get_or-set_same old.headers slot (record { elements = elements; user_header = old.blank.user_header; sequence = None })
+    new.blank below)
+    ∙ ap (λ marks. loan_of slot (record { elements = elements; user_header = old.blank.user_header; sequence = None })
     (masked marks (payload_at slot new.values))) (this_payload old.written new.written slot (replicate count false) put.written here)
-    ∙ ap (loan_of slot (record { elements = elements; user_header = old.blank.user_header }))
+    ∙ ap (loan_of slot (record { elements = elements; user_header = old.blank.user_header; sequence = None }))
     (unwritten (payload_at slot new.values) count put.long)
 
 -- a loan is made
@@ -105,9 +106,9 @@ loan_made {T = T} {U = U} before store old new state slot count elements is send
     others : uses_by (loan_in store) (message_in store) old ≡ uses_by (loan_in before) (message_in before) old
     others = uses_agree (loan_in store) (loan_in before) (message_in store) (message_in before) old
         (λ k used. (
-          loan_stays before store slot (record { elements = elements; user_header = before.blank.user_header })
+          loan_stays before store slot (record { elements = elements; user_header = before.blank.user_header; sequence = None })
               (payload_at slot store.values) (replicate count false) k (put_of before store slot count elements put) (apart k used),
-          message_stays before store slot (record { elements = elements; user_header = before.blank.user_header })
+          message_stays before store slot (record { elements = elements; user_header = before.blank.user_header; sequence = None })
               (payload_at slot store.values) (replicate count false) k (put_of before store slot count elements put) (apart k used),
         ))
 
@@ -127,7 +128,7 @@ loan_kept before store old new slot count elements sender loan put = subst (IsSe
   values = ap (λ v. length v.payloads) put.values ∙ length-set before.values.payloads slot (payload_at slot store.values) ∙ sender.values;
   written = ap (λ v. length v.payloads) put.written ∙ length-set before.written.payloads slot (replicate count false) ∙ sender.written;
   headers = ap length put.headers ∙ length-set before.headers slot
-      (record { elements = elements; user_header = before.blank.user_header }) ∙ sender.headers;
+      (record { elements = elements; user_header = before.blank.user_header; sequence = None }) ∙ sender.headers;
   values_size = ap (λ v. v.size) put.values ∙ sender.values_size;
   written_size = ap (λ v. v.size) put.written ∙ sender.written_size;
   room = ap (λ v. v.room) put.written ∙ sender.room ∙ sym (ap (λ v. v.room) put.values);

@@ -191,12 +191,13 @@ with_header header user_header = record header { user_header = user_header }
 pub same_with : {U : Type 0} (a b : SlotHeader U) (user_header : U) → a ≡ b → with_header a user_header ≡ with_header b user_header
 same_with a b user_header same = ap (λ header. with_header header user_header) same
 
--- a user header is written in a slot
-pub header_written : {T U : Type 0} (old new : Store T U) (slot : ℕ) (header : SlotHeader U) (user_header : U) → slot < length old.headers
-    → header ≡ record (get_or old.headers slot old.blank) { user_header = user_header }
+-- another header stands in a slot, of which a loan there tells as it is changed
+pub header_changed : {T U : Type 0} (old new : Store T U) (slot : ℕ) (change : Loan T U → Loan T U) (header : SlotHeader U)
+    → slot < length old.headers
+    → ((values : List (Option T)) → loan_of slot header values ≡ change (loan_of slot (get_or old.headers slot old.blank) values))
     → new.headers ≡ set old.headers slot header → new.values ≡ old.values → new.written ≡ old.written → new.blank ≡ old.blank
-    → ChangedAt old slot (write_user_header user_header) new
-header_written old new slot header user_header below made headers values written blank = record {
+    → ChangedAt old slot change new
+header_changed old new slot change header below changes headers values written blank = record {
   loans = λ k apart.
       ap (λ hs. loan_of k (get_or hs k new.blank) (masked (payload_at k new.written) (payload_at k new.values))) headers
       ∙ ap (λ h. loan_of k h (masked (payload_at k new.written) (payload_at k new.values)))
@@ -213,14 +214,23 @@ header_written old new slot header user_header below made headers values written
       ap (λ hs. loan_of slot (get_or hs slot new.blank) (masked (payload_at slot new.written) (payload_at slot new.values))) headers
       ∙ ap (λ h. loan_of slot h (masked (payload_at slot new.written) (payload_at slot new.values)))
       (get_or-set_same old.headers slot header new.blank below)
-      ∙ ap (λ h. loan_of slot h (masked (payload_at slot new.written) (payload_at slot new.values))) made
-      ∙ ap (λ w. loan_of slot (record (get_or old.headers slot old.blank) { user_header = user_header })
-      (masked (payload_at slot w) (payload_at slot new.values))) written
-      ∙ ap (λ v. loan_of slot (record (get_or old.headers slot old.blank) { user_header = user_header })
-      (masked (payload_at slot old.written) (payload_at slot v))) values;
+      ∙ changes (masked (payload_at slot new.written) (payload_at slot new.values))
+      ∙ ap (λ w. change (loan_of slot (get_or old.headers slot old.blank)
+      (masked (payload_at slot w) (payload_at slot new.values)))) written
+      ∙ ap (λ v. change (loan_of slot (get_or old.headers slot old.blank) (masked (payload_at slot old.written) (payload_at slot v))))
+      values;
   frame = λ b uses. ap (λ v. sender_of v b uses) values;
   blank = blank;
 }
+
+-- a user header is written in a slot
+pub header_written : {T U : Type 0} (old new : Store T U) (slot : ℕ) (header : SlotHeader U) (user_header : U) → slot < length old.headers
+    → header ≡ record (get_or old.headers slot old.blank) { user_header = user_header }
+    → new.headers ≡ set old.headers slot header → new.values ≡ old.values → new.written ≡ old.written → new.blank ≡ old.blank
+    → ChangedAt old slot (write_user_header user_header) new
+header_written old new slot header user_header below made headers values written blank =
+    header_changed old new slot (write_user_header user_header) header below (λ vs. ap (λ h. loan_of slot h vs) made) headers values written
+    blank
 
 -- what holds of a publisher holds after other values and as many marks were put into a slot
 pub values_kept : {T U : Type 0} (old new : Store T U) (uses : Uses ℕ ℕ) (slot : ℕ) (values : List T) (marks : List Bool)

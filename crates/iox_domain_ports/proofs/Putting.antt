@@ -27,7 +27,13 @@ abbrev pub loan_of : {T U : Type 0} → ℕ → SlotHeader U → List (Option T)
 loan_of slot header values = record { slot = slot; elements = header.elements; user_header = header.user_header; values = values }
 
 abbrev pub message_of : {T U : Type 0} → ℕ → SlotHeader U → List T → Message T U
-message_of slot header values = record { slot = slot; elements = header.elements; user_header = header.user_header; values = values }
+message_of slot header values = record {
+  slot = slot;
+  sequence = header.sequence;
+  elements = header.elements;
+  user_header = header.user_header;
+  values = values;
+}
 
 -- a loan in another slot stays
 pub loan_stays : {T U : Type 0} (old new : Store T U) (slot : ℕ) (header : SlotHeader U) (values : List T) (marks : List Bool) (k : ℕ)

@@ -1,6 +1,6 @@
 -- What is read of loans and messages.
 use Rattle.std.proofs.Common.{rules, arith, ◌≡◌, ◌<◌, ◌∷◌, [], ℕ, zero, suc, Bool, true, false, List, length, get_or, map, slice_get}
-use Rattle.std.proofs.Common.{None, Some, is_some, refl, sym, ap, ◌∙◌}
+use Rattle.std.proofs.Common.{Option, None, Some, is_some, refl, sym, ap, ◌∙◌}
 use Rattle.std.proofs.lemmas.List.{length-map}
 use Rattle.std.specs.List.{list_all}
 use Rattle.iox_domain_slots.specs.Uses.{Uses, connection_at, begun}
@@ -123,7 +123,7 @@ whole (true ∷ marks) (value ∷ values) same all = ap (λ vs. value ∷ vs) (w
 whole (false ∷ marks) (value ∷ values) same all = search (rules, all)
 
 pub becomes : {T U : Type 0} (store : Store T U) (old : Uses ℕ ℕ) (slot : ℕ) → IsSender store old
-    → is_written (loan_in store slot) ≡ true → message_in store slot ≡ sent_as (loan_in store slot)
+    → is_written (loan_in store slot) ≡ true → message_in store slot ≡ sent_as (message_in store slot).sequence (loan_in store slot)
 becomes store old slot is written =
     ap (λ values. record (message_in store slot) { values = values })
     (sym (whole (payload_at slot store.written) (payload_at slot store.values) (is.marks slot) written))
@@ -138,16 +138,18 @@ loan_values_are store old state at loan is sender there written =
     ap (λ message. message.values) (becomes store old (get_or old.loans at 0) sender (sym (ap is_written it) ∙ written)) ∙ sym
     (ap (λ l. written_of l.values) it)
 
--- the send of a written loan begins
-pub begin_seen : {T U : Type 0} (store : Store T U) (old new : Uses ℕ ℕ) (state : SenderState T U) (at : ℕ) (loan : Loan T U)
-    → seen_sender store old ≡ state → IsSender store old
+-- the send of a written loan begins whose number stands in its slot
+pub begin_seen : {T U : Type 0} (store : Store T U) (old new : Uses ℕ ℕ) (state : SenderState T U) (at : ℕ) (sequence : Option ℕ)
+    (loan : Loan T U) → seen_sender store old ≡ state → IsSender store old
+    → (message_in store (get_or old.loans at 0)).sequence ≡ sequence
     → slice_get state.uses.loans at ≡ Some loan → is_written loan ≡ true → new ≡ begun at (get_or old.loans at 0) old
-    → seen_sender store new ≡ with_uses (begun at (sent_as loan) state.uses) state
-begin_seen store old new state at loan is sender there written made =
+    → seen_sender store new ≡ with_uses (begun at (sent_as sequence loan) state.uses) state
+begin_seen store old new state at sequence loan is sender numbered there written made =
     let it = loan_is store old state at loan is there in
-    let message : message_in store (get_or old.loans at 0) ≡ sent_as loan
-    = becomes store old (get_or old.loans at 0) sender (sym (ap is_written it) ∙ written) ∙ sym (ap sent_as it) in
-    seen_step store old new state (begun at (sent_as loan)) is (
+    let message : message_in store (get_or old.loans at 0) ≡ sent_as sequence loan
+    = becomes store old (get_or old.loans at 0) sender (sym (ap is_written it) ∙ written)
+    ∙ ap (λ number. sent_as number (loan_in store (get_or old.loans at 0))) numbered ∙ sym (ap (sent_as sequence) it) in
+    seen_step store old new state (begun at (sent_as sequence loan)) is (
     ap (uses_by (loan_in store) (message_in store)) made ∙ begun_by (loan_in store) (message_in store) at (get_or old.loans at 0) old
     ∙ ap (λ m. begun at m (uses_by (loan_in store) (message_in store) old)) message
     )

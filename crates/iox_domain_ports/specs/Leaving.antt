@@ -1,5 +1,5 @@
 -- A publisher comes and leaves.
-use Rattle.std.specs.Prelude.{zero, suc, ℕ, ◌+◌, true, false, [], length, get_or, None, if◌then◌else◌}
+use Rattle.std.specs.Prelude.{zero, suc, ℕ, ◌+◌, true, false, [], length, get_or, Option, None, if◌then◌else◌}
 use Rattle.iox_domain_values.specs.declared.data_segment.AllocationStrategy.{AllocationStrategy}
 use Rattle.iox_domain_values.specs.declared.port_owner.PortIdentity.{PortIdentity}
 use Rattle.iox_domain_ports.specs.declared.messages.sender_config.SenderConfig.{SenderConfig}
@@ -9,9 +9,10 @@ use Rattle.iox_domain_ports.specs.Progress.{start}
 use Rattle.iox_domain_ports.specs.Ports.{ended_at}
 use Rattle.iox_domain_ports.specs.declared.publisher_port.PublisherPort.{PublisherPort}
 
--- a publisher that is connected to nobody, with room for so many subscribers, whose elements have so many values each
-abbrev pub new_port : {T U : Type 0} → PortIdentity → ℕ → AllocationStrategy → ℕ → SenderConfig → U → PublisherPort T U
-new_port identity most_subscribers allocation unit config user_header = record {
+-- a publisher that is connected to nobody, with room for so many subscribers, whose elements have so many values each, and whose first
+-- message gets the number behind this one
+abbrev pub new_port : {T U : Type 0} → PortIdentity → ℕ → AllocationStrategy → ℕ → Option ℕ → SenderConfig → U → PublisherPort T U
+new_port identity most_subscribers allocation unit last_sequence config user_header = record {
   service = identity.service;
   number = identity.number;
   owner = identity.owner;
@@ -20,6 +21,7 @@ new_port identity most_subscribers allocation unit config user_header = record {
   unit = unit;
   stands = true;
   seen = 0;
+  last_sequence = last_sequence;
   ties = no_ties most_subscribers;
   readers = [];
   progress = start;

@@ -2,15 +2,16 @@
 use Rattle.std.specs.Prelude.{ℕ, Bool, List, [], ◌∷◌, map, set, replicate, is_some, Option, None, Some}
 use Rattle.std.specs.List.{list_all}
 
--- A message: the slot that it stands in, which no other message in use has, the number of its elements, its user header and
--- its values.
+-- A message: the slot that it stands in, which no other message in use has, the number that its send gave it, if messages have numbers,
+-- the number of its elements, its user header and its values.
 pub record Message (T U : Type 0) : Type 0 where
   pub slot : ℕ
+  pub sequence : Option ℕ
   pub elements : ℕ
   pub user_header : U
   pub values : List T
 
--- a loan: the same, and some values may not be written yet
+-- a loan: it has no number, and some values may not be written yet
 pub record Loan (T U : Type 0) : Type 0 where
   pub slot : ℕ
   pub elements : ℕ
@@ -27,9 +28,15 @@ written_of (Some value ∷ values) = value ∷ written_of values
 abbrev pub is_written : {T U : Type 0} → Loan T U → Bool
 is_written loan = list_all is_some loan.values
 
--- the message that a written loan becomes
-abbrev pub sent_as : {T U : Type 0} → Loan T U → Message T U
-sent_as loan = record { slot = loan.slot; elements = loan.elements; user_header = loan.user_header; values = written_of loan.values }
+-- the message that a written loan becomes where its send gives it this number
+abbrev pub sent_as : {T U : Type 0} → Option ℕ → Loan T U → Message T U
+sent_as sequence loan = record {
+  slot = loan.slot;
+  sequence = sequence;
+  elements = loan.elements;
+  user_header = loan.user_header;
+  values = written_of loan.values;
+}
 
 -- a new loan: none of its values is written
 abbrev pub new_loan : {T U : Type 0} → ℕ → ℕ → ℕ → U → Loan T U

@@ -1,6 +1,6 @@
 -- What the steps of a publisher come to, in other words.
 use Rattle.std.specs.Prelude.{ℕ, ◌+◌, ◌<◌, ◌≤◌, ◌≡◌, ◌≢◌, ◌↔◌, ◌&&◌, Bool, true, if◌then◌else◌, List, [], ◌∷◌, eqb, nat_lt, nat_le}
-use Rattle.std.specs.Prelude.{slice_get, Some}
+use Rattle.std.specs.Prelude.{slice_get, Option, Some}
 use Rattle.std.specs.List.{list_any}
 use Rattle.iox_domain_slots.specs.Uses.{Uses, nobody, placed, connected, connection_at, with_connection, loaned, dropped, begun, finished}
 use Rattle.iox_domain_slots.specs.Uses.{segment_opened, offered, taken, given_back, ended, welcomed}
@@ -63,4 +63,4 @@ pub record HeldStays (T U : Type 0) : Type 0 where
 -- A loan whose values are written all at once is wholly written, and just these values are sent.
 pub record WholeIsSent (T U : Type 0) : Type 0 where
   pub whole : (values : List T) (loan : Loan T U) → is_written (write_all values loan) ≡ true
-  pub values : (values : List T) (loan : Loan T U) → (sent_as (write_all values loan)).values ≡ values
+  pub values : (sequence : Option ℕ) (values : List T) (loan : Loan T U) → (sent_as sequence (write_all values loan)).values ≡ values

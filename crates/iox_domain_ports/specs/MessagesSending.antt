@@ -132,6 +132,7 @@ masked (written ∷ marks) (value ∷ values) = (if written then Some value else
 abbrev pub message_in : {T U : Type 0} → Store T U → ℕ → Message T U
 message_in store slot = record {
   slot = slot;
+  sequence = (get_or store.headers slot store.blank).sequence;
   elements = (get_or store.headers slot store.blank).elements;
   user_header = (get_or store.headers slot store.blank).user_header;
   values = payload_at slot store.values;

@@ -5,6 +5,7 @@ use Rattle.std.specs.List.{position}
 use Rattle.iox_domain_slots.specs.Uses.{accepts, offered, begun, dropped, finished}
 use Rattle.iox_domain_ports.specs.Messages.{Message, Loan, sent_as}
 use Rattle.iox_domain_ports.specs.MessagesSending.{with_uses, is_written_at}
+use Rattle.iox_domain_values.specs.Sequences.{next_sequence, is_used_up}
 use Rattle.iox_domain_slots.specs.Container.declared.container.Member.{Member}
 use Rattle.iox_domain_values.specs.declared.connection_failure.ConnectionFailure.{ConnectionFailure}
 use Rattle.iox_domain_values.specs.declared.degradation.DegradationAction.{DegradationAction}
@@ -140,10 +141,14 @@ ready_at (Some at) port = if is_some port.sender.uses.sending || not (is_written
 abbrev pub ready_loan : {T U : Type 0} → ℕ → PublisherPort T U → Option ℕ
 ready_loan slot port = ready_at (position (λ loan. loan.slot == slot) port.sender.uses.loans) port
 
--- the send of a loan begins
+-- the send of a loan begins: its message gets the next number of the publisher
 abbrev pub begun_by : {T U : Type 0} → ℕ → Option (Loan T U) → PublisherPort T U → PublisherPort T U
 begun_by at None port = port
-begun_by at (Some loan) port = record port { progress = start; sender = with_uses (begun at (sent_as loan) port.sender.uses) port.sender }
+begun_by at (Some loan) port = record port {
+  progress = start;
+  last_sequence = next_sequence port.last_sequence;
+  sender = with_uses (begun at (sent_as (next_sequence port.last_sequence) loan) port.sender.uses) port.sender;
+}
 
 -- the send of the loan at this place of the list begins
 abbrev pub begun_at : {T U : Type 0} → ℕ → PublisherPort T U → PublisherPort T U
@@ -160,16 +165,25 @@ SendsAfter may at (Err failure) updated answer new = (answer ≡ Some (Err (send
 SendsAfter may at (Ok done) updated answer new =
     (finished : Result Sent SendError) × (Finishes may (begun_at at updated) finished new) × (answer ≡ Some finished)
 
+-- A send by a publisher that stands: one whose numbers are used up gives the loan up, and another one updates first.
+abbrev pub SendsStanding : {T U : Type 0} → Bool → (DegradationInfo → DegradationAction → Type 0)
+    → (BackpressureInfo → BackpressureDecision → Type 0) → List (Option (Member SubscriberEntry)) → ℕ → ℕ
+    → PublisherPort T U → Option (Result Sent SendError) → PublisherPort T U → Type 0
+SendsStanding true may_degrade may listed changes at old answer new =
+    (answer ≡ Some (Err sending.InternalError)) × (new ≡ dropped_at at old)
+SendsStanding {T} {U} false may_degrade may listed changes at old answer new =
+    (outcome : Result (Unit {0}) ConnectionFailure) × (updated : PublisherPort T U)
+    × (Updates may_degrade listed changes old outcome updated)
+    × (SendsAfter may at outcome updated answer new)
+
 -- A send by a publisher that stands, and by one that left: that one gives the loan up.
 abbrev pub SendsIf : {T U : Type 0} → Bool → (DegradationInfo → DegradationAction → Type 0)
     → (BackpressureInfo → BackpressureDecision → Type 0) → List (Option (Member SubscriberEntry)) → ℕ → ℕ
     → PublisherPort T U → Option (Result Sent SendError) → PublisherPort T U → Type 0
 SendsIf false may_degrade may listed changes at old answer new =
     (answer ≡ Some (Err sending.ConnectionBrokenSinceSenderNoLongerExists)) × (new ≡ dropped_at at old)
-SendsIf {T} {U} true may_degrade may listed changes at old answer new =
-    (outcome : Result (Unit {0}) ConnectionFailure) × (updated : PublisherPort T U)
-    × (Updates may_degrade listed changes old outcome updated)
-    × (SendsAfter may at outcome updated answer new)
+SendsIf true may_degrade may listed changes at old answer new
+    = SendsStanding (is_used_up old.last_sequence) may_degrade may listed changes at old answer new
 
 -- A send of the loan at this place of the list; without one nothing happens.
 abbrev pub Sends : {T U : Type 0} → (DegradationInfo → DegradationAction → Type 0) → (BackpressureInfo → BackpressureDecision → Type 0)

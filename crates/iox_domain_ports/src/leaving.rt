@@ -12,13 +12,15 @@ use std::alloc::{AllocError, Global};
 
 impl<T: Copy, U: Copy> PublisherPort<T, U> {
     /// A publisher that is connected to nobody yet, and is to be listed at its place, with room for so many places of the list of
-    /// subscribers, whose elements have so many values each. It fails only where an allocation fails.
+    /// subscribers, whose elements have so many values each. Its first message gets the number behind `last_sequence`, and none has a
+    /// number where that is None. It fails only where an allocation fails.
     pub fn new(
         alloc: Global,
         identity: PortIdentity,
         most_subscribers: usize,
         allocation: AllocationStrategy,
         unit: usize,
+        last_sequence: Option<u64>,
         config: SenderConfig,
         blank: T,
         user_header: U,
@@ -28,7 +30,7 @@ impl<T: Copy, U: Copy> PublisherPort<T, U> {
         requires waiting { config.most_waiting < 2 ^ 32 }
         requires borrowed { config.most_borrowed < 2 ^ 32 }
         requires segments { 0 < config.most_segments }
-        ensures { IfOk result (λ port. port ≡ new_port identity most_subscribers allocation unit config user_header) }
+        ensures { IfOk result (λ port. port ≡ new_port identity most_subscribers allocation unit last_sequence config user_header) }
     {
         Ok(PublisherPort {
             service: identity.service,
@@ -39,6 +41,7 @@ impl<T: Copy, U: Copy> PublisherPort<T, U> {
             unit,
             stands: true,
             seen: 0,
+            last_sequence,
             ties: Ties::new(alloc, most_subscribers)?,
             readers: Places::new(alloc),
             progress: Progress::start(),

@@ -27,6 +27,8 @@ pub struct PublisherPort<T, U> {
     pub stands: bool,
     /// How often the list of subscribers had changed when it was last followed.
     pub seen: u64,
+    /// The last number that a send gave a message, or the one before the first; None where messages have no numbers.
+    pub last_sequence: Option<u64>,
     /// For each place of the list of subscribers the index of the connection that messages go to.
     pub ties: Ties,
     /// For each index of a connection who it leads to; none where it ended.

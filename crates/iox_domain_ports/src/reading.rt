@@ -119,6 +119,21 @@ pub fn elements_at<T: Copy, U: Copy>(
     Some(port.sender.elements(slot))
 }
 
+/// The number of the first message in this slot that is borrowed of the connection of this index, which is None where messages have no
+/// numbers; None where none is borrowed.
+pub fn sequence_at<T: Copy, U: Copy>(
+    port: &PublisherPort<T, U>,
+    index: usize,
+    slot: usize,
+) -> Option<Option<u64>>
+    ensures { result ≡ option_map (λ message. message.sequence) (borrowed_in slot (connection_of index port.now)) }
+{
+    if !has_at(port, index, slot) {
+        return None;
+    }
+    Some(port.sender.sequence(slot))
+}
+
 /// Whether the publisher left, and has neither loans nor connections, nor a send that waits.
 pub fn is_over<T: Copy, U: Copy>(port: &PublisherPort<T, U>) -> bool
     ensures { result ≡ is_over port.now }

@@ -1,6 +1,7 @@
 //! A publisher sends.
-ghost use Rattle.std.specs.Prelude.{◌≡◌, ◌≢◌, ℕ, ◌+◌, ◌-◌, ◌<◌, ◌≤◌, ◌^◌, Ok, Err, length, get_or, is_some, true, None, Some};
+ghost use Rattle.std.specs.Prelude.{◌≡◌, ◌≢◌, ℕ, ◌+◌, ◌-◌, ◌<◌, ◌≤◌, ◌^◌, Ok, Err, length, get_or, is_some, true, false, None, Some};
 ghost use Rattle.std.specs.Prelude.{if◌then◌else◌};
+ghost use Rattle.iox_domain_values.specs.Sequences.{is_used_up};
 ghost use Rattle.iox_domain_values.specs.declared.degradation.DegradationCause.TheVariants as cause;
 ghost use Rattle.iox_domain_ports.specs.MessagesSending.{has_loan, is_written_loan, loan_at, place_in};
 ghost use Rattle.iox_domain_ports.specs.declared.meeting.Meeting.TheVariants as meeting;
@@ -19,7 +20,9 @@ use crate::messages::Member;
 use crate::progress::Progress;
 use crate::publisher_port::PublisherPort;
 use crate::subscriber_entry::SubscriberEntry;
-use iox_domain_values::{BackpressureDecision, BackpressureInfo, Decides, Degrades, SendError};
+use iox_domain_values::{
+    BackpressureDecision, BackpressureInfo, Decides, Degrades, SendError, is_used_up, next_sequence,
+};
 use std::alloc::Global;
 
 impl<T: Copy, U: Copy> PublisherPort<T, U> {
@@ -184,8 +187,9 @@ impl<T: Copy, U: Copy> PublisherPort<T, U> {
         !self.sender.is_sending() && self.sender.is_written(slot)
     }
 
-    // Begins the send of the written loan in this slot.
+    // Begins the send of the written loan in this slot: its message gets the next number.
     fn begin(&mut self, slot: usize)
+        requires left { is_used_up self.old.last_sequence ≡ false }
         requires alone { self.old.sender.uses.sending ≡ None }
         requires written { is_written_loan (loan_at slot self.old.sender.uses) ≡ true }
         ensures begun { self.new ≡ begun_at (place_in slot self.old.sender.uses) self.old }
@@ -193,7 +197,8 @@ impl<T: Copy, U: Copy> PublisherPort<T, U> {
         ensures first { self.new.progress ≡ start }
         ensures kind { self.new.sender.uses.overflows ≡ self.old.sender.uses.overflows }
     {
-        self.sender.begin_send(slot);
+        self.last_sequence = next_sequence(self.last_sequence);
+        self.sender.begin_send(slot, self.last_sequence);
         self.progress = Progress::start();
     }
 
@@ -206,13 +211,14 @@ impl<T: Copy, U: Copy> PublisherPort<T, U> {
     }
 
     /// Sends the written loan in this slot: it is a loan no longer, and the newest of the history; each connection that goes on takes
-    /// it, in the order of the list of subscribers, which is followed first. With safe overflow a full mailbox lets its oldest go;
-    /// without it the handlers decide, and the send may wait. None, and nothing happens, where no written loan is there or
-    /// another send waits.
+    /// it, in the order of the list of subscribers, which is followed first. Its message has the next number, where messages have
+    /// numbers. With safe overflow a full mailbox lets its oldest go; without it the handlers decide, and the send may wait. None, and
+    /// nothing happens, where no written loan is there or another send waits.
     ///
-    /// Refused with `ConnectionBrokenSinceSenderNoLongerExists` if the publisher left, with `ConnectionError` where the list
-    /// isn't followed, which never is where an allocation fails where all that it needs is there; then the loan is given up, and
-    /// nothing is sent. `UnableToDeliver` where a handler said so; what was delivered stays.
+    /// Refused with `ConnectionBrokenSinceSenderNoLongerExists` if the publisher left, with `InternalError` if its last number is
+    /// 2^64 - 1, and with `ConnectionError` where the list isn't followed, which never is where an allocation fails where all that it
+    /// needs is there; then the loan is given up, and nothing is sent. `UnableToDeliver` where a handler said so; what was delivered
+    /// stays, and so does the number.
     ///
     /// Ported from `iceoryx2::port::publisher::Publisher::send`.
     pub fn send<B: Decides + Degrades>(
@@ -235,6 +241,10 @@ impl<T: Copy, U: Copy> PublisherPort<T, U> {
         if !self.stands {
             self.drop_loan(slot);
             return Some(Err(SendError::ConnectionBrokenSinceSenderNoLongerExists));
+        }
+        if is_used_up(self.last_sequence) {
+            self.drop_loan(slot);
+            return Some(Err(SendError::InternalError));
         }
         if let Err(failure) = self.update(alloc, listed, changes, handlers) {
             self.drop_loan(slot);

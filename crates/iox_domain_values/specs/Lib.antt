@@ -4,6 +4,7 @@ pub mod DegradationAnswers
 pub mod ErrorTexts
 pub mod OverrideAnswers
 pub mod Strategy
+pub mod Sequences
 pub mod Sizes
 pub mod Segments
 pub mod HandlersAnswers

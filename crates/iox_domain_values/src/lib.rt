@@ -8,6 +8,7 @@
 //! | `degradation` | what a handler is told of a failed connection, and what it may answer |
 //! | `data_segment` | how the room of a publisher grows |
 //! | `port_owner` | whose port it is, and which one |
+//! | `sequences` | the numbers that messages have where their service numbers them |
 //! | `service_sizes` | how much a service allows to its ports, and how many slots a publisher needs there |
 //! | `connection_failure`, `port_error`, `create_error` | why a connection fails, a loan, a send or a receive is refused, a port or a domain isn't made |
 //! | `laws` | what the definitions come to, in other words |
@@ -38,6 +39,7 @@ pub mod laws;
 pub mod port_error;
 pub mod port_owner;
 pub mod samples_override;
+pub mod sequences;
 pub mod service_sizes;
 
 pub use backpressure::{
@@ -56,4 +58,5 @@ pub use port_owner::{PortIdentity, PortOwner};
 pub use samples_override::{
     Overrides, PreallocatedSamplesFn, PreallocatedSamplesOverride, number_of_places,
 };
+pub use sequences::{before_first, is_used_up, next_sequence};
 pub use service_sizes::ServiceSizes;

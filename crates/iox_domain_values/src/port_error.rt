@@ -53,7 +53,7 @@ pub enum SendError {
     ConnectionError(ConnectionFailure),
     /// A full mailbox was passed over whose handler wants the send to fail. The deliveries made stay.
     UnableToDeliver,
-    /// Something else failed. Never given.
+    /// The publisher's numbers are used up: its last message has the number 2^64 - 1. The loan ends.
     InternalError,
 }
 

@@ -19,6 +19,8 @@ pub struct ServiceSizes {
     pub history_size: u32,
     /// Whether a full mailbox drops its oldest message, in place of holding the publisher up.
     pub enable_safe_overflow: bool,
+    /// Whether messages have numbers.
+    pub sequence_numbers: bool,
     /// How many connections of a subscriber may wait to be read after their publishers left.
     pub expired_connections: u32,
 }

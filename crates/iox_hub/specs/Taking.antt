@@ -20,6 +20,7 @@ is_skipped reply.Blocked = false
 is_skipped (reply.Received sample values) = false
 is_skipped reply.NothingWaits = false
 is_skipped (reply.Values values) = false
+is_skipped (reply.Sequence number) = false
 is_skipped (reply.Has is) = false
 is_skipped (reply.Refused why) = false
 

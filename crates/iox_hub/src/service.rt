@@ -6,7 +6,8 @@ pub use iox_describe::pattern::{Event, PublishSubscribe, RequestResponse};
 pub use iox_describe::{
     Attribute, AttributeError, AttributeKey, AttributeSpecifier, AttributeValue, AttributeVerifier,
     Description, DescriptionError, Header, LimitError, MessageTypeDetails, MessagingPattern,
-    ServiceHash, ServiceName, TypeDetail, TypeVariant, ZeroCopySend, decode, encode, service_hash,
+    ServiceHash, ServiceName, TypeDetail, TypeVariant, ZeroCopySend, decode, encode, encode_v1,
+    service_hash,
 };
 pub use iox_domain::{Domain, DomainId, DomainParts, Home};
 pub use iox_hub_base::{HubBuilder, NotClosed, PortFactory};

@@ -4,6 +4,8 @@ use Rattle.std.proofs.Common.{◌∙◌}
 use Rattle.std.specs.declared.alloc.AllocError.{AllocError}
 use Rattle.iox_delivery_factories.specs.DescribeBase.declared.hash.ServiceHash.{ServiceHash}
 use Rattle.iox_delivery_factories.specs.DescribeSettings.Agreement.{Agreement}
+use Rattle.iox_delivery_factories.specs.DescribeSettings.declared.description.Version.{Version}
+use Rattle.iox_delivery_factories.specs.DescribeSettings.declared.description.Version.TheVariants.{One, Two}
 use Rattle.iox_negotiate_table.specs.NegotiateBase.Access.{Access, Look, Lock, MakeSegment, Publish, Unlock, OpenSegment, Leave}
 use Rattle.iox_negotiate_table.specs.NegotiateBase.Access.{RemoveDescription, RemoveSegment}
 use Rattle.iox_negotiate_table.specs.NegotiateBase.Runs.{Went}
@@ -115,10 +117,11 @@ given-up : (b : Bool) (other old new : Contents) (result : Result (Unit {0}) All
 given-up true other old new result own h = is h.1 ∙ own
 given-up false other old new result own h = is h.1
 
-publishes : (number : Option ℕ) (hash : ServiceHash) (node : ℕ) (agreed : Agreement) (old new : Contents)
-    (result : Result (Unit {0}) AllocError) → PublishesForeign number hash node agreed old result new → new.id ≡ old.id
-publishes (Some number) hash node agreed old new result h = done h.0 (with_service hash number node agreed old) old new result refl h.2
-publishes None hash node agreed old new result h = is h.1
+publishes : (version : Version) (number : Option ℕ) (hash : ServiceHash) (node : ℕ) (agreed : Agreement) (old new : Contents)
+    (result : Result (Unit {0}) AllocError) → PublishesForeign version number hash node agreed old result new → new.id ≡ old.id
+publishes version (Some number) hash node agreed old new result h
+    = done h.0 (with_service version hash number node agreed old) old new result refl h.2
+publishes version None hash node agreed old new result h = is h.1
 
 registers : (segment : Option Segment) (hash : ServiceHash) (number node : ℕ) (old new : Contents)
     (result : Result (Unit {0}) AllocError) → RegistersAt segment hash number node old result new → new.id ≡ old.id
@@ -153,7 +156,9 @@ pub act-keeps : (hash : ServiceHash) (by : ForeignStep) (old new : Contents) (re
 act-keeps hash (step.Lock node) old new result h = done _ (with_lock hash (Foreign node) old) old new result refl h
 act-keeps hash (step.GiveUp node) old new result h = given-up _ (without_entry hash old) old new result refl h
 act-keeps hash (step.Publish node agreed) old new result h
-    = publishes (foreign_lock node (entry_at hash old)) hash node agreed old new result h
+    = publishes Two (foreign_lock node (entry_at hash old)) hash node agreed old new result h
+act-keeps hash (step.PublishV1 node agreed) old new result h
+    = publishes One (foreign_lock node (entry_at hash old)) hash node agreed old new result h
 act-keeps hash (step.Register node) old new result h = registers-at (published_number (entry_at hash old)) hash node old new result h
 act-keeps hash (step.Leave node) old new result h = is h.1 ∙ left-by (published_number (entry_at hash old)) hash node old
 act-keeps hash (step.Remove node) old new result h = is h.1 ∙ removed (published_number (entry_at hash old)) hash node old

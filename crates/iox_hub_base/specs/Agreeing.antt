@@ -12,7 +12,8 @@ same_agreement a b =
     && ((a.max_nodes == b.max_nodes)
     && ((a.max_publishers == b.max_publishers)
     && ((a.max_subscribers == b.max_subscribers)
+    && (beq a.sequence_numbers b.sequence_numbers
     && ((a.subscriber_max_borrowed_samples == b.subscriber_max_borrowed_samples)
     && ((a.subscriber_max_buffer_size == b.subscriber_max_buffer_size)
     && (same_detail a.types.header b.types.header
-    && (same_detail a.types.user_header b.types.user_header && same_detail a.types.payload b.types.payload))))))))
+    && (same_detail a.types.user_header b.types.user_header && same_detail a.types.payload b.types.payload)))))))))

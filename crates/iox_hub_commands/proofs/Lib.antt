@@ -34,4 +34,5 @@ pub mod LoanMeasure
 pub mod SampleMeasure
 pub mod StepKeeps
 pub mod PortRooms
+mod Sequences
 pub use Rattle.iox_container.proofs as Container

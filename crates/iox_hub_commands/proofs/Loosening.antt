@@ -26,6 +26,7 @@ use Rattle.iox_delivery.specs.DomainPorts.SubscriberUpdating as subscriber
 use Rattle.iox_delivery.specs.DomainPorts.declared.attached.Taken.{Taken}
 use Rattle.iox_delivery.specs.DomainPorts.declared.publisher_entry.PublisherEntry.{PublisherEntry}
 use Rattle.iox_delivery.specs.DomainPorts.declared.subscriber_port.SubscriberPort.{SubscriberPort}
+use Rattle.iox_command.specs.DomainValues.Sequences.{is_used_up}
 use Rattle.iox_command.specs.DomainValues.Sizes.{buffer_of}
 use Rattle.iox_command.specs.DomainValues.declared.backpressure.BackpressureDecision.{BackpressureDecision}
 use Rattle.iox_command.specs.DomainValues.declared.backpressure.BackpressureInfo.{BackpressureInfo}
@@ -109,13 +110,21 @@ module _ {T U : Type 0} (may : DegradationInfo → DegradationAction → Type 0)
     sends_after at (Err failure) updated new answer sends = sends
     sends_after at (Ok done) updated new answer (finished, does, is) = (finished, finishes _ new finished does, is)
 
+    sends_standing : (used_up : Bool) (listed : List (Option (Member SubscriberEntry))) (changes at : ℕ) (old new : PublisherPort T U)
+        (answer : Option (Result Sent SendError))
+        → sending.SendsStanding used_up may decide listed changes at old answer new
+        → sending.SendsStanding used_up AnyAction AnyDecision listed changes at old answer new
+    sends_standing true listed changes at old new answer sends = sends
+    sends_standing false listed changes at old new answer (outcome, updated, updating, sends) =
+        (outcome, updated, updates listed changes old updated outcome updating, sends_after at outcome updated new answer sends)
+
     sends_if : (stands : Bool) (listed : List (Option (Member SubscriberEntry))) (changes at : ℕ) (old new : PublisherPort T U)
         (answer : Option (Result Sent SendError))
         → sending.SendsIf stands may decide listed changes at old answer new
         → sending.SendsIf stands AnyAction AnyDecision listed changes at old answer new
     sends_if false listed changes at old new answer sends = sends
-    sends_if true listed changes at old new answer (outcome, updated, updating, sends) =
-        (outcome, updated, updates listed changes old updated outcome updating, sends_after at outcome updated new answer sends)
+    sends_if true listed changes at old new answer sends
+        = sends_standing (is_used_up old.last_sequence) listed changes at old new answer sends
 
     sends_at : (listed : List (Option (Member SubscriberEntry))) (changes : ℕ) (at : Option ℕ) (old new : PublisherPort T U)
         (answer : Option (Result Sent SendError))

@@ -242,6 +242,8 @@ module _ {T U B D : Type 0} where
     no_room_goes (command.Receive subscriber) old new answer step
         = receives _ _ _ subscriber old.made new.made old.hub new.hub answer step.0
     no_room_goes (command.Read sample) old new answer step = same_room old.made new.made (ap (λ hub. hub.made) step.1)
+    no_room_goes (command.Sequence sample) old new answer step
+        = replied _ old new answer (λ reply does. same_room old.made new.made (ap (λ hub. hub.made) does.1)) step
     no_room_goes (command.Release sample) old new answer step =
         replied _ old new answer (λ reply does. let ((done, is_done, releases, is_made, is), same)
         = does in sample_spent done sample old.made new.made is_made) step
@@ -271,6 +273,7 @@ module _ {T U B D : Type 0} where
   lacks_values (command.GiveUp publisher) old new lacks = absurd lacks
   lacks_values (command.Receive subscriber) old new lacks = tt
   lacks_values (command.Read sample) old new lacks = tt
+  lacks_values (command.Sequence sample) old new lacks = absurd lacks
   lacks_values (command.Release sample) old new lacks = absurd lacks
   lacks_values (command.Update number) old new lacks = absurd lacks
   lacks_values (command.Leave number) old new lacks = absurd lacks

@@ -204,6 +204,8 @@ module _ {T U B D : Type 0} where
   step_changes payload user_header types is_default is_default_header fixed degrades decides fixed_reader reader_degrades
       (command.Read sample) old new answer step = by_same old new step.1
   step_changes payload user_header types is_default is_default_header fixed degrades decides fixed_reader reader_degrades
+      (command.Sequence sample) old new answer step = replied _ old new answer (λ reply does. by_same old new does.1) step
+  step_changes payload user_header types is_default is_default_header fixed degrades decides fixed_reader reader_degrades
       (command.Release sample) old new answer step =
       replied _ old new answer (λ reply does. let ((done, is_done, releases, is_made, is), same)
       = does in by_made old new same (sample_spent done sample old.made new.made is_made)) step

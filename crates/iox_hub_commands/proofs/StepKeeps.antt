@@ -272,6 +272,9 @@ module _ {T U B D : Type 0} (m : Measure T U) where
     step_holds (command.Read sample) answer step of =
         follows (same_keeps old new (ap (λ hub. hub.made) step.1)
         (none_balances m old.made old.made old.hub new.hub refl (ap (λ hub. hub.hub) step.1)))
+    step_holds (command.Sequence sample) answer step of =
+        follows (replied _ old new answer (λ reply does. same_keeps old new (ap (λ hub. hub.made) does.1)
+        (none_balances m old.made old.made old.hub new.hub refl (ap (λ hub. hub.hub) does.1))) step)
     step_holds (command.Release sample) answer step of =
         follows (replied _ old new answer
         (λ reply does. let ((done, is_done, releases, is_made, is), same)

@@ -180,6 +180,10 @@ module _ {T U B D : Type 0} where
       (command.Read sample) old new answer step =
       ports_go old new (none_moves old.hub new.hub (ap (λ numbered. numbered.hub) step.1)) (ap (λ numbered. numbered.factories) step.1)
   step_goes payload user_header types is_default is_default_header fixed degrades decides fixed_reader reader_degrades
+      (command.Sequence sample) old new answer step =
+      replied _ old new answer (λ reply does. ports_go old new (none_moves old.hub new.hub (ap (λ numbered. numbered.hub) does.1))
+      (ap (λ numbered. numbered.factories) does.1)) step
+  step_goes payload user_header types is_default is_default_header fixed degrades decides fixed_reader reader_degrades
       (command.Release sample) old new answer step =
       replied _ old new answer (λ reply does. ports_go old new (release_moves sample old.made new.made old.hub new.hub reply does.0)
       does.1) step

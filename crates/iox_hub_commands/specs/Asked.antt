@@ -33,6 +33,7 @@ asked_publish_subscribe options types = record {
   types = types;
   attributes = required [] [];
   enable_safe_overflow = options.enable_safe_overflow;
+  sequence_numbers = options.sequence_numbers;
   max_publishers = options.max_publishers;
   max_subscribers = options.max_subscribers;
   subscriber_max_buffer_size = options.subscriber_max_buffer_size;

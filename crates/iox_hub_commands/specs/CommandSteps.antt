@@ -20,7 +20,8 @@ use Rattle.iox_command.specs.DomainValues.declared.degradation.DegradationCause.
 use Rattle.iox_command.specs.DomainValues.declared.degradation.DegradationInfo.{DegradationInfo}
 use Rattle.iox_hub_commands.specs.Following.{UpdateStep, HasStep, LeaveStep}
 use Rattle.iox_hub_commands.specs.Lending.{LoanStep, LoanUninitStep, PutStep}
-use Rattle.iox_hub_commands.specs.Messages.{SetStep, FillStep, DropStep, SendStep, RetryStep, GiveUpStep, ReadStep, ReleaseStep}
+use Rattle.iox_hub_commands.specs.Messages.{SetStep, FillStep, DropStep, SendStep, RetryStep, GiveUpStep, ReadStep, SequenceStep}
+use Rattle.iox_hub_commands.specs.Messages.{ReleaseStep}
 use Rattle.iox_hub_commands.specs.Receiving.{ReceiveStep}
 use Rattle.iox_hub_commands.specs.Services.{NodeMakes, Creates, Opens, OpensOrCreates, Acts, Closes, MakesPublisher, MakesSubscriber}
 use Rattle.iox_hub_commands.specs.declared.numbered_hub.NumberedHub.{NumberedHub}
@@ -123,6 +124,9 @@ module _ {T U B D : Type 0} where
   Step payload user_header types is_default is_default_header fixed degrades decides fixed_reader reader_degrades (command.Read sample)
       old answer new =
       ReadStep hub_ports sample old.made old.hub answer × (new ≡ old)
+  Step payload user_header types is_default is_default_header fixed degrades decides fixed_reader reader_degrades
+      (command.Sequence sample) old answer new =
+      IsReplied (λ reply. SequenceStep hub_ports sample old.made old.hub reply × (new ≡ old)) answer
   Step payload user_header types is_default is_default_header fixed degrades decides fixed_reader reader_degrades
       (command.Release sample) old answer new =
       IsReplied (λ reply. ReleaseStep hub_ports with_hub_ports sample old.made old.hub reply new.made new.hub

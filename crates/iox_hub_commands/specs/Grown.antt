@@ -65,6 +65,7 @@ agreed_on agreed = record {
   history = agreed.history_size;
   most_waiting = agreed.subscriber_max_buffer_size;
   most_borrowed = agreed.subscriber_max_borrowed_samples;
+  numbered = agreed.sequence_numbers;
 }
 
 -- each publisher of a domain that is here is made for just what its service agreed on

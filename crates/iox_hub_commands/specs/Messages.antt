@@ -18,11 +18,11 @@ use Rattle.iox_command.specs.DomainValues.declared.port_error.SendError.{SendErr
 use Rattle.iox_hub_commands.specs.Calls.{AtPort, Retries, GivesUp}
 use Rattle.iox_hub_commands.specs.Loans.{loan_under, changed_under, is_set, set_in, is_filled, filled_in, SendsUnder}
 use Rattle.iox_hub_commands.specs.Numbering.{removed_if}
-use Rattle.iox_hub_commands.specs.Reading.{values_under, is_held, ReleasesUnder}
+use Rattle.iox_hub_commands.specs.Reading.{values_under, sequence_under, is_held, ReleasesUnder}
 use Rattle.iox_hub_commands.specs.Tables.{port_under, without_loan, without_sample}
 use Rattle.iox_hub_commands.specs.declared.ports.made.Made.{Made}
 use Rattle.iox_delivery.specs.Container.NumberTable.{value_at}
-use Rattle.iox_hub_commands.specs.Replies.{sent_reply, given_up_reply, done_reply}
+use Rattle.iox_hub_commands.specs.Replies.{sent_reply, given_up_reply, sequence_reply, done_reply}
 
 -- One value of a written loan is written.
 abbrev pub SetStep : {T U H : Type 0} → (DomainId → H → Option (ServicePorts T U)) → (DomainId → ServicePorts T U → H → H) → ℕ → ℕ → T
@@ -85,6 +85,10 @@ SomeValues (Some values) = 0 < length values
 abbrev pub ReadStep : {T U H : Type 0} → (DomainId → H → Option (ServicePorts T U)) → ℕ → Made → H → Result (Reply T) AllocError → Type 0
 ReadStep ports_of sample made old (Ok answer) = IsReadReply (values_under ports_of (value_at made.samples sample) old) answer
 ReadStep ports_of sample made old (Err lacking) = SomeValues (values_under ports_of (value_at made.samples sample) old)
+
+-- The sequence number of a sample's message is told.
+abbrev pub SequenceStep : {T U H : Type 0} → (DomainId → H → Option (ServicePorts T U)) → ℕ → Made → H → Reply T → Type 0
+SequenceStep ports_of sample made old answer = answer ≡ sequence_reply (sequence_under ports_of (value_at made.samples sample) old)
 
 -- A sample is released.
 abbrev pub ReleaseStep : {T U H : Type 0} → (DomainId → H → Option (ServicePorts T U)) → (DomainId → ServicePorts T U → H → H) → ℕ

@@ -17,7 +17,8 @@ use Rattle.iox_hub_commands.specs.declared.handlers.NamedSlots.{NamedSlots}
 abbrev pub most_loans : PublisherOptions → ℕ
 most_loans options = unwrap_or options.max_loaned_samples publisher_defaults.max_loaned_samples
 
--- what a publisher of slices is made with: a value is an element, and a slot holds as many as a loan may have at first
+-- what a publisher of slices is made with: a value is an element, a slot holds as many as a loan may have at first, and its first message
+-- has the number that is the default
 abbrev pub publisher_config : PortOwner → PublisherOptions → PublisherConfig
 publisher_config owner options = record {
   owner = owner;
@@ -25,6 +26,7 @@ publisher_config owner options = record {
   values = unwrap_or options.initial_max_slice_len publisher_defaults.initial_max_slice_len;
   unit = 1;
   allocation = unwrap_or options.allocation_strategy publisher_defaults.allocation;
+  first_sequence = publisher_defaults.first_sequence;
 }
 
 -- who decides for a publisher: without a strategy a send waits, and without an action a failed connection is passed over with a warning

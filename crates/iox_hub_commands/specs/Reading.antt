@@ -1,5 +1,5 @@
--- Samples under numbers are read and released.
-use Rattle.std.specs.Prelude.{◌≡◌, Bool, true, false, List, Option, None, Some, option_map}
+-- Samples under numbers are read and released, and the numbers of their messages told.
+use Rattle.std.specs.Prelude.{ℕ, ◌≡◌, Bool, true, false, List, Option, None, Some, option_map}
 use Rattle.iox_delivery.specs.Domain.declared.ports.service_ports.ServicePorts.{ServicePorts}
 use Rattle.iox_delivery.specs.Domain.declared.domain_id.DomainId.{DomainId}
 use Rattle.iox_delivery.specs.Holding.{message_found, holds_message}
@@ -10,6 +10,12 @@ use Rattle.iox_hub_commands.specs.declared.ports.made.MadeSample.{MadeSample}
 abbrev pub values_under : {T U H : Type 0} → (DomainId → H → Option (ServicePorts T U)) → Option MadeSample → H → Option (List T)
 values_under ports_of None home = None
 values_under ports_of (Some held) home = option_map (λ message. message.values) (message_found held.taken (ports_of held.port.domain home))
+
+-- the sequence number of the message of the sample that goes by a number, if that is held; none where messages have none
+abbrev pub sequence_under : {T U H : Type 0} → (DomainId → H → Option (ServicePorts T U)) → Option MadeSample → H → Option (Option ℕ)
+sequence_under ports_of None home = None
+sequence_under ports_of (Some held) home
+    = option_map (λ message. message.sequence) (message_found held.taken (ports_of held.port.domain home))
 
 -- whether the sample that goes by a number is held
 abbrev pub is_held : {T U H : Type 0} → (DomainId → H → Option (ServicePorts T U)) → Option MadeSample → H → Bool

@@ -74,6 +74,11 @@ module _ {T : Type 0} where
   has_reply (Some (Ok has)) = reply.Has has
   has_reply (Some (Err error)) = reply.Refused (refusal.Connection error)
 
+  -- the sequence number of a sample's message, if it has one
+  abbrev pub sequence_reply : Option (Option ℕ) → Reply T
+  sequence_reply None = reply.Skipped
+  sequence_reply (Some sequence) = reply.Sequence sequence
+
   -- something that was done, or was not
   abbrev pub done_reply : Bool → Reply T
   done_reply true = reply.Done

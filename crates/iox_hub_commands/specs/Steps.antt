@@ -15,6 +15,7 @@ abbrev pub step_of : List ℕ → MessageTypeDetails → Named → ForeignStep
 step_of name types (named.Lock node) = step.Lock node
 step_of name types (named.GiveUp node) = step.GiveUp node
 step_of name types (named.Publish node options) = step.Publish node (described name options types)
+step_of name types (named.PublishV1 node options) = step.PublishV1 node (described name options types)
 step_of name types (named.Register node) = step.Register node
 step_of name types (named.Leave node) = step.Leave node
 step_of name types (named.Remove node) = step.Remove node
@@ -22,6 +23,7 @@ step_of name types (named.Remove node) = step.Remove node
 -- What a step publishes, if it does, has the form of a description: texts within their limits, a whole hash, numbers of 64 bits.
 abbrev pub PublishesInForm : ForeignStep → Type 0
 PublishesInForm (step.Publish node agreed) = HasForm agreed
+PublishesInForm (step.PublishV1 node agreed) = HasForm agreed
 PublishesInForm other = Unit {0}
 
 -- the steps in their order

@@ -1,10 +1,11 @@
 //! The commands on loans, sends and samples, over the tables of what goes by numbers and any home.
 ghost use Rattle.iox_domain.specs.Homes as homes;
 ghost use Rattle.std.specs.Prelude.{◌≡◌, ◌<◌, length, IfOk, OnErr};
-ghost use Rattle.iox_hub_commands.specs.Messages.{SetStep, FillStep, DropStep, SendStep, RetryStep, GiveUpStep, ReadStep, ReleaseStep};
+ghost use Rattle.iox_hub_commands.specs.Messages.{SetStep, FillStep, DropStep, SendStep, RetryStep, GiveUpStep, ReadStep, SequenceStep};
+ghost use Rattle.iox_hub_commands.specs.Messages.{ReleaseStep};
 
 use crate::ports::Made;
-use crate::replies::{done_reply, given_up_reply, sent_reply};
+use crate::replies::{done_reply, given_up_reply, sent_reply, sequence_reply};
 use iox_command::Reply;
 use iox_domain::Home;
 use std::alloc::{AllocError, Global};
@@ -117,6 +118,14 @@ pub fn read<T: Copy, U: Copy, H: Home<T, U>>(
         Some(values) => Ok(Reply::Values(copied(alloc, values)?)),
         None => Ok(Reply::Skipped),
     }
+}
+
+/// The sequence number of a sample's message, or that it has none. Skipped where `Made::sequence` answers None.
+/// Example: `let reply = sequence(&made, &home, sample);`
+pub fn sequence<T: Copy, U: Copy, H: Home<T, U>>(made: &Made, home: &H, sample: u64) -> Reply<T>
+    ensures { SequenceStep (homes.ports_of H.domain_of) sample made.now home.now result }
+{
+    sequence_reply(made.sequence(home, sample))
 }
 
 // A list of the same values; fails only where there are some, and no memory for them.

@@ -32,6 +32,7 @@ pub(crate) fn publisher_config(owner: PortOwner, options: &PublisherOptions) -> 
         ),
         unit: 1,
         allocation: options.allocation_strategy.unwrap_or(defaults.allocation),
+        first_sequence: defaults.first_sequence,
     }
 }
 

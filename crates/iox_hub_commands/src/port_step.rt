@@ -102,6 +102,9 @@ impl<
                 receiving::receive(alloc, &mut self.made, &mut self.hub, subscriber)
             }
             PortCommand::Read { sample } => messages::read(alloc, &self.made, &self.hub, sample),
+            PortCommand::Sequence { sample } => {
+                Ok(messages::sequence(&self.made, &self.hub, sample))
+            }
             PortCommand::Release { sample } => {
                 Ok(messages::release(&mut self.made, &mut self.hub, sample))
             }

@@ -128,6 +128,17 @@ pub fn has_reply<T>(answer: Option<Result<bool, ConnectionFailure>>) -> Reply<T>
     }
 }
 
+/// The reply to a question for the number of a sample's message: None is skipped.
+/// Example: `sequence_reply(Some(Some(1)))`
+pub fn sequence_reply<T>(answer: Option<Option<u64>>) -> Reply<T>
+    ensures { result ≡ replied.sequence_reply answer }
+{
+    match answer {
+        None => Reply::Skipped,
+        Some(sequence) => Reply::Sequence(sequence),
+    }
+}
+
 /// The reply to a command that is done or skipped.
 /// Example: `done_reply(true)`
 pub fn done_reply<T>(done: bool) -> Reply<T>

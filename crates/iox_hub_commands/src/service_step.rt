@@ -25,6 +25,7 @@ use iox_domain_values::{Decides, Degrades, PortOwner};
 use iox_queues_base::Words;
 use std::alloc::Global;
 
+// What holds names, settings or descriptions by value stands in a frame of its own, so that each other command needs little stack.
 impl<T: Words + ZeroCopySend, U: Copy + ZeroCopySend, B: Drop, D: Drop> NumberedHub<T, U, B, D> {
     pub(crate) fn node(&mut self) -> Reply<T>
         ensures pledged { self.new.pledged ≡ self.old.pledged }
@@ -36,6 +37,7 @@ impl<T: Words + ZeroCopySend, U: Copy + ZeroCopySend, B: Drop, D: Drop> Numbered
         }
     }
 
+    #[inline(never)]
     pub(crate) fn create(
         &mut self,
         alloc: Global,
@@ -54,6 +56,7 @@ impl<T: Words + ZeroCopySend, U: Copy + ZeroCopySend, B: Drop, D: Drop> Numbered
         )
     }
 
+    #[inline(never)]
     pub(crate) fn open(
         &mut self,
         alloc: Global,
@@ -72,6 +75,7 @@ impl<T: Words + ZeroCopySend, U: Copy + ZeroCopySend, B: Drop, D: Drop> Numbered
         )
     }
 
+    #[inline(never)]
     pub(crate) fn open_or_create(
         &mut self,
         alloc: Global,
@@ -90,6 +94,7 @@ impl<T: Words + ZeroCopySend, U: Copy + ZeroCopySend, B: Drop, D: Drop> Numbered
         )
     }
 
+    #[inline(never)]
     pub(crate) fn foreign(
         &mut self,
         alloc: Global,
@@ -104,6 +109,7 @@ impl<T: Words + ZeroCopySend, U: Copy + ZeroCopySend, B: Drop, D: Drop> Numbered
         foreign_reply(foreign(alloc, &mut self.hub, pattern, name, steps))
     }
 
+    #[inline(never)]
     pub(crate) fn close(&mut self, factory: u64) -> Reply<T>
         ensures pledged { self.new.pledged ≡ self.old.pledged }
         ensures does { Closes factory self.old result self.new }
@@ -132,6 +138,7 @@ impl<T, U, B, D> NumberedHub<T, U, B, D> {
 }
 
 impl<T: Copy, U: Copy + Default, B: PublisherHandlers, D: Degrades> NumberedHub<T, U, B, D> {
+    #[inline(never)]
     pub(crate) fn publisher(
         &mut self,
         alloc: Global,
@@ -150,6 +157,7 @@ impl<T: Copy, U: Copy + Default, B: PublisherHandlers, D: Degrades> NumberedHub<
 }
 
 impl<T: Copy, U: Copy, B: Decides + Degrades, D: SubscriberHandler> NumberedHub<T, U, B, D> {
+    #[inline(never)]
     pub(crate) fn subscriber(
         &mut self,
         alloc: Global,

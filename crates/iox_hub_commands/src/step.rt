@@ -160,6 +160,7 @@ impl<
                 receiving::receive(alloc, &mut self.made, &mut self.hub, subscriber)
             }
             Command::Read { sample } => messages::read(alloc, &self.made, &self.hub, sample),
+            Command::Sequence { sample } => Ok(messages::sequence(&self.made, &self.hub, sample)),
             Command::Release { sample } => {
                 Ok(messages::release(&mut self.made, &mut self.hub, sample))
             }

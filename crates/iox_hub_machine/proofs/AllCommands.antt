@@ -32,7 +32,7 @@ use Rattle.iox_hub_machine.proofs.Received.{receive_simulated}
 use Rattle.iox_hub_machine.proofs.Released.{release_simulated}
 use Rattle.iox_hub_machine.proofs.Retried.{retry_simulated}
 use Rattle.iox_hub_machine.proofs.Running.{decided_go_on, run_answers, run_stands, runs_go_on}
-use Rattle.iox_hub_machine.proofs.Samples.{read_simulated}
+use Rattle.iox_hub_machine.proofs.Samples.{read_simulated, sequence_simulated}
 use Rattle.iox_hub_machine.proofs.SubscriberLeft.{subscriber_leave_simulated}
 use Rattle.iox_hub_machine.proofs.Updated.{publisher_update_simulated}
 use Rattle.iox_hub_machine.proofs.ValuesPut.{put_simulated}
@@ -74,6 +74,7 @@ module _ {T U B D : Type 0} (payload user_header : Detail) (variant : TypeVarian
     give_up = give_up_simulated choices is_default_header degrades decides reader_degrades;
     receive = receive_simulated choices is_default_header degrades decides reader_degrades;
     read = read_simulated choices is_default_header degrades decides reader_degrades;
+    sequence = sequence_simulated choices is_default_header degrades decides reader_degrades;
     release = release_simulated choices is_default_header degrades decides reader_degrades;
     update_publisher = publisher_update_simulated choices is_default_header degrades decides reader_degrades;
     update_subscriber = subscriber_update_simulated choices is_default_header degrades decides reader_degrades;

@@ -210,6 +210,7 @@ module _ {T U B D : Type 0} (choices : Choices T) (degrades : B → DegradationC
           values = refl;
           unit = refl;
           allocation = refl;
+          first_sequence = refl;
           slots = λ needed named is. is;
         })
         fresh counted_there.0 counted_there.1 creates

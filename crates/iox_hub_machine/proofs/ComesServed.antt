@@ -83,7 +83,7 @@ within_of node pattern name table taken other opened lies is = absurd is
 -- one message may wait for a subscriber at least
 one_may_wait : (settings : StaticConfig) → IsWithinLimits settings → 0 < settings.subscriber_max_buffer_size
 one_may_wait settings within =
-    let least : 1 ≤ settings.subscriber_max_buffer_size = (within 6 setting.SubscriberMaxBufferSize (omega arith)).0 in
+    let least : 1 ≤ settings.subscriber_max_buffer_size = (within 7 setting.SubscriberMaxBufferSize (omega arith)).0 in
     omega (arith, least)
 
 -- ---- a service that is here

@@ -28,7 +28,7 @@ use Rattle.iox_hub_machine.specs.ArrivalLaws.{SubscriberComingIsFollowed}
 use Rattle.iox_hub_machine.specs.ClosingLaws.{ClosingMatches, IsCome}
 use Rattle.iox_hub_machine.specs.CreateLaws.{CreateMatches}
 use Rattle.iox_hub_machine.specs.Laws.{DropIsSimulated, FillIsSimulated, GiveUpIsSimulated, ReadIsSimulated}
-use Rattle.iox_hub_machine.specs.Laws.{ReleaseIsSimulated, SetIsSimulated}
+use Rattle.iox_hub_machine.specs.Laws.{ReleaseIsSimulated, SequenceIsSimulated, SetIsSimulated}
 use Rattle.iox_hub_machine.specs.GoingOnLaws.{ComesAsChosen}
 use Rattle.iox_hub_machine.specs.LeavingLaws.{ListsCanChange, PublisherLeaveIsSimulated, SubscriberLeaveIsSimulated}
 use Rattle.iox_hub_machine.specs.LoanLaws.{LendIsSimulated, LendUninitIsSimulated}
@@ -77,6 +77,7 @@ module _ {T U B D : Type 0} (payload user_header : Detail) (variant : TypeVarian
     pub give_up : GiveUpIsSimulated choices is_default_header degrades decides reader_degrades
     pub receive : ReceiveIsSimulated choices is_default_header degrades decides reader_degrades
     pub read : ReadIsSimulated choices is_default_header degrades decides reader_degrades
+    pub sequence : SequenceIsSimulated choices is_default_header degrades decides reader_degrades
     pub release : ReleaseIsSimulated choices is_default_header degrades decides reader_degrades
     pub update_publisher : PublisherUpdateIsSimulated choices is_default_header degrades decides reader_degrades
     pub update_subscriber : SubscriberUpdateIsSimulated choices is_default_header degrades decides reader_degrades
@@ -187,6 +188,9 @@ module _ {T U B D : Type 0} (payload user_header : Detail) (variant : TypeVarian
     each (command.Read sample) asks chosen may came step =
         lifted payload user_header types choices is_default_header fixed degrades decides fixed_reader reader_degrades names
         (command.Read sample) refl taken naming order old new state answer (laws.read sample old) stands step
+    each (command.Sequence sample) asks chosen may came step =
+        lifted payload user_header types choices is_default_header fixed degrades decides fixed_reader reader_degrades names
+        (command.Sequence sample) refl taken naming order old new state answer (laws.sequence sample old) stands step
     each (command.Release sample) asks chosen (most, on, few) came step =
         lifted payload user_header types choices is_default_header fixed degrades decides fixed_reader reader_degrades names
         (command.Release sample) refl taken naming order old new state answer (laws.release sample old on.grown) stands step

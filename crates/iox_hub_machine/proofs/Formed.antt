@@ -30,6 +30,7 @@ module _ (types : MessageTypeDetails) (name : List ℕ) where
   one_formed (step.Lock node) form = tt
   one_formed (step.GiveUp node) form = tt
   one_formed (step.Publish node options) form = form
+  one_formed (step.PublishV1 node options) form = form
   one_formed (step.Register node) form = tt
   one_formed (step.Leave node) form = tt
   one_formed (step.Remove node) form = tt

@@ -163,6 +163,7 @@ module _ {T U B D : Type 0} (payload user_header : Detail) (types : MessageTypeD
   lacks (command.Read sample) (some, same) =
       inl (unmoved (ap (λ (it : NumberedHub T U B D). it.made) same) (ap (λ (it : NumberedHub T U B D). it.hub) same)
       (ap (λ (it : NumberedHub T U B D). it.factories) same))
+  lacks (command.Sequence sample) step = absurd step
   lacks (command.Release sample) step = absurd step
   lacks (command.Update it) step = absurd step
   lacks (command.Leave it) step = absurd step

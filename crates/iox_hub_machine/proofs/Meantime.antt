@@ -6,6 +6,7 @@ use Rattle.iox_command.specs.NegotiateBase.DescribeBase.declared.pattern.Messagi
 use Rattle.iox_command.specs.NegotiateBase.DescribeSettings.Agreement.{max_nodes_of}
 use Rattle.iox_command.specs.NegotiateBase.declared.request.Opened.{Opened}
 use Rattle.iox_command.specs.Patterns.{pattern_of}
+use Rattle.iox_command.specs.declared.service.ServiceOptions.{ServiceOptions}
 use Rattle.iox_command.specs.declared.step.ForeignStep.{ForeignStep}
 use Rattle.iox_command.specs.declared.step.ForeignStep.TheVariants as step
 use Rattle.iox_hub_machine.specs.Seats.{seats_in}
@@ -13,7 +14,7 @@ use Rattle.iox_machine.specs.Agreement.{Agreement, are_within_limits}
 use Rattle.iox_machine.specs.AgreementLaws.{life_of}
 use Rattle.iox_machine.specs.Asked.{settings_of}
 use Rattle.iox_machine.specs.Phase.{Node, Own, Foreign, Phase, Absent, BeingMade, Published, Emptied, acted, entered, is_in, left}
-use Rattle.iox_machine.specs.Phase.{left_by, same_node, same_pattern}
+use Rattle.iox_machine.specs.Phase.{has_numbers, left_by, published_by, same_node, same_pattern}
 use Rattle.iox_negotiate.proofs.Maps.{on}
 use Rattle.iox_negotiate_machine.proofs.Meanwhile.{by-choice, left-others, out-of}
 use Rattle.iox_negotiate_machine.proofs.Seats.{Entry, come, in-counted, is_some_of}
@@ -48,15 +49,22 @@ module _ (types : MessageTypeDetails) (pattern : MessagingPattern) (node : ℕ) 
       (made : (life by : ℕ) (agreed : Agreement) (maker : Node) → P (BeingMade life maker)
       → P (Published life agreed ((Foreign by, 1) ∷ [])))
       (removed : (life : ℕ) (agreed : Agreement) (by : Node) → P (Emptied life agreed by) → P (Absent life)) where
-    by_step : (phase : Phase) (one : ForeignStep) → P phase → P (acted types pattern phase one)
-    by_step (Absent lives) (step.Lock other) so = begun lives (lives + 1) (Foreign other) so
-    by_step (BeingMade now by) (step.GiveUp other) so =
-        by-choice P (same_node by (Foreign other)) (Absent now) (BeingMade now by) (λ is. given_up now now by so) so
-    by_step (BeingMade now by) (step.Publish other options) so =
+    by_publishing : (now other : ℕ) (by : Node) (options : ServiceOptions) → P (BeingMade now by)
+        → P (published_by types pattern now by other options)
+    by_publishing now other by options so =
         by-choice P
         (same_node by (Foreign other) && (same_pattern (pattern_of options) pattern && are_within_limits (settings_of types options)))
         (Published now (record { settings = settings_of types options; attributes = [] }) ((Foreign other, 1) ∷ [])) (BeingMade now by)
         (λ is. made now other (record { settings = settings_of types options; attributes = [] }) by so) so
+
+    by_step : (phase : Phase) (one : ForeignStep) → P phase → P (acted types pattern phase one)
+    by_step (Absent lives) (step.Lock other) so = begun lives (lives + 1) (Foreign other) so
+    by_step (BeingMade now by) (step.GiveUp other) so =
+        by-choice P (same_node by (Foreign other)) (Absent now) (BeingMade now by) (λ is. given_up now now by so) so
+    by_step (BeingMade now by) (step.Publish other options) so = by_publishing now other by options so
+    by_step (BeingMade now by) (step.PublishV1 other options) so =
+        by-choice P (has_numbers (settings_of types options)) (BeingMade now by) (published_by types pattern now by other options)
+        (λ is. so) (by_publishing now other by options so)
     by_step (Published now agreed nodes) (step.Register other) so =
         by-choice P (not (is_in (Foreign other) nodes) && nat_lt (length nodes) (max_nodes_of agreed.settings))
         (Published now agreed (entered (Foreign other) nodes)) (Published now agreed nodes)

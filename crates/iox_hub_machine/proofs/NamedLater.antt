@@ -143,6 +143,7 @@ module _ {T U B D : Type 0} (choices : Choices T) where
       comes_chosen (command.GiveUp publisher) old told may_name = tt
       comes_chosen (command.Receive subscriber) old told may_name = tt
       comes_chosen (command.Read sample) old told may_name = tt
+      comes_chosen (command.Sequence sample) old told may_name = tt
       comes_chosen (command.Release sample) old told may_name = tt
       comes_chosen (command.Update it) old told may_name = tt
       comes_chosen (command.Leave it) old told may_name = tt

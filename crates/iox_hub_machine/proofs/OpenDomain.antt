@@ -47,8 +47,8 @@ described_so : (pattern : MessagingPattern) (name : List ℕ) (table : Contents)
     → (bytes : List ℕ) × (entry_at (service_hash_of pattern name) table ≡ Some (Described opened.number bytes))
 described_so pattern name table node opened (Published life agreed nodes) [] stands is = absurd stands.lies
 described_so pattern name table node opened (Published life agreed nodes) (number ∷ before) stands is = (
-  line (description_of pattern name agreed),
-  stands.lies.0.described ∙ ap (λ (n : ℕ). Some (Described n (line (description_of pattern name agreed)))) (sym is.1),
+  line stands.lies.0.version (description_of pattern name agreed),
+  stands.lies.0.described ∙ ap (λ (n : ℕ). Some (Described n (line stands.lies.0.version (description_of pattern name agreed)))) (sym is.1),
 )
 described_so pattern name table node opened phase numbers stands is = absurd is
 

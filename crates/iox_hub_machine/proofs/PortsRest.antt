@@ -54,10 +54,10 @@ use Rattle.iox_hub_commands.specs.Loans.{SendsUnder, changed_under, filled_in, s
 use Rattle.iox_hub_commands.specs.Messages.{IsReadReply}
 use Rattle.iox_hub_commands.specs.Naming.{publisher_config, publisher_handlers, subscriber_config, subscriber_handler}
 use Rattle.iox_hub_commands.specs.Numbering.{LendsNumbered, LendsWrittenNumbered, ReceivesNumbered}
-use Rattle.iox_hub_commands.specs.Reading.{ReleasesUnder, values_under}
+use Rattle.iox_hub_commands.specs.Reading.{ReleasesUnder, sequence_under, values_under}
 use Rattle.iox_hub_commands.specs.Receiving.{IsArrival, IsReceiveReply, IsTold}
 use Rattle.iox_hub_commands.specs.Replies.{done_reply, given_up_reply, has_reply, loan_reply, publisher_reply, sent_reply, subscriber_reply}
-use Rattle.iox_hub_commands.specs.Replies.{updated_reply}
+use Rattle.iox_hub_commands.specs.Replies.{sequence_reply, updated_reply}
 use Rattle.iox_hub_commands.specs.Services.{PublisherComes, SubscriberComes, domain_of_factory, owner_of_factory}
 use Rattle.iox_hub_commands.specs.ServicesTables.{publish_subscribe_in}
 use Rattle.iox_hub_commands.specs.Tables.{IsFull, lender, port_under}
@@ -134,6 +134,10 @@ module _ {T : Type 0} where
   read_neither : (found : Option (List T)) (answer : Reply T) → IsReadReply found answer → CountsNeither answer
   read_neither None answer is = neither_by reply.Skipped answer is skipped
   read_neither (Some found) answer (values, are, is) = neither_by (reply.Values values) answer is (refused _ (λ made. refl))
+
+  sequence_neither : (sequence : Option (Option ℕ)) → CountsNeither {T = T} (sequence_reply sequence)
+  sequence_neither None = skipped
+  sequence_neither (Some sequence) = refused _ (λ made. refl)
 
   arrival_neither : (sample : ℕ) (found : Option (List T)) (answer : Reply T) → IsArrival sample found answer → CountsNeither answer
   arrival_neither sample None answer is = absurd is
@@ -416,6 +420,12 @@ module _ {T U B D : Type 0} where
       hub = rests_same old.hub new.hub (ap (λ (it : NumberedHub T U B D). it.hub) same);
       told = read_neither (values_under hub_ports (value_at old.made.samples sample) old.hub) answer read;
     }
+    port_leaves (command.Sequence sample) is (told, same) =
+        let sequence = sequence_under hub_ports (value_at old.made.samples sample) old.hub in record {
+          factories = ap (λ (it : NumberedHub T U B D). it.factories) same;
+          hub = rests_same old.hub new.hub (ap (λ (it : NumberedHub T U B D). it.hub) same);
+          told = neither_by (sequence_reply sequence) answer told (sequence_neither sequence);
+        }
     port_leaves (command.Release sample) is ((done, is_done, releases, is_made, told), same) = record {
       factories = same;
       hub = releases_under (value_at old.made.samples sample) done old.hub new.hub releases;

@@ -78,6 +78,7 @@ module _ {T : Type 0} where
   its_own (command.GiveUp publisher) names = tt
   its_own (command.Receive subscriber) names = tt
   its_own (command.Read sample) names = tt
+  its_own (command.Sequence sample) names = tt
   its_own (command.Release sample) names = tt
   its_own (command.Update it) names = tt
   its_own (command.Leave it) names = tt
@@ -103,6 +104,7 @@ module _ {T : Type 0} where
   wider (command.GiveUp publisher) name names among = among
   wider (command.Receive subscriber) name names among = among
   wider (command.Read sample) name names among = among
+  wider (command.Sequence sample) name names among = among
   wider (command.Release sample) name names among = among
   wider (command.Update it) name names among = among
   wider (command.Leave it) name names among = among
@@ -128,6 +130,7 @@ module _ {T : Type 0} where
   asks_wider one (command.GiveUp publisher) names among = tt
   asks_wider one (command.Receive subscriber) names among = tt
   asks_wider one (command.Read sample) names among = tt
+  asks_wider one (command.Sequence sample) names among = tt
   asks_wider one (command.Release sample) names among = tt
   asks_wider one (command.Update it) names among = tt
   asks_wider one (command.Leave it) names among = tt

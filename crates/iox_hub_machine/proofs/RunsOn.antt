@@ -301,6 +301,7 @@ module _ {T U B D : Type 0} where
     step_takes (command.GiveUp publisher) step = by_ports (command.GiveUp publisher) step refl
     step_takes (command.Receive subscriber) step = by_ports (command.Receive subscriber) step refl
     step_takes (command.Read sample) step = by_ports (command.Read sample) step refl
+    step_takes (command.Sequence sample) step = by_ports (command.Sequence sample) step refl
     step_takes (command.Release sample) step = by_ports (command.Release sample) step refl
     step_takes (command.Update it) step = by_ports (command.Update it) step refl
     step_takes (command.Leave it) step = by_ports (command.Leave it) step refl
@@ -340,6 +341,7 @@ module _ {T U B D : Type 0} where
     step_ascends (command.GiveUp publisher) step = rests (command.GiveUp publisher) step refl
     step_ascends (command.Receive subscriber) step = rests (command.Receive subscriber) step refl
     step_ascends (command.Read sample) step = rests (command.Read sample) step refl
+    step_ascends (command.Sequence sample) step = rests (command.Sequence sample) step refl
     step_ascends (command.Release sample) step = rests (command.Release sample) step refl
     step_ascends (command.Update it) step = rests (command.Update it) step refl
     step_ascends (command.Leave it) step = rests (command.Leave it) step refl

@@ -68,6 +68,7 @@ pub same_step : (name : List ℕ) (types : MessageTypeDetails) (one : ForeignSte
 same_step name types (step.Lock node) = refl
 same_step name types (step.GiveUp node) = refl
 same_step name types (step.Publish node named) = ap (table_step.Publish node) (same_described name types named)
+same_step name types (step.PublishV1 node named) = ap (table_step.PublishV1 node) (same_described name types named)
 same_step name types (step.Register node) = refl
 same_step name types (step.Leave node) = refl
 same_step name types (step.Remove node) = refl

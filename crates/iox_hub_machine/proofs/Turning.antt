@@ -3,6 +3,7 @@ use Rattle.std.proofs.Common.{◌≡◌, ◌+◌, ◌++◌, ℕ, Bool, true, fal
 use Rattle.std.proofs.Common.{subst, inl, inr, ◌∙◌}
 use Rattle.std.specs.Option.{option_map_or}
 use Rattle.std.specs.Prelude.{◌==◌, nat_lt, is_some, fold, filter, slice_get, MatchBool, drop, zip}
+use Rattle.iox_command.specs.DomainValues.Sequences.{is_used_up, next_sequence}
 use Rattle.iox_command.specs.DomainValues.declared.backpressure.BackpressureDecision.{BackpressureDecision}
 use Rattle.iox_command.specs.DomainValues.declared.backpressure.BackpressureDecision.TheVariants.{Retry, DiscardData, DiscardDataAndFail}
 use Rattle.iox_command.specs.DomainValues.declared.connection_failure.ConnectionFailure.{ConnectionFailure}
@@ -22,7 +23,7 @@ use Rattle.iox_machine.specs.PortList.{those}
 use Rattle.iox_machine.specs.Ports.{Puts, SendsLoan}
 use Rattle.iox_machine.specs.PublisherUpdate.{Follows, UpdatesFirst, ended, welcome}
 use Rattle.iox_machine.specs.Replies.{IsSkipped, IsRefused}
-use Rattle.iox_machine.specs.Sending.{GoesOn, Begins, Sends}
+use Rattle.iox_machine.specs.Sending.{GoesOn, Begins, Sends, numbered}
 use Rattle.iox_machine.specs.Service.{Service, Publisher, Send, with_publisher, mailbox, with_mailbox}
 use Rattle.iox_machine.specs.Table.{at, contains, removed}
 use Rattle.iox_machine.specs.Choices.{Choices}
@@ -162,19 +163,35 @@ module _ {T : Type 0} where
       → IsTurned number old mid publisher → Sends choices number message publisher mid answer new → DecidesAlike old new
   send_alike choices number message publisher old mid new answer turned sends =
       elim (by_bool publisher.stands
-      (UpdatesFirst choices number (λ failure. refusal.Send (error.ConnectionError failure)) (Begins choices number message) publisher mid
-      answer new)
+      (MatchBool (is_used_up publisher.last_sequence) (IsRefused (refusal.Send error.InternalError) mid answer new) Updates)
       (IsRefused (refusal.Send error.ConnectionBrokenSinceSenderNoLongerExists) mid answer new) sends) [
-        | inl updates ↦ updates_alike choices number (λ failure. refusal.Send (error.ConnectionError failure))
-            (Begins choices number message) publisher old
-            mid new answer turned
-            (λ one then turned_then begins.
-            goes_on_alike choices number old then new one
-            (record one { history = newest then.settings.history_size (one.history ++ message ∷ []) })
-            (record { message = message; left = those one.connected; retries = 0; elapsed = 0; delivered = 0; fails = false })
-            answer turned_then refl begins) updates.1
+        | inl stands ↦ elim (by_bool (is_used_up publisher.last_sequence) (IsRefused (refusal.Send error.InternalError) mid answer new)
+            Updates stands.1) [
+              | inl used ↦ subst (DecidesAlike old) (sym used.1.1) turned.alike
+              | inr updates ↦ updates_alike choices number (λ failure. refusal.Send (error.ConnectionError failure))
+                  (Begins choices number message) publisher old
+                  mid new answer turned
+                  (λ one then turned_then begins.
+                  goes_on_alike choices number old then new one
+                  (record one {
+                    last_sequence = next_sequence one.last_sequence;
+                    history = newest then.settings.history_size (one.history ++ numbered one message ∷ []);
+                  })
+                  (record {
+                    message = numbered one message;
+                    left = those one.connected;
+                    retries = 0;
+                    elapsed = 0;
+                    delivered = 0;
+                    fails = false;
+                  }) answer turned_then refl begins) updates.1
+            ]
         | inr refused ↦ subst (DecidesAlike old) (sym refused.1.1) turned.alike
       ]
+    where
+      Updates : Type 0
+      Updates = UpdatesFirst choices number (λ failure. refusal.Send (error.ConnectionError failure)) (Begins choices number message)
+          publisher mid answer new
 
   -- a loan is sent
   pub sends_loan_alike : (choices : Choices T) (number : ℕ) (loan : Loan T) (old new : Service T) (answer : Reply T)
@@ -227,7 +244,8 @@ module _ {T : Type 0} where
   pub put_alike : (choices : Choices T) (number : ℕ) (values : List T) (publisher : Publisher T) (old new : Service T) (answer : Reply T)
       → at number old.publishers ≡ Some publisher → Puts choices number values publisher old answer new → DecidesAlike old new
   put_alike choices number values publisher old new answer there (None, after, lent, sent) =
-      send_alike choices number (record { number = publisher.next; values = values }) after old (with_publisher number after old) new answer
+      send_alike choices number (record { number = publisher.next; sequence = None; values = values }) after old
+      (with_publisher number after old) new answer
       (turned_so number old old publisher after (turned_none number old publisher there)
       (lends_decides number _ publisher old None after lent)) sent
   put_alike choices number values publisher old new answer there (Some why, after, lent, (told, same)) =

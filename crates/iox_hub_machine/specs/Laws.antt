@@ -70,6 +70,10 @@ module _ {T U B D : Type 0} (choices : Choices T) (is_default_header : U → Typ
   abbrev pub ReadIsSimulated : Type 0
   ReadIsSimulated = (sample : ℕ) → IsSimulated (command.Read sample)
 
+  -- It is told which number the message of a sample has.
+  abbrev pub SequenceIsSimulated : Type 0
+  SequenceIsSimulated = (sample : ℕ) → IsSimulated (command.Sequence sample)
+
   -- A loan is given up.
   abbrev pub DropIsSimulated : Type 0
   DropIsSimulated = (loan : ℕ) → IsSimulatedIfGrown (command.Drop loan)

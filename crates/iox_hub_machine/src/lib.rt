@@ -28,7 +28,7 @@ ghost use Rattle.iox_hub_machine.specs.ArrivalLaws.{PublisherComingIsFollowed};
 ghost use Rattle.iox_hub_machine.specs.ClosingLaws.{ClosingMatches};
 ghost use Rattle.iox_hub_machine.specs.CreateLaws.{CreateMatches};
 ghost use Rattle.iox_hub_machine.specs.Laws.{SetIsSimulated, FillIsSimulated, ReadIsSimulated, DropIsSimulated, ReleaseIsSimulated};
-ghost use Rattle.iox_hub_machine.specs.Laws.{GiveUpIsSimulated};
+ghost use Rattle.iox_hub_machine.specs.Laws.{GiveUpIsSimulated, SequenceIsSimulated};
 ghost use Rattle.iox_hub_machine.specs.ReceiveLaws.{PublisherUpdateIsSimulated, SubscriberUpdateIsSimulated, HasIsSimulated};
 ghost use Rattle.iox_hub_machine.specs.ReceiveLaws.{ReceiveIsSimulated};
 ghost use Rattle.iox_hub_machine.specs.SendLaws.{RetryIsSimulated, SendIsSimulated, PutIsSimulated};
@@ -62,6 +62,20 @@ pub fn filling_a_loan_is_simulated<T: Default, U: Default, B: Decides + Degrades
 /// A sample that goes by a number is read, and nothing changes; nothing is read where none goes by it.
 pub fn reading_is_simulated<T: Default, U: Default, B: Decides + Degrades, D: Degrades>()
     ensures { (handed : Handed B D) → ReadIsSimulated (chosen_by T.is_default (λ handlers. B.decides handlers)
+        (λ handlers. B.degrades handlers) (λ handler. D.degrades handler) handed) U.is_default (λ handlers. B.degrades handlers)
+        (λ handlers. B.decides handlers)
+        (λ handler. D.degrades handler) }
+{}
+
+/// It is told which number its send gave the message of a sample that goes by a number, where its service numbers messages, and nothing
+/// changes; nothing is told where none goes by it.
+pub fn telling_a_sequence_number_is_simulated<
+    T: Default,
+    U: Default,
+    B: Decides + Degrades,
+    D: Degrades,
+>()
+    ensures { (handed : Handed B D) → SequenceIsSimulated (chosen_by T.is_default (λ handlers. B.decides handlers)
         (λ handlers. B.degrades handlers) (λ handler. D.degrades handler) handed) U.is_default (λ handlers. B.degrades handlers)
         (λ handlers. B.decides handlers)
         (λ handler. D.degrades handler) }

@@ -172,7 +172,7 @@ IsOut i events = times_given i events < times_taken i events
 -- what every list of steps keeps: no index has two holders, since just one party has it out by its own steps; an index is
 -- taken and given back by turns, so that between two takings lies its giving back; a party's own steps took out once more than
 -- they gave back what it holds, and nothing else; of a locked set no index is out, and only a release that was to lock it locked
--- it; each call that ended did what it answered, so one in hand that has its answer
+-- it; each call that ended says what it did, so one in hand that has its answer
 pub record IsOrderly (m : IndexSetState) : Type 0 where
   pub one_holder : (i p q : ℕ) → IsOut i (own p m.events) → IsOut i (own q m.events) → p ≡ q
   pub turns : (i k : ℕ) → TakesTurns i (take k m.events)

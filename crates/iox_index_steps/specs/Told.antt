@@ -128,7 +128,7 @@ abbrev pub LieWithin : List Event → List Finished → Type 0
 LieWithin events [] = Unit {0}
 LieWithin events (f ∷ finished) = LiesWithin events f.first f.last × LieWithin events finished
 
--- each call that ended did what it answered
+-- so of each call that ended
 abbrev pub AreTold : ℕ → Bool → List Event → List Finished → Type 0
 AreTold n locked events [] = Unit {0}
 AreTold n locked events (f ∷ finished) =

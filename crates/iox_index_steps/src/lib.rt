@@ -12,7 +12,7 @@
 //!
 //! ```
 //! /// `iox_index_steps`: a new set of eight indices on which the parties made these steps. Where fewer than 2^16 changes of the head lie
-//! /// inside each acquire, no index has two holders, and each call that ended did what it answered.
+//! /// inside each acquire, no index has two holders, and an acquire took just the index that it answers.
 //! fn ran(
 //!     alloc: Global,
 //!     parties: usize,

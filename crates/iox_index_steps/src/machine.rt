@@ -29,8 +29,9 @@ pub struct Finished {
 ///
 /// Any party may stop anywhere. A party may give back only what it holds, and only once: another release is skipped. Where fewer
 /// than 2^16 changes of the head lie inside each acquire, no index has two holders, an index is taken and given back by turns, of
-/// a locked set no index is out, only a release that was to lock it locked it, it stays locked, and each call that ended did what
-/// it answered. Each step is one of one call: two local steps bound a call that ended.
+/// a locked set no index is out, only a release that was to lock it locked it, and it stays locked; by its own steps an acquire took
+/// just the index that it answers, a release gave back just its own, and what was refused moved none. Each step is one of one call:
+/// two local steps bound a call that ended.
 #[derive(Debug, Drop)]
 pub struct IndexSetMachine {
     state: State,

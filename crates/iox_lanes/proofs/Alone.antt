@@ -1,5 +1,5 @@
 -- Messages of a publisher that are alone in their slots.
-use Rattle.std.proofs.Common.{ℕ, ◌≡◌, ◌+◌, ◌<◌, List, map, slice_get, Some, option_map, sym, ap, subst, ◌∙◌, inl, inr}
+use Rattle.std.proofs.Common.{ℕ, ◌≡◌, ◌+◌, ◌<◌, List, map, slice_get, Option, Some, option_map, sym, ap, subst, ◌∙◌, inl, inr}
 use Rattle.std.proofs.lemmas.Option.{slice_get-map}
 use Rattle.iox_domain.specs.DomainPorts.Messages.{Message}
 use Rattle.iox_domain.specs.DomainPorts.Ports.{connection_of}
@@ -9,20 +9,31 @@ use Rattle.iox_domain.specs.declared.ports.service_ports.ServicePorts.{ServicePo
 use Rattle.iox_lanes_machine.proofs.Ends.{some_is}
 use Rattle.iox_lanes.specs.Alone.{HasOne, IsAlone, IsMessageOf, KeepAloneAt, KeepsAlone}
 
-abbrev message_in : {T U : Type 0} → ℕ → ℕ → U → List T → Message T U
-message_in slot elements user_header values = record { slot = slot; elements = elements; user_header = user_header; values = values }
+abbrev message_in : {T U : Type 0} → ℕ → Option ℕ → ℕ → U → List T → Message T U
+message_in slot sequence elements user_header values = record {
+  slot = slot;
+  sequence = sequence;
+  elements = elements;
+  user_header = user_header;
+  values = values;
+}
 
-same_message : {T U : Type 0} (message : Message T U) (slot elements : ℕ) (user_header : U) (values : List T) → message.slot ≡ slot
-    → elements ≡ message.elements → user_header ≡ message.user_header → values ≡ message.values
-    → message ≡ message_in slot elements user_header values
-same_message message slot elements user_header values at many own said =
-    ap (λ s. message_in s message.elements message.user_header message.values) at
-    ∙ ap (λ e. message_in slot e message.user_header message.values) (sym many)
-    ∙ ap (λ u. message_in slot elements u message.values) (sym own)
-    ∙ ap (message_in slot elements user_header) (sym said)
+same_message : {T U : Type 0} (message : Message T U) (slot : ℕ) (sequence : Option ℕ) (elements : ℕ) (user_header : U) (values : List T)
+    → message.slot ≡ slot → sequence ≡ message.sequence → elements ≡ message.elements → user_header ≡ message.user_header
+    → values ≡ message.values → message ≡ message_in slot sequence elements user_header values
+same_message message slot sequence elements user_header values at numbered many own said =
+    ap (λ s. message_in s message.sequence message.elements message.user_header message.values) at
+    ∙ ap (λ n. message_in slot n message.elements message.user_header message.values) (sym numbered)
+    ∙ ap (λ e. message_in slot sequence e message.user_header message.values) (sym many)
+    ∙ ap (λ u. message_in slot sequence elements u message.values) (sym own)
+    ∙ ap (message_in slot sequence elements user_header) (sym said)
 
--- the messages in a slot whose elements, user header and values these are, are one
-pub has_one : {T U : Type 0} (port : PublisherPort T U) (slot elements : ℕ) (user_header : U) (values : List T)
+-- the messages in a slot whose number, elements, user header and values these are, are one
+pub has_one : {T U : Type 0} (port : PublisherPort T U) (slot : ℕ) (sequence : Option ℕ) (elements : ℕ) (user_header : U) (values : List T)
+    → ((at : ℕ) (message : Message T U) → slice_get port.sender.uses.history at ≡ Some message → message.slot ≡ slot
+    → sequence ≡ message.sequence)
+    → ((index at : ℕ) (message : Message T U) → slice_get (connection_of index port).waiting at ≡ Some message → message.slot ≡ slot
+    → sequence ≡ message.sequence)
     → ((at : ℕ) (message : Message T U) → slice_get port.sender.uses.history at ≡ Some message → message.slot ≡ slot
     → elements ≡ message.elements)
     → ((index at : ℕ) (message : Message T U) → slice_get (connection_of index port).waiting at ≡ Some message → message.slot ≡ slot
@@ -35,16 +46,18 @@ pub has_one : {T U : Type 0} (port : PublisherPort T U) (slot elements : ℕ) (u
     → values ≡ message.values)
     → ((index at : ℕ) (message : Message T U) → slice_get (connection_of index port).waiting at ≡ Some message → message.slot ≡ slot
     → values ≡ message.values) → HasOne port slot
-has_one {T} {U} port slot elements user_header values kept_many many kept_own own kept_said said one other of_one of_other same equal
+has_one {T} {U} port slot sequence elements user_header values kept_number number kept_many many kept_own own kept_said said one other
+    of_one of_other same equal
     = is one of_one same ∙ sym (is other of_other equal)
   where
-    is : (message : Message T U) → IsMessageOf port message → message.slot ≡ slot → message ≡ message_in slot elements user_header values
+    is : (message : Message T U) → IsMessageOf port message → message.slot ≡ slot
+        → message ≡ message_in slot sequence elements user_header values
     is message (inl (at, there)) here =
-        same_message message slot elements user_header values here (kept_many at message there here) (kept_own at message there here)
-        (kept_said at message there here)
+        same_message message slot sequence elements user_header values here (kept_number at message there here)
+        (kept_many at message there here) (kept_own at message there here) (kept_said at message there here)
     is message (inr (index, at, there)) here =
-        same_message message slot elements user_header values here (many index at message there here) (own index at message there here)
-        (said index at message there here)
+        same_message message slot sequence elements user_header values here (number index at message there here)
+        (many index at message there here) (own index at message there here) (said index at message there here)
 
 -- so the message that has it is alone
 pub alone_at : {T U : Type 0} (port : PublisherPort T U) (messages : List (Message T U)) (at slot : ℕ) (message : Message T U)

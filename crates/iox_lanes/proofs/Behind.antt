@@ -1,6 +1,6 @@
 -- Lanes behind what they found, one after the other.
 use Rattle.std.proofs.Common.{ℕ, zero, suc, ◌≡◌, ◌+◌, ◌++◌, Bool, true, false, List, [], ◌∷◌, map, take, flat_map, slice_get, Some, None}
-use Rattle.std.proofs.Common.{refl, sym, ap, ◌∙◌, arith, append_assoc}
+use Rattle.std.proofs.Common.{refl, sym, ap, ◌∙◌, arith, append_assoc, Option}
 use Rattle.std.proofs.lemmas.Bool.{cond-true, cond-false}
 use Rattle.iox_domain.specs.DomainPorts.Messages.{Message}
 use Rattle.iox_domain.specs.DomainPorts.declared.publisher_port.PublisherPort.{PublisherPort}
@@ -102,17 +102,24 @@ pub no_value : {T : Type 0} (words : T → List ℕ) (count slot : ℕ) (values 
 no_value words count slot [] is = refl
 no_value words count slot (first ∷ rest) is = absurd (cc is)
 
-module _ {T U : Type 0} (payload_words : T → List ℕ) (header_words : U → List ℕ) (payload_count header_count first : ℕ)
+pub both_are : {A B : Type 0} {a b : A} {x y : B} → a ≡ b → x ≡ y → ◌≡◌ {A = A × B} (a, x) (b, y)
+both_are {A} {B} {a} {b} {x} {y} one other =
+    let left : A → A × B = λ c. (c, x) in
+    let right : B → A × B = λ c. (b, c) in
+    ap left one ∙ ap right other
+
+module _ {T U : Type 0} (payload_words : T → List ℕ) (header_words : Option ℕ × U → List ℕ) (payload_count header_count first : ℕ)
     (port : PublisherPort T U) where
   -- the words of a message, header before user header before payload
   pub message_behind : (message : Message T U) (m first_word second_word third_word header after : World) (slot elements : ℕ)
-      (user_header : U) (values : List T)
+      (user_header : Option ℕ × U) (values : List T)
       → first_word ≡ behind_finding m (found.Held slot (Header 0) port.owner.node_id)
       → second_word ≡ behind_finding first_word (found.Held slot (Header 1) port.number)
       → third_word ≡ behind_finding second_word (found.Held slot (Header 2) elements)
       → header ≡ behind_findings third_word (header_findings header_words header_count slot user_header)
       → after ≡ behind_findings header (payload_findings payload_words payload_count slot values)
-      → slot ≡ slot_in first message.slot → elements ≡ message.elements → user_header ≡ message.user_header → values ≡ message.values
+      → slot ≡ slot_in first message.slot → elements ≡ message.elements → user_header ≡ (message.sequence, message.user_header) → values
+      ≡ message.values
       → after ≡ behind_findings m (message_findings payload_words header_words payload_count header_count first port message)
   message_behind message m first_word second_word third_word header after slot elements user_header values one two three headed laid at
       many own said =
@@ -126,7 +133,7 @@ module _ {T U : Type 0} (payload_words : T → List ℕ) (header_words : U → L
       ∙ ap (λ u. behind_findings m (words_findings payload_words header_words payload_count header_count (slot_in first message.slot)
       port.owner.node_id port.number message.elements u values)) own
       ∙ ap (λ vs. behind_findings m (words_findings payload_words header_words payload_count header_count (slot_in first message.slot)
-      port.owner.node_id port.number message.elements message.user_header vs)) said
+      port.owner.node_id port.number message.elements (message.sequence, message.user_header) vs)) said
 
   -- one message more of a list, of each of which its words are found and one thing more
   pub next_message : (last : ℕ → Found) (messages : List (Message T U)) (at slot in_lanes : ℕ) (m now worded after : World)

@@ -1,5 +1,5 @@
 -- What stands in the history of a publisher of lanes behind what they find.
-use Rattle.std.proofs.Common.{arith, ℕ, zero, suc, ◌≡◌, ◌+◌, ◌<◌, ◌≤◌, ◌==◌, true, List, [], ◌∷◌, ◌++◌, length, map, slice_get}
+use Rattle.std.proofs.Common.{arith, ℕ, zero, suc, ◌≡◌, ◌+◌, ◌<◌, ◌≤◌, ◌==◌, true, List, [], ◌∷◌, ◌++◌, length, map, slice_get, Option}
 use Rattle.std.proofs.Common.{None, Some, refl, sym, ap, ◌∙◌, subst, inl, inr, append_assoc, length-append}
 use Rattle.std.proofs.lemmas.Bool.Decides.{eqb_tells}
 use Rattle.std.proofs.lemmas.Option.{slice_get_within}
@@ -94,13 +94,14 @@ module _ (table : TableSizes) (who first size kept : ℕ) where
       (subst (λ h. IsBooked h (with_found m (found.Newest who slot))) (ap (λ b. history ++ slot_if b slot) (itself who))
       (booked_on m (found.Newest who slot) history refl booked fits))
 
-  module _ {T U : Type 0} (payload_words : T → List ℕ) (header_words : U → List ℕ) (payload_count header_count : ℕ)
+  module _ {T U : Type 0} (payload_words : T → List ℕ) (header_words : Option ℕ × U → List ℕ) (payload_count header_count : ℕ)
       (port : PublisherPort T U) where
     words_leave : (message : Message T U)
         → Each (LeavesBook who) (message_findings payload_words header_words payload_count header_count first port message)
     words_leave message =
         each_word payload_words header_words payload_count header_count (LeavesBook who) (slot_in first message.slot)
-        port.owner.node_id port.number message.elements message.user_header message.values (refl, refl) (refl, refl) (refl, refl)
+        port.owner.node_id port.number message.elements (message.sequence, message.user_header) message.values (refl, refl) (refl, refl)
+        (refl, refl)
         (λ word below. (refl, refl)) (λ word below value there. (refl, refl))
 
     -- messages whose slots are apart come into its history

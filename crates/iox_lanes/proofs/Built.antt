@@ -1,5 +1,5 @@
 -- Lanes that are built of a domain, from what each part of the building says.
-use Rattle.std.proofs.Common.{ℕ, ◌≡◌, ◌<◌, ◌^◌, List, length, sym, ap, subst, ◌∙◌}
+use Rattle.std.proofs.Common.{ℕ, ◌≡◌, ◌<◌, ◌^◌, List, length, sym, ap, subst, ◌∙◌, Option}
 use Rattle.std.proofs.lemmas.List.{length-replicate}
 use Rattle.iox_domain.specs.DomainValues.declared.handlers.Handlers.{Handlers}
 use Rattle.iox_domain.specs.declared.domain.Domain.{Domain}
@@ -22,7 +22,7 @@ words_counted sizes m words count made are long few =
     subst (λ n. n < 2 ^ 64) (long ∙ ap length are ∙ ap (λ (w : World). length w.table.words) made ∙ length-replicate
     (words_of (table_sizes sizes)) 0) few
 
-pub are_built : {T U X Y D : Type 0} {F : X → Type 0} {G : Y → Type 0} (payload_words : T → List ℕ) (header_words : U → List ℕ)
+pub are_built : {T U X Y D : Type 0} {F : X → Type 0} {G : Y → Type 0} (payload_words : T → List ℕ) (header_words : Option ℕ × U → List ℕ)
     (payload_count header_count : ℕ) (domain : Domain T U (Handlers X Y F G) D)
     (publishers subscribers : List ℕ) (sizes last : LaneSizes) (begun laid ordered lanes : World)
     → AreAgreed domain.state.ports.sizes (length publishers) (length subscribers) payload_count header_count sizes

@@ -53,7 +53,8 @@ each_leaves P Q leaves [] m all q = q
 each_leaves P Q leaves (f ∷ fs) m all q = each_leaves P Q leaves fs (behind_finding m f) all.1 (leaves m f all.0 q)
 
 -- all that is found of messages of a publisher is found of it
-module _ {T U : Type 0} (payload_words : T → List ℕ) (header_words : U → List ℕ) (payload_count header_count : ℕ) (P : Found → Type 0) where
+module _ {T U : Type 0} (payload_words : T → List ℕ) (header_words : Option ℕ × U → List ℕ) (payload_count header_count : ℕ)
+    (P : Found → Type 0) where
   pub each_payload : (slot : ℕ) (values : List T)
       → ((word : ℕ) → word < payload_count → (value : T) → slice_get values 0 ≡ Some value
       → P (found.Held slot (Payload word) (slice_index (payload_words value) word)))
@@ -63,7 +64,7 @@ module _ {T U : Type 0} (payload_words : T → List ℕ) (header_words : U → L
       = each_listed P (λ word. found.Held slot (Payload word) (slice_index (payload_words value) word)) payload_count
       (λ at below. all at below value refl)
 
-  pub each_word : (slot node number elements : ℕ) (user_header : U) (values : List T) → P (found.Held slot (Header 0) node)
+  pub each_word : (slot node number elements : ℕ) (user_header : Option ℕ × U) (values : List T) → P (found.Held slot (Header 0) node)
       → P (found.Held slot (Header 1) number) → P (found.Held slot (Header 2) elements)
       → ((word : ℕ) → word < header_count → P (found.Held slot (UserHeader word) (slice_index (header_words user_header) word)))
       → ((word : ℕ) → word < payload_count → (value : T) → slice_get values 0 ≡ Some value

@@ -36,11 +36,12 @@ past_fails m who fails none =
     (subst (λ (n : ℕ). n ≤ who) (sym (length-map m.publishers (λ (x : PublisherLaneState). x.fails)))
     (none_past m.publishers who none)))
 
-names_of : (m : World) (who node_id publisher_id : ℕ) (fails : Bool) (at : Option PublisherLaneState) → slice_get m.publishers who ≡ at
-    → failing (named_of m who node_id publisher_id fails at) ≡ set (failing m) who fails
-names_of m who node_id publisher_id fails None there = past_fails m who fails there
-names_of m who node_id publisher_id fails (Some lane) there
-    = map-set (λ (x : PublisherLaneState). x.fails) m.publishers who (lane_named node_id publisher_id fails lane)
+names_of : (m : World) (who node_id publisher_id : ℕ) (fails : Bool) (last : Option ℕ) (at : Option PublisherLaneState) → slice_get
+    m.publishers who ≡ at
+    → failing (named_of m who node_id publisher_id fails last at) ≡ set (failing m) who fails
+names_of m who node_id publisher_id fails last None there = past_fails m who fails there
+names_of m who node_id publisher_id fails last (Some lane) there
+    = map-set (λ (x : PublisherLaneState). x.fails) m.publishers who (lane_named node_id publisher_id fails last lane)
 
 -- a finding that is taken in; but for one of a sender it leaves whose sends fail
 fails_taken : (m : World) (f : Found) → failing (with_found m f) ≡ failing_behind f (failing m)
@@ -57,7 +58,8 @@ fails_taken m (found.Buffer who place messages)
 fails_taken m (found.Slots who slots most_loans)
     = seen_same (λ lane. lane.fails) m (found.Slots who slots most_loans)
     (λ lane after moves. ap (λ (x : PublisherLaneState). x.fails) moves)
-fails_taken m (found.Sender who node_id publisher_id fails) = names_of m who node_id publisher_id fails (slice_get m.publishers who) refl
+fails_taken m (found.Sender who node_id publisher_id fails last) = names_of m who node_id publisher_id fails last
+    (slice_get m.publishers who) refl
 fails_taken m (found.Swapped who one other)
     = seen_same (λ lane. lane.fails) m (found.Swapped who one other) (λ lane after none. absurd none)
 
@@ -75,7 +77,7 @@ fails_refused m (found.Newest who slot) now refused = refl
 fails_refused m (found.Held slot word value) now refused = refl
 fails_refused m (found.Buffer who place messages) now refused = refl
 fails_refused m (found.Slots who slots most_loans) now refused = refl
-fails_refused m (found.Sender who node_id publisher_id fails) now refused =
+fails_refused m (found.Sender who node_id publisher_id fails last) now refused =
     past_fails m who fails (not_there m (slice_get m.publishers who) (m.moments == 0) (ap (λ (n : ℕ). n == 0) now) refused)
 fails_refused m (found.Swapped who one other) now refused = refl
 
@@ -93,7 +95,7 @@ fails_same m (found.Newest who slot) n wants same = absurd wants.1
 fails_same m (found.Held slot word value) n wants same = absurd wants.1
 fails_same m (found.Buffer who place messages) n wants same = absurd wants.1
 fails_same m (found.Slots who slots most_loans) n wants same = absurd wants.1
-fails_same m (found.Sender who node_id publisher_id fails) n wants same = absurd wants.1
+fails_same m (found.Sender who node_id publisher_id fails last) n wants same = absurd wants.1
 fails_same m (found.Swapped who one other) n wants same = absurd wants.1
 
 -- so it is said whatever the answer is

@@ -70,7 +70,7 @@ slots_of_all {T} {U} first messages laid are = record {
     by at (Some message) is = ap (λ xs. slice_get xs at) are ∙ slice_get-map (λ message. first + message.slot) messages at ∙ ap
         (option_map (λ message. first + message.slot)) is
 
-module _ {T U X Y D : Type 0} {F : X → Type 0} {G : Y → Type 0} (payload_words : T → List ℕ) (header_words : U → List ℕ)
+module _ {T U X Y D : Type 0} {F : X → Type 0} {G : Y → Type 0} (payload_words : T → List ℕ) (header_words : Option ℕ × U → List ℕ)
     (payload_count header_count : ℕ) (domain : Domain T U (Handlers X Y F G) D)
     (publishers subscribers : List ℕ) (lanes : World)
     (built : AreBuilt payload_words header_words payload_count header_count domain publishers subscribers lanes)
@@ -133,7 +133,7 @@ module _ {T U X Y D : Type 0} {F : X → Type 0} {G : Y → Type 0} (payload_wor
         → Each (LeavesLink place other) (message_findings payload_words header_words payload_count header_count (at * width) own message)
     link_words other at own message =
         each_word payload_words header_words payload_count header_count (LeavesLink place other) (slot_in (at * width) message.slot)
-        own.owner.node_id own.number message.elements message.user_header message.values tt tt tt
+        own.owner.node_id own.number message.elements (message.sequence, message.user_header) message.values tt tt tt
         (λ word below. tt) (λ word below value there. tt)
 
     link_leave_other : (other at : ℕ) (own : PublisherPort T U) → (at ≡ place → ⊥)
@@ -203,7 +203,8 @@ module _ {T U X Y D : Type 0} {F : X → Type 0} {G : Y → Type 0} (payload_wor
           (place * width) port reader (at_tie reader).waiting
           (λ k message is. each_word payload_words header_words payload_count header_count
           (λ f. LeavesBook place f × LeavesLink place other f) (slot_in (place * width) message.slot)
-          port.owner.node_id port.number message.elements message.user_header message.values ((refl, refl), tt) ((refl, refl), tt)
+          port.owner.node_id port.number message.elements (message.sequence, message.user_header) message.values ((refl, refl), tt)
+          ((refl, refl), tt)
           ((refl, refl), tt) (λ word within. ((refl, refl), tt)) (λ word within value there. ((refl, refl), tt)))
           (λ slot. ((refl, refl), λ row same. absurd (apart same))),
     )
@@ -280,7 +281,8 @@ module _ {T U X Y D : Type 0} {F : X → Type 0} {G : Y → Type 0} (payload_wor
         → Each (LeavesBook place) (message_findings payload_words header_words payload_count header_count (at * width) own message)
     words at own message =
         each_word payload_words header_words payload_count header_count (LeavesBook place) (slot_in (at * width) message.slot)
-        own.owner.node_id own.number message.elements message.user_header message.values (refl, refl) (refl, refl) (refl, refl)
+        own.owner.node_id own.number message.elements (message.sequence, message.user_header) message.values (refl, refl) (refl, refl)
+        (refl, refl)
         (λ word below. (refl, refl)) (λ word below value there. (refl, refl))
 
     leave_other : (at : ℕ) (own : PublisherPort T U) → (at ≡ place → ⊥)
@@ -375,12 +377,12 @@ module _ {T U X Y D : Type 0} {F : X → Type 0} {G : Y → Type 0} (payload_wor
         first_is = ap first_slot intro
 
         begun_steady : AreSteady table begun
-        begun_steady = steady_on table sized (found.Sender reached own.owner.node_id own.number fails)
+        begun_steady = steady_on table sized (found.Sender reached own.owner.node_id own.number fails own.last_sequence)
             (steady_on table m (found.Slots reached (slots_in own) own.sender.uses.most_loans) sofar.steady)
 
         begun_booked : (reached ≡ place → ⊥) → place < reached → Booked begun
         begun_booked apart less =
-            stays sized (found.Sender reached own.owner.node_id own.number fails) (refl, refl)
+            stays sized (found.Sender reached own.owner.node_id own.number fails own.last_sequence) (refl, refl)
             (stays m (found.Slots reached (slots_in own) own.sender.uses.most_loans)
             (ap (λ b. number_if b (slots_in own)) (not_same reached place apart), refl) (sofar.booked less))
 
@@ -443,7 +445,7 @@ module _ {T U X Y D : Type 0} {F : X → Type 0} {G : Y → Type 0} (payload_wor
             → Linked other waiting limit begun
         begun_linked other beneath waiting limit linked =
             linked_stays (built.sized).sizes place other (of_sizes other beneath) sized
-            (found.Sender reached own.owner.node_id own.number fails) waiting limit tt
+            (found.Sender reached own.owner.node_id own.number fails own.last_sequence) waiting limit tt
             (linked_stays (built.sized).sizes place other (of_sizes other beneath) m
             (found.Slots reached (slots_in own) own.sender.uses.most_loans) waiting limit tt linked)
 
@@ -555,7 +557,7 @@ module _ {T U X Y D : Type 0} {F : X → Type 0} {G : Y → Type 0} (payload_wor
         (slots_of_all (place * width) port.sender.uses.history (ends_booked.lane).port.book.history ends_booked.keeps))
 
 module _ {T U X Y Z : Type 0} {F : X → Type 0} {G : Y → Type 0} {H : Z → Type 0} (payload_words : T → List ℕ)
-    (header_words : U → List ℕ) (payload_count header_count : ℕ)
+    (header_words : Option ℕ × U → List ℕ) (payload_count header_count : ℕ)
     (domain : Domain T U (Handlers X Y F G) (DegradationHandler Z H)) (publishers subscribers : List ℕ) (lanes : World)
     (built : AreBuilt payload_words header_words payload_count header_count domain publishers subscribers lanes)
     (none : first_reason domain ≡ None)

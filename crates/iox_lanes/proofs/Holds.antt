@@ -1,5 +1,5 @@
 -- Lanes that are built of a domain hold what it has.
-use Rattle.std.proofs.Common.{ℕ, ◌≡◌, List, None}
+use Rattle.std.proofs.Common.{ℕ, ◌≡◌, List, None, Option}
 use Rattle.iox_domain.specs.DomainValues.declared.degradation_handler.DegradationHandler.{DegradationHandler}
 use Rattle.iox_domain.specs.DomainValues.declared.handlers.Handlers.{Handlers}
 use Rattle.iox_domain.specs.declared.domain.Domain.{Domain}
@@ -15,7 +15,7 @@ use Rattle.iox_lanes.proofs.Tied.{are_tied}
 use Rattle.iox_lanes.proofs.Whole.{link_whole, sender_whole}
 
 pub lanes_hold : {T U X Y Z : Type 0} {F : X → Type 0} {G : Y → Type 0} {H : Z → Type 0} (payload_words : T → List ℕ)
-    (header_words : U → List ℕ) (payload_count header_count : ℕ)
+    (header_words : Option ℕ × U → List ℕ) (payload_count header_count : ℕ)
     (domain : Domain T U (Handlers X Y F G) (DegradationHandler Z H)) (publishers subscribers indices : List ℕ) (lanes : World)
     → AreBuilt payload_words header_words payload_count header_count domain publishers subscribers lanes
     → first_reason domain ≡ None → publishers ≡ numbers_of (λ entry. entry.publisher) domain.state.ports.publisher_list.places

@@ -81,7 +81,8 @@ joins_at payload_count header_count places lanes ports senders readers indices p
 }
 
 -- the publishers at the first places are as the lanes leave them, each other one is as it was
-pub record LeftSoFar {T U : Type 0} (value_of : List ℕ → T) (header_of : List ℕ → U) (lanes : World) (senders : List ℕ) (readers : ℕ)
+pub record LeftSoFar {T U : Type 0} (value_of : List ℕ → T) (header_of : List ℕ → Option ℕ × U) (lanes : World) (senders : List ℕ)
+    (readers : ℕ)
     (indices : List ℕ) (start now : List (ℕ × PublisherPort T U)) (count : ℕ) : Type 0 where
   pub done : (number place : ℕ) → place_of number senders ≡ Some place → place < count
       → IsPortLeftIf value_of header_of lanes (place * readers) (row_of readers indices place) (slice_get lanes.publishers place)
@@ -91,7 +92,7 @@ pub record LeftSoFar {T U : Type 0} (value_of : List ℕ → T) (header_of : Lis
 one_place : (one other : ℕ) → Some one ≡ Some other → one ≡ other
 one_place one other same = cc same
 
-module _ {T U : Type 0} (value_of : List ℕ → T) (header_of : List ℕ → U) (payload_count header_count places : ℕ) (lanes : World)
+module _ {T U : Type 0} (value_of : List ℕ → T) (header_of : List ℕ → Option ℕ × U) (payload_count header_count places : ℕ) (lanes : World)
     (senders : List ℕ) (readers : ℕ) (indices : List ℕ) (start : List (ℕ × PublisherPort T U))
     (joined : IsJoined payload_count header_count places lanes start senders readers indices) where
   abbrev Left : ℕ → Option (PublisherPort T U) → Option (PublisherPort T U) → Type 0
@@ -158,7 +159,7 @@ module _ {T U : Type 0} (value_of : List ℕ → T) (header_of : List ℕ → U)
       by (Some place) is = so_far.done number place is (omega (arith, past, (first_is senders number place is).below))
 
 -- a link of lanes that hold what a domain has, whose index no connection of the publisher before it has joins
-pub joined_if : {T U : Type 0} (payload_words : T → List ℕ) (header_words : U → List ℕ) (table : TableWords) (overflows : Bool)
+pub joined_if : {T U : Type 0} (payload_words : T → List ℕ) (header_words : Option ℕ × U → List ℕ) (table : TableWords) (overflows : Bool)
     (publisher subscriber : ℕ) (line : List ℕ) (port : Option (PublisherPort T U))
     (reader : Option SubscriberPort) (lane : Option PublisherLaneState) (index : Option ℕ) (link : Option LinkState) (number : ℕ)
     → IsLinkIf payload_words header_words table overflows publisher subscriber port reader lane index link → IsTied port reader index

@@ -20,7 +20,7 @@ use Rattle.iox_lanes.proofs.Presence.{rested}
 use Rattle.iox_lanes.proofs.Sound.{first_listed, fits, publishers_once, subscribers_once}
 
 module _ {T U X Y Z : Type 0} {F : X → Type 0} {G : Y → Type 0} {H : Z → Type 0} (payload_words : T → List ℕ)
-    (header_words : U → List ℕ) (payload_count header_count : ℕ)
+    (header_words : Option ℕ × U → List ℕ) (payload_count header_count : ℕ)
     (domain : Domain T U (Handlers X Y F G) (DegradationHandler Z H)) (lanes : World) (publishers subscribers indices : List ℕ)
     (none : first_reason domain ≡ None)
     (sized : AreSized domain.state.ports.sizes (length publishers) (length subscribers) payload_count header_count lanes)

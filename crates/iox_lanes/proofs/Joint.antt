@@ -19,7 +19,7 @@ use Rattle.iox_lanes.proofs.Presence.{are_there, readers_there}
 use Rattle.iox_lanes.proofs.Tied.{alone_in_row, are_tied, index_is}
 
 module _ {T U X Y Z : Type 0} {F : X → Type 0} {G : Y → Type 0} {H : Z → Type 0} (payload_words : T → List ℕ)
-    (header_words : U → List ℕ) (payload_count header_count : ℕ)
+    (header_words : Option ℕ × U → List ℕ) (payload_count header_count : ℕ)
     (domain : Domain T U (Handlers X Y F G) (DegradationHandler Z H)) (lanes : World) (publishers subscribers indices : List ℕ)
     (none : first_reason domain ≡ None)
     (hold : LanesHold payload_words header_words payload_count header_count domain lanes publishers subscribers indices)

@@ -1,5 +1,5 @@
 -- Lanes behind what they found of publisher after publisher.
-use Rattle.std.proofs.Common.{ℕ, suc, ◌≡◌, ◌+◌, List, length, slice_get, slice_index, Some, sym, ap, ◌∙◌, arith}
+use Rattle.std.proofs.Common.{ℕ, suc, ◌≡◌, ◌+◌, List, length, slice_get, slice_index, Some, sym, ap, ◌∙◌, arith, Option}
 use Rattle.iox_domain.specs.DomainPorts.Publishers.{port_of}
 use Rattle.iox_domain.specs.DomainPorts.declared.publisher_port.PublisherPort.{PublisherPort}
 use Rattle.iox_domain.specs.DomainValues.declared.handlers.Handlers.{Handlers}
@@ -14,7 +14,8 @@ use Rattle.iox_lanes.specs.Laid.{publishers_behind, sender_behind}
 use Rattle.iox_lanes.specs.Tied.{tie_for}
 
 -- one publisher more
-pub next_publisher : {T U X Y D : Type 0} {F : X → Type 0} {G : Y → Type 0} (payload_words : T → List ℕ) (header_words : U → List ℕ)
+pub next_publisher : {T U X Y D : Type 0} {F : X → Type 0} {G : Y → Type 0} (payload_words : T → List ℕ)
+    (header_words : Option ℕ × U → List ℕ)
     (payload_count header_count : ℕ)
     (domain : Domain T U (Handlers X Y F G) D) (publishers subscribers : List ℕ) (m now named kept after : World) (place first : ℕ)
     (port : PublisherPort T U)

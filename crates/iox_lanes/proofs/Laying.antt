@@ -7,7 +7,7 @@ use Rattle.iox_lanes_machine.specs.LanesBase.Table.{TableWords}
 use Rattle.iox_lanes.specs.Lying.{AreLaid, AreSlotsOf, IsLaidAt, IsSlotOf, Lies}
 
 -- messages whose slots these are, and which lie there, are laid
-pub laid_so : {T U : Type 0} (payload_words : T → List ℕ) (header_words : U → List ℕ) (table : TableWords) (first : ℕ)
+pub laid_so : {T U : Type 0} (payload_words : T → List ℕ) (header_words : Option ℕ × U → List ℕ) (table : TableWords) (first : ℕ)
     (port : PublisherPort T U) (laid : List ℕ) (messages : List (Message T U))
     → AreSlotsOf first laid messages → ((at : ℕ) (message : Message T U) → slice_get messages at ≡ Some message
     → Lies payload_words header_words table first port message)

@@ -79,7 +79,7 @@ LeavesLink who other (found.Newest publisher slot) = Unit {0}
 LeavesLink who other (found.Held slot word value) = Unit {0}
 LeavesLink who other (found.Buffer publisher place messages) = publisher ≡ who → place ≡ other → ⊥
 LeavesLink who other (found.Slots publisher slots most_loans) = Unit {0}
-LeavesLink who other (found.Sender publisher node_id publisher_id fails) = Unit {0}
+LeavesLink who other (found.Sender publisher node_id publisher_id fails last) = Unit {0}
 LeavesLink who other (found.Swapped subscriber one two) = Unit {0}
 
 module _ (sizes : LaneSizes) (who other : ℕ) where
@@ -146,7 +146,7 @@ module _ (sizes : LaneSizes) (who other : ℕ) where
     nothing_of m (found.Buffer publisher place messages) leaves leads
         = (refl, refl, ap (λ b. number_if b messages) (off m publisher place leads leaves))
     nothing_of m (found.Slots publisher slots most_loans) leaves leads = (refl, refl, refl)
-    nothing_of m (found.Sender publisher node_id publisher_id fails) leaves leads = (refl, refl, refl)
+    nothing_of m (found.Sender publisher node_id publisher_id fails last) leaves leads = (refl, refl, refl)
     nothing_of m (found.Swapped subscriber one two) leaves leads = (refl, refl, refl)
 
     -- a finding that leaves it
@@ -254,13 +254,14 @@ module _ (sizes : LaneSizes) (who other : ℕ) where
         linked_stays m f waiting limit leaves.1 both.1,
       )
 
-      module _ {T U : Type 0} (payload_words : T → List ℕ) (header_words : U → List ℕ) (payload_count header_count : ℕ)
+      module _ {T U : Type 0} (payload_words : T → List ℕ) (header_words : Option ℕ × U → List ℕ) (payload_count header_count : ℕ)
           (port : PublisherPort T U) where
         words_leave : (message : Message T U)
             → Each LeavesBoth (message_findings payload_words header_words payload_count header_count first port message)
         words_leave message =
             each_word payload_words header_words payload_count header_count LeavesBoth (slot_in first message.slot)
-            port.owner.node_id port.number message.elements message.user_header message.values ((refl, refl), tt) ((refl, refl), tt)
+            port.owner.node_id port.number message.elements (message.sequence, message.user_header) message.values ((refl, refl), tt)
+            ((refl, refl), tt)
             ((refl, refl), tt) (λ word below. ((refl, refl), tt)) (λ word below value there. ((refl, refl), tt))
 
         -- messages whose slots are apart come to wait there

@@ -24,7 +24,7 @@ who_of (found.Newest publisher slot) = publisher
 who_of (found.Held slot word value) = 0
 who_of (found.Buffer publisher place messages) = publisher
 who_of (found.Slots publisher slots most_loans) = publisher
-who_of (found.Sender publisher node_id publisher_id fails) = publisher
+who_of (found.Sender publisher node_id publisher_id fails last) = publisher
 who_of (found.Swapped subscriber one other) = 0
 
 -- what it makes of that publisher; of none it makes nothing
@@ -35,7 +35,7 @@ Moves (found.Newest publisher slot) lane after = after ≡ lane_remembers slot l
 Moves (found.Held slot word value) lane after = ⊥
 Moves (found.Buffer publisher place messages) lane after = (route : Route) × (after ≡ lane_meets route lane)
 Moves (found.Slots publisher slots most_loans) lane after = after ≡ lane_resized slots most_loans lane
-Moves (found.Sender publisher node_id publisher_id fails) lane after = after ≡ lane_named node_id publisher_id fails lane
+Moves (found.Sender publisher node_id publisher_id fails last) lane after = after ≡ lane_named node_id publisher_id fails last lane
 Moves (found.Swapped subscriber one other) lane after = ⊥
 
 -- the publishers stay as they are, or one becomes another
@@ -98,10 +98,12 @@ resizes_of : (m : World) (who slots most_loans : ℕ) (at : Option PublisherLane
 resizes_of m who slots most_loans None there = inl refl
 resizes_of m who slots most_loans (Some lane) there = inr (lane, lane_resized slots most_loans lane, there, refl, refl)
 
-names_of : (m : World) (who node_id publisher_id : ℕ) (fails : Bool) (at : Option PublisherLaneState) → slice_get m.publishers who ≡ at
-    → Goes m who (λ was after. after ≡ lane_named node_id publisher_id fails was) (named_of m who node_id publisher_id fails at)
-names_of m who node_id publisher_id fails None there = inl refl
-names_of m who node_id publisher_id fails (Some lane) there = inr (lane, lane_named node_id publisher_id fails lane, there, refl, refl)
+names_of : (m : World) (who node_id publisher_id : ℕ) (fails : Bool) (last : Option ℕ) (at : Option PublisherLaneState) → slice_get
+    m.publishers who ≡ at
+    → Goes m who (λ was after. after ≡ lane_named node_id publisher_id fails last was) (named_of m who node_id publisher_id fails last at)
+names_of m who node_id publisher_id fails last None there = inl refl
+names_of m who node_id publisher_id fails last (Some lane) there = inr
+    (lane, lane_named node_id publisher_id fails last lane, there, refl, refl)
 
 pub swaps_of : (m : World) (who one other : ℕ) (at : Option SubscriberLaneState) → (swapped_of m who one other at).publishers ≡ m.publishers
 swaps_of m who one other None = refl
@@ -114,7 +116,8 @@ moved m (found.Newest who slot) = remembers_of m who slot (slice_get m.publisher
 moved m (found.Held slot word value) = inl refl
 moved m (found.Buffer who place messages) = buffers_of m who place messages (slice_get m.publishers who) refl
 moved m (found.Slots who slots most_loans) = resizes_of m who slots most_loans (slice_get m.publishers who) refl
-moved m (found.Sender who node_id publisher_id fails) = names_of m who node_id publisher_id fails (slice_get m.publishers who) refl
+moved m (found.Sender who node_id publisher_id fails last) = names_of m who node_id publisher_id fails last (slice_get m.publishers who)
+    refl
 moved m (found.Swapped who one other) = inl (swaps_of m who one other (slice_get m.subscribers who))
 
 -- what is seen of each publisher is as it was, where the finding leaves that as it was of the one that it is about

@@ -49,13 +49,14 @@ first_is words [] value there = absurd (cc there)
 first_is words (first ∷ rest) value there = ap words (sym (some_is first value there))
 
 -- what the slot of a message is to hold
-abbrev pub content_of : {T U : Type 0} → (T → List ℕ) → (U → List ℕ) → PublisherPort T U → Message T U → SlotWord → ℕ
+abbrev pub content_of : {T U : Type 0} → (T → List ℕ) → (Option ℕ × U → List ℕ) → PublisherPort T U → Message T U → SlotWord → ℕ
 content_of payload_words header_words port message (Header word)
     = slice_index (port.owner.node_id ∷ port.number ∷ message.elements ∷ []) word
-content_of payload_words header_words port message (UserHeader word) = slice_index (header_words message.user_header) word
+content_of payload_words header_words port message (UserHeader word) = slice_index (header_words (message.sequence, message.user_header))
+    word
 content_of payload_words header_words port message (Payload word) = slice_index (first_words payload_words message.values) word
 
-module _ {T U : Type 0} (payload_words : T → List ℕ) (header_words : U → List ℕ) (payload_count header_count first : ℕ)
+module _ {T U : Type 0} (payload_words : T → List ℕ) (header_words : Option ℕ × U → List ℕ) (payload_count header_count first : ℕ)
     (port : PublisherPort T U) where
   -- what is found of a message is that
   agree_own : (slot : ℕ) (message : Message T U)
@@ -63,7 +64,7 @@ module _ {T U : Type 0} (payload_words : T → List ℕ) (header_words : U → L
       (message_findings payload_words header_words payload_count header_count first port message)
   agree_own slot message =
       each_word payload_words header_words payload_count header_count (Agrees slot (content_of payload_words header_words port message))
-      (slot_in first message.slot) port.owner.node_id port.number message.elements message.user_header message.values
+      (slot_in first message.slot) port.owner.node_id port.number message.elements (message.sequence, message.user_header) message.values
       (λ same. refl) (λ same. refl) (λ same. refl) (λ word below same. refl)
       (λ word below value there same. ap (λ words. slice_index words word) (first_is payload_words message.values value there))
 
@@ -72,7 +73,7 @@ module _ {T U : Type 0} (payload_words : T → List ℕ) (header_words : U → L
       → Each (Agrees slot content) (message_findings payload_words header_words payload_count header_count first port message)
   agree_apart slot content message apart =
       each_word payload_words header_words payload_count header_count (Agrees slot content) (slot_in first message.slot)
-      port.owner.node_id port.number message.elements message.user_header message.values
+      port.owner.node_id port.number message.elements (message.sequence, message.user_header) message.values
       (λ same. absurd (apart same)) (λ same. absurd (apart same)) (λ same. absurd (apart same)) (λ word below same. absurd (apart same))
       (λ word below value there same. absurd (apart same))
 
@@ -94,15 +95,16 @@ module _ {T U : Type 0} (payload_words : T → List ℕ) (header_words : U → L
   in_message sizes message value (Header (suc (suc (suc word)))) there payload header is = absurd (omega (arith, is))
   in_message sizes message value (UserHeader word) there payload header is =
       inr (inr (inr (in_left (found.Held (slot_in first message.slot) (UserHeader word)
-      (slice_index (header_words message.user_header) word))
-      (header_findings header_words header_count (slot_in first message.slot) message.user_header)
+      (slice_index (header_words (message.sequence, message.user_header)) word))
+      (header_findings header_words header_count (slot_in first message.slot) (message.sequence, message.user_header))
       (payload_findings payload_words payload_count (slot_in first message.slot) message.values)
-      (in_listed (λ at. found.Held (slot_in first message.slot) (UserHeader at) (slice_index (header_words message.user_header) at))
+      (in_listed (λ at. found.Held (slot_in first message.slot) (UserHeader at)
+      (slice_index (header_words (message.sequence, message.user_header)) at))
       header_count word (omega (arith, is, header))))))
   in_message sizes message value (Payload word) there payload header is =
       inr (inr (inr (in_right (found.Held (slot_in first message.slot) (Payload word)
       (slice_index (first_words payload_words message.values) word))
-      (header_findings header_words header_count (slot_in first message.slot) message.user_header)
+      (header_findings header_words header_count (slot_in first message.slot) (message.sequence, message.user_header))
       (payload_findings payload_words payload_count (slot_in first message.slot) message.values)
       (in_payload (slot_in first message.slot) word message.values value there (omega (arith, is, payload))))))
 
@@ -116,7 +118,7 @@ unfolding behind_findings
 steady_behind sizes m [] steady = steady
 steady_behind sizes m (f ∷ fs) steady = steady_behind sizes (behind_finding m f) fs (steady_on sizes m f steady)
 
-module _ {T U X Y D : Type 0} {F : X → Type 0} {G : Y → Type 0} (payload_words : T → List ℕ) (header_words : U → List ℕ)
+module _ {T U X Y D : Type 0} {F : X → Type 0} {G : Y → Type 0} (payload_words : T → List ℕ) (header_words : Option ℕ × U → List ℕ)
     (payload_count header_count : ℕ) (domain : Domain T U (Handlers X Y F G) D)
     (publishers subscribers : List ℕ) (lanes : World)
     (built : AreBuilt payload_words header_words payload_count header_count domain publishers subscribers lanes) where
@@ -344,12 +346,12 @@ module _ {T U X Y D : Type 0} {F : X → Type 0} {G : Y → Type 0} (payload_wor
               (built.room count (slice_index publishers count) own here is)).here
 
           begun_steady : AreSteady table begun
-          begun_steady = steady_on table sized (found.Sender count own.owner.node_id own.number fails)
+          begun_steady = steady_on table sized (found.Sender count own.owner.node_id own.number fails own.last_sequence)
               (steady_on table m (found.Slots count (slots_in own) own.sender.uses.most_loans) sofar.steady)
 
           held : place < count → Holds begun
           held less =
-              hold_on table slot content word whole_word sized (found.Sender count own.owner.node_id own.number fails) tt
+              hold_on table slot content word whole_word sized (found.Sender count own.owner.node_id own.number fails own.last_sequence) tt
               (hold_on table slot content word whole_word m (found.Slots count (slots_in own) own.sender.uses.most_loans) tt
               (record { steady = sofar.steady; holds = sofar.holds less }))
 
@@ -398,11 +400,11 @@ module _ {T U X Y D : Type 0} {F : X → Type 0} {G : Y → Type 0} (payload_wor
 
     -- the message lies there
     pub words_lie : WordsLie payload_words header_words lanes.table (place * width + message.slot) port.owner.node_id port.number
-        message.elements message.user_header message.values
+        message.elements (message.sequence, message.user_header) message.values
     words_lie =
         let sizes_are : lanes.table.sizes ≡ table = ((lies (Header 0) (omega arith)).steady).table in
         subst (λ n. WordsLie payload_words header_words lanes.table n port.owner.node_id port.number message.elements
-        message.user_header message.values) slot_is (
+        (message.sequence, message.user_header) message.values) slot_is (
           ((lies (Header 0) (omega arith)).holds, (lies (Header 1) (omega arith)).holds, (lies (Header 2) (omega arith)).holds),
           (λ word below. (lies (UserHeader word) (subst (λ s. word < s.user_header_words) sizes_are below)).holds),
           subst (PayloadLies payload_words lanes.table slot) (sym one)

@@ -175,15 +175,16 @@ may_remember lanes place lane port keep rest found has = record {
     remembers = keep.histories (rest 0).few place lane found
 
 -- so a publisher that was restored is as the lanes leave it
-pub port_left : {T U : Type 0} (value_of : List ℕ → T) (header_of : List ℕ → U) (lanes : World) (place readers : ℕ) (indices : List ℕ)
+pub port_left : {T U : Type 0} (value_of : List ℕ → T) (header_of : List ℕ → Option ℕ × U) (lanes : World) (place readers : ℕ)
+    (indices : List ℕ)
     (lane : PublisherLaneState) (old new : PublisherPort T U)
     → LanesKeep lanes → AllRest lanes → slice_get lanes.publishers place ≡ Some lane → JoinsAt lanes (Some old) place readers indices
-    → new ≡ record old { sender = new.sender }
+    → new ≡ record old { last_sequence = lane.last; sender = new.sender }
     → (IsRested old.sender → IsRestored value_of header_of lanes (place * readers) (row_of readers indices place) lane.port.book.first
     lane.port.book.history old.sender new.sender)
     → IsPortLeft value_of header_of lanes (place * readers) (row_of readers indices place) lane old new
 port_left value_of header_of lanes place readers indices lane old new keep rest found joins only restored = record {
-  rest = only ∙ ap (λ sender. record old { sender = sender }) done.rest;
+  rest = only ∙ ap (λ sender. record old { last_sequence = lane.last; sender = sender }) done.rest;
   count = done.count;
   each = λ index. done.each index ∙ ap (with_waiting (connection_of index old))
       (done.waits index (may_wait lanes place readers indices lane old keep rest found has joins index

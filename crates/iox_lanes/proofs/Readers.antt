@@ -66,7 +66,7 @@ LeavesOrder (found.Newest publisher slot) = Unit {0}
 LeavesOrder (found.Held slot word value) = Unit {0}
 LeavesOrder (found.Buffer publisher place messages) = Unit {0}
 LeavesOrder (found.Slots publisher slots most_loans) = Unit {0}
-LeavesOrder (found.Sender publisher node_id publisher_id fails) = Unit {0}
+LeavesOrder (found.Sender publisher node_id publisher_id fails last) = Unit {0}
 LeavesOrder (found.Swapped subscriber one other) = ⊥
 
 before_is : (f : Found) (who at : ℕ) → LeavesOrder f → place_before f who at ≡ at
@@ -76,7 +76,7 @@ before_is (found.Newest publisher slot) who at leaves = refl
 before_is (found.Held slot word value) who at leaves = refl
 before_is (found.Buffer publisher place messages) who at leaves = refl
 before_is (found.Slots publisher slots most_loans) who at leaves = refl
-before_is (found.Sender publisher node_id publisher_id fails) who at leaves = refl
+before_is (found.Sender publisher node_id publisher_id fails last) who at leaves = refl
 before_is (found.Swapped subscriber one other) who at leaves = absurd leaves
 
 some_index : {V : Type 0} (number_of : V → ℕ) (places : List (Option (Member V))) (place : ℕ) (member : Member V)
@@ -96,7 +96,7 @@ none_got test (y ∷ ys) zero x none is = ap test (sym is) ∙ (neither (test y)
 none_got test (y ∷ ys) (suc at) x none is = none_got test ys at x (neither (test y) (list_any test ys) none).1 is
 
 module _ {T U X Y Z : Type 0} {F : X → Type 0} {G : Y → Type 0} {H : Z → Type 0} (payload_words : T → List ℕ)
-    (header_words : U → List ℕ) (payload_count header_count : ℕ)
+    (header_words : Option ℕ × U → List ℕ) (payload_count header_count : ℕ)
     (domain : Domain T U (Handlers X Y F G) (DegradationHandler Z H)) (publishers subscribers : List ℕ) (lanes : World)
     (built : AreBuilt payload_words header_words payload_count header_count domain publishers subscribers lanes)
     (sized : AreSized domain.state.ports.sizes (length publishers) (length subscribers) payload_count header_count lanes)
@@ -180,7 +180,7 @@ module _ {T U X Y Z : Type 0} {F : X → Type 0} {G : Y → Type 0} {H : Z → T
       (list_routes (history_findings payload_words header_words payload_count header_count place first own own.sender.uses.history) begun
       leave.0
       (routes_on (behind_finding m (found.Slots place (slots_in own) own.sender.uses.most_loans))
-      (found.Sender place own.owner.node_id own.number fails) tt
+      (found.Sender place own.owner.node_id own.number fails own.last_sequence) tt
       (routes_on m (found.Slots place (slots_in own) own.sender.uses.most_loans) tt has)))
     where
       begun : World
@@ -196,10 +196,11 @@ module _ {T U X Y Z : Type 0} {F : X → Type 0} {G : Y → Type 0} {H : Z → T
           (length subscribers))
       leave = each_of payload_words header_words payload_count header_count LeavesOrder place first own (tie own) (length subscribers)
           (λ k message is. each_word payload_words header_words payload_count header_count LeavesOrder (slot_in first message.slot)
-          own.owner.node_id own.number message.elements message.user_header message.values tt tt tt
+          own.owner.node_id own.number message.elements (message.sequence, message.user_header) message.values tt tt tt
           (λ word within. tt) (λ word within value there. tt))
           (λ reader within k message is. each_word payload_words header_words payload_count header_count LeavesOrder
-          (slot_in first message.slot) own.owner.node_id own.number message.elements message.user_header message.values tt tt tt
+          (slot_in first message.slot) own.owner.node_id own.number message.elements (message.sequence, message.user_header)
+          message.values tt tt tt
           (λ word within. tt) (λ word within value there. tt))
           (λ slot. tt) (λ reader slot. tt) (λ reader messages. tt)
 

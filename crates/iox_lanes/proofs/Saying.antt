@@ -68,15 +68,16 @@ named_all sizes place count port heads are at = by (slice_get heads at) refl
         (sym (all_same count at (with_origin port.owner.node_id port.number (first_head sizes place)) head
         (ap (λ hs. slice_get hs at) (sym are) ∙ there))) (named_head sizes place port)
 
--- As many slots and loans as a publisher has, from the place on where its slots begin, and headers of its node and number.
+-- As many slots and loans as a publisher has, from the place on where its slots begin, headers of its node and number, and its last number.
 pub record IsTold {T U : Type 0} (sizes : LaneSizes) (place : ℕ) (port : PublisherPort T U) (lane : PublisherLaneState) : Type 0 where
   pub first : lane.port.book.first ≡ place * sizes.slots
   pub slots : length lane.port.book.loans ≡ port.sender.uses.first + port.sender.uses.size
   pub fit : port.sender.uses.first + port.sender.uses.size ≤ sizes.slots
   pub most_loans : lane.port.book.most_loans ≡ port.sender.uses.most_loans
   pub named : (at : ℕ) → IsNamedIf port (slice_get lane.heads at)
+  pub last : lane.last ≡ port.last_sequence
 
-module _ {T U X Y D : Type 0} {F : X → Type 0} {G : Y → Type 0} (payload_words : T → List ℕ) (header_words : U → List ℕ)
+module _ {T U X Y D : Type 0} {F : X → Type 0} {G : Y → Type 0} (payload_words : T → List ℕ) (header_words : Option ℕ × U → List ℕ)
     (payload_count header_count : ℕ) (domain : Domain T U (Handlers X Y F G) D)
     (publishers subscribers : List ℕ) (lanes : World)
     (built : AreBuilt payload_words header_words payload_count header_count domain publishers subscribers lanes) where
@@ -104,6 +105,7 @@ module _ {T U X Y D : Type 0} {F : X → Type 0} {G : Y → Type 0} (payload_wor
         (ap (λ s. s.heads) says ∙ ap (map (with_origin port.owner.node_id port.number))
         (take-replicate (slots_in port) ((built.sized).sizes).slots (first_head (built.sized).sizes place) fit)
         ∙ map_replicate (with_origin port.owner.node_id port.number) (slots_in port) (first_head (built.sized).sizes place));
+    last = ap (λ s. s.last) says;
   }
     where
       below : place < length publishers

@@ -40,19 +40,20 @@ pub record LaneSays : Type 0 where
   pub most_loans : ℕ
   pub loans : List LoanMark
   pub heads : List (List ℕ)
+  pub last : Option ℕ
 
 abbrev pub said : PublisherLaneState → LaneSays
 said lane = record {
   first = lane.port.book.first;
   most_loans = lane.port.book.most_loans;
   loans = lane.port.book.loans;
-  heads
-      = lane.heads;
+  heads = lane.heads;
+  last = lane.last;
 }
 
 -- a publisher as it was made, and told its slots, loans, node and number
 abbrev pub introduced : {T U : Type 0} → LaneSizes → ℕ → Bool → PublisherPort T U → PublisherLaneState
-introduced sizes place fails port = lane_named port.owner.node_id port.number fails
+introduced sizes place fails port = lane_named port.owner.node_id port.number fails port.last_sequence
     (lane_resized (slots_in port) port.sender.uses.most_loans (publisher_at sizes place))
 
 -- what a finding is that is found of a message of the publisher at a place
@@ -63,7 +64,7 @@ IsOfMessage who (found.Newest publisher slot) = publisher ≡ who
 IsOfMessage who (found.Held slot word value) = Unit {0}
 IsOfMessage who (found.Buffer publisher place messages) = publisher ≡ who
 IsOfMessage who (found.Slots publisher slots most_loans) = ⊥
-IsOfMessage who (found.Sender publisher node_id publisher_id fails) = ⊥
+IsOfMessage who (found.Sender publisher node_id publisher_id fails last) = ⊥
 IsOfMessage who (found.Swapped subscriber one other) = ⊥
 
 -- it leaves what lanes say, and each other publisher whole
@@ -79,7 +80,7 @@ said_by who (found.Newest publisher slot) lane after of_it moves = ap said moves
 said_by who (found.Held slot word value) lane after of_it moves = absurd moves
 said_by who (found.Buffer publisher place messages) lane after of_it moves = ap said moves.1
 said_by who (found.Slots publisher slots most_loans) lane after of_it moves = absurd of_it
-said_by who (found.Sender publisher node_id publisher_id fails) lane after of_it moves = absurd of_it
+said_by who (found.Sender publisher node_id publisher_id fails last) lane after of_it moves = absurd of_it
 said_by who (found.Swapped subscriber one other) lane after of_it moves = absurd of_it
 
 about : (who : ℕ) (f : Found) (lane after : PublisherLaneState) → IsOfMessage who f → Moves f lane after → who_of f ≡ who
@@ -89,7 +90,7 @@ about who (found.Newest publisher slot) lane after of_it moves = of_it
 about who (found.Held slot word value) lane after of_it moves = absurd moves
 about who (found.Buffer publisher place messages) lane after of_it moves = of_it
 about who (found.Slots publisher slots most_loans) lane after of_it moves = absurd of_it
-about who (found.Sender publisher node_id publisher_id fails) lane after of_it moves = absurd of_it
+about who (found.Sender publisher node_id publisher_id fails last) lane after of_it moves = absurd of_it
 about who (found.Swapped subscriber one other) lane after of_it moves = absurd of_it
 
 stay_on : (who : ℕ) (m n : World) (f : Found) → IsOfMessage who f → StaySaid who m n → StaySaid who m (behind_finding n f)
@@ -100,13 +101,13 @@ stay_on who m n f of_it stay = behind_by (StaySaid who m) n f stay (λ fits. rec
       stay.others place apart;
 })
 
-module _ {T U : Type 0} (payload_words : T → List ℕ) (header_words : U → List ℕ) (payload_count header_count place first : ℕ)
+module _ {T U : Type 0} (payload_words : T → List ℕ) (header_words : Option ℕ × U → List ℕ) (payload_count header_count place first : ℕ)
     (port : PublisherPort T U) where
   words_of_message : (message : Message T U)
       → Each (IsOfMessage place) (message_findings payload_words header_words payload_count header_count first port message)
   words_of_message message =
       each_word payload_words header_words payload_count header_count (IsOfMessage place) (slot_in first message.slot)
-      port.owner.node_id port.number message.elements message.user_header message.values tt tt tt
+      port.owner.node_id port.number message.elements (message.sequence, message.user_header) message.values tt tt tt
       (λ word below. tt) (λ word below value there. tt)
 
   -- the messages of a publisher leave what lanes say
@@ -174,7 +175,7 @@ introduces {T} {U} sizes m place fails port fresh there room = subst (Introduced
     slots = found.Slots place (slots_in port) port.sender.uses.most_loans
 
     sender : Found
-    sender = found.Sender place port.owner.node_id port.number fails
+    sender = found.Sender place port.owner.node_id port.number fails port.last_sequence
 
     zeros : List ℕ
     zeros = replicate sizes.slots 0
@@ -193,7 +194,7 @@ introduces {T} {U} sizes m place fails port fresh there room = subst (Introduced
     whole : sender_behind m place fails port ≡ named
     whole = ap (λ w. behind_finding w sender)
         (behind_fits m slots resizes ∙ ap (resized_of m place (slots_in port) port.sender.uses.most_loans) there)
-        ∙ behind_fits sized sender names ∙ ap (named_of sized place port.owner.node_id port.number fails) stands
+        ∙ behind_fits sized sender names ∙ ap (named_of sized place port.owner.node_id port.number fails port.last_sequence) stands
 
 pub seen_at : (m : World) (place : ℕ) (lane : PublisherLaneState) → slice_get m.publishers place ≡ Some lane
     → slice_get (map said m.publishers) place ≡ Some (said lane)
@@ -204,7 +205,7 @@ abbrev pub says_if : {T U : Type 0} → LaneSizes → ℕ → Bool → Option (P
 says_if sizes place fails None = said (publisher_at sizes place)
 says_if sizes place fails (Some port) = said (introduced sizes place fails port)
 
-module _ {T U X Y D : Type 0} {F : X → Type 0} {G : Y → Type 0} (payload_words : T → List ℕ) (header_words : U → List ℕ)
+module _ {T U X Y D : Type 0} {F : X → Type 0} {G : Y → Type 0} (payload_words : T → List ℕ) (header_words : Option ℕ × U → List ℕ)
     (payload_count header_count : ℕ) (domain : Domain T U (Handlers X Y F G) D)
     (publishers subscribers : List ℕ) (sizes : LaneSizes) (as_many : sizes.publishers ≡ length publishers)
     (room : HaveSlots domain.state.ports.publishers publishers sizes.slots) where

@@ -26,7 +26,8 @@ use Rattle.iox_lanes_opening.specs.Listed.{of_each_listed}
 use Rattle.iox_lanes_opening.specs.Refusals.{first_reason, has_growing, is_blocked}
 use Rattle.iox_lanes_opening.specs.Slices.{has_slices}
 use Rattle.iox_lanes_opening.specs.Soundness.{are_placed, is_misfit, is_publisher_place, is_publisher_placed, is_subscriber_place}
-use Rattle.iox_lanes_opening.specs.Soundness.{attaches_twice, has_twice, is_subscriber_placed, is_unsound, remembers_ill, waits_ill}
+use Rattle.iox_lanes_opening.specs.Soundness.{attaches_twice, has_twice, is_misnumbered, is_subscriber_placed, is_unsound, remembers_ill}
+use Rattle.iox_lanes_opening.specs.Soundness.{waits_ill}
 use Rattle.iox_lanes_opening.specs.UpToDate.{is_up_to_date}
 use Rattle.iox_lanes.specs.Holding.{numbers_of}
 use Rattle.iox_lanes.specs.Joined.{place_if, AreListedOnce}
@@ -164,8 +165,11 @@ module _ {T U X Y Z : Type 0} {F : X → Type 0} {G : Y → Type 0} {H : Z → T
   fits number port is =
       let misfit = none_under (λ (entry : ℕ × PublisherPort T U). is_misfit ports.sizes entry.1) (is_at (nat_cmp number)) ports.publishers
       port sound.made is in
+      let numbered = neither (is_misnumbered ports.sizes port) (nat_lt 0 port.sender.uses.first
+      || (not (port.sender.uses.kept == ports.sizes.history_size) || (remembers_ill ports.sizes port
+      || list_any (waits_ill ports.sizes) port.sender.uses.connections))) misfit.1 in
       let one = neither (nat_lt 0 port.sender.uses.first) (not (port.sender.uses.kept == ports.sizes.history_size)
-      || (remembers_ill ports.sizes port || list_any (waits_ill ports.sizes) port.sender.uses.connections)) misfit.1 in
+      || (remembers_ill ports.sizes port || list_any (waits_ill ports.sizes) port.sender.uses.connections)) numbered.1 in
       let made = neither (not (port.sender.uses.kept == ports.sizes.history_size))
       (remembers_ill ports.sizes port || list_any (waits_ill ports.sizes) port.sender.uses.connections) one.1 in
       let messages = neither (remembers_ill ports.sizes port) (list_any (waits_ill ports.sizes) port.sender.uses.connections) made.1 in

@@ -27,7 +27,7 @@ use Rattle.iox_lanes.proofs.Presence.{readers_there, remembers_one, waits_one}
 use Rattle.iox_lanes.proofs.Saying.{told}
 
 module _ {T U X Y Z : Type 0} {F : X → Type 0} {G : Y → Type 0} {H : Z → Type 0} (payload_words : T → List ℕ)
-    (header_words : U → List ℕ) (payload_count header_count : ℕ)
+    (header_words : Option ℕ × U → List ℕ) (payload_count header_count : ℕ)
     (domain : Domain T U (Handlers X Y F G) (DegradationHandler Z H)) (publishers subscribers : List ℕ) (lanes : World)
     (built : AreBuilt payload_words header_words payload_count header_count domain publishers subscribers lanes)
     (none : first_reason domain ≡ None) where
@@ -37,11 +37,11 @@ module _ {T U X Y Z : Type 0} {F : X → Type 0} {G : Y → Type 0} {H : Z → T
   moved_to : (place : ℕ) (port : PublisherPort T U) (lane : PublisherLaneState) (message : Message T U)
       → lane.port.book.first ≡ place * ((built.sized).sizes).slots
       → WordsLie payload_words header_words lanes.table (place * ((built.sized).sizes).slots + message.slot) port.owner.node_id port.number
-      message.elements message.user_header message.values
+      message.elements (message.sequence, message.user_header) message.values
       → Lies payload_words header_words lanes.table lane.port.book.first port message
   moved_to place port lane message first lie =
       subst (λ n. WordsLie payload_words header_words lanes.table (n + message.slot) port.owner.node_id port.number message.elements
-      message.user_header message.values) (sym first) lie
+      (message.sequence, message.user_header) message.values) (sym first) lie
 
   lane_whole : (place number : ℕ) (port : PublisherPort T U) (lane : Option PublisherLaneState)
       → slice_get publishers place ≡ Some number → port_of number ports ≡ Some port → slice_get lanes.publishers place ≡ lane
@@ -61,6 +61,7 @@ module _ {T U X Y Z : Type 0} {F : X → Type 0} {G : Y → Type 0} {H : Z → T
             (words_lie payload_words header_words payload_count header_count domain publishers subscribers lanes built place number
             port message one.0 listed found (inl (at, is)) one.1));
         named = says.named;
+        last = says.last;
       }
 
   port_whole : (place number : ℕ) (port : Option (PublisherPort T U)) → slice_get publishers place ≡ Some number

@@ -75,7 +75,7 @@ Agrees slot content (found.Newest publisher newest) = Unit {0}
 Agrees slot content (found.Held other word value) = other ≡ slot → value ≡ content word
 Agrees slot content (found.Buffer publisher place messages) = Unit {0}
 Agrees slot content (found.Slots publisher slots most_loans) = Unit {0}
-Agrees slot content (found.Sender publisher node_id publisher_id fails) = Unit {0}
+Agrees slot content (found.Sender publisher node_id publisher_id fails last) = Unit {0}
 Agrees slot content (found.Swapped subscriber one other) = Unit {0}
 
 module _ (sizes : TableSizes) (slot : ℕ) (content : SlotWord → ℕ) (word : SlotWord) (is_word : IsWord sizes (Slot slot word)) where
@@ -118,8 +118,8 @@ module _ (sizes : TableSizes) (slot : ℕ) (content : SlotWord → ℕ) (word : 
       = untouched m n (found.Buffer publisher place messages) steady taken (λ given is. absurd (cc is)) holds
   held_on m n (found.Slots publisher slots most_loans) agrees steady taken holds
       = untouched m n (found.Slots publisher slots most_loans) steady taken (λ given is. absurd (cc is)) holds
-  held_on m n (found.Sender publisher node_id publisher_id fails) agrees steady taken holds =
-      untouched m n (found.Sender publisher node_id publisher_id fails) steady taken (λ given is. absurd (cc is)) holds
+  held_on m n (found.Sender publisher node_id publisher_id fails last) agrees steady taken holds =
+      untouched m n (found.Sender publisher node_id publisher_id fails last) steady taken (λ given is. absurd (cc is)) holds
   held_on m n (found.Swapped subscriber one other) agrees steady taken holds
       = untouched m n (found.Swapped subscriber one other) steady taken (λ given is. absurd (cc is)) holds
 

@@ -27,7 +27,7 @@ abbrev pub HaveSlots : {T U : Type 0} → List (ℕ × PublisherPort T U) → Li
 HaveSlots ports numbers most = (place : ℕ) → HasSlotsAt ports numbers most place
 
 -- lanes behind what they find of a domain: publisher by publisher, then in which order each subscriber goes over its connections
-abbrev pub domain_behind : {T U X Y D : Type 0} {F : X → Type 0} {G : Y → Type 0} → (T → List ℕ) → (U → List ℕ) → ℕ → ℕ
+abbrev pub domain_behind : {T U X Y D : Type 0} {F : X → Type 0} {G : Y → Type 0} → (T → List ℕ) → (Option ℕ × U → List ℕ) → ℕ → ℕ
     → Domain T U (Handlers X Y F G) D → List ℕ → List ℕ → World → World
 domain_behind payload_words header_words payload_count header_count domain publishers subscribers m =
     readers_behind publishers domain.state.ports.subscribers subscribers
@@ -36,7 +36,7 @@ domain_behind payload_words header_words payload_count header_count domain publi
 
 -- The lanes of a domain are those that are made of sizes as agreed, with as many slots for each publisher as any has, and behind all
 -- that they find of the domain; memory has room for their words, and each message that is laid was alone in its slot.
-pub record AreBuilt {T U X Y D : Type 0} {F : X → Type 0} {G : Y → Type 0} (payload_words : T → List ℕ) (header_words : U
+pub record AreBuilt {T U X Y D : Type 0} {F : X → Type 0} {G : Y → Type 0} (payload_words : T → List ℕ) (header_words : Option ℕ × U
     → List ℕ) (payload_count header_count : ℕ) (domain : Domain T U (Handlers X Y F G) D) (publishers subscribers : List ℕ)
     (lanes : World) :
     Type 0 where

@@ -1,11 +1,12 @@
 -- A domain whose publishers have no messages any longer.
-use Rattle.std.specs.Prelude.{ℕ, ◌≡◌, ◌==◌, Bool, true, false, List, [], map, Option, option_map}
+use Rattle.std.specs.Prelude.{ℕ, zero, suc, ◌≡◌, ◌==◌, Bool, true, false, List, [], length, map, slice_get, Option, None, Some, option_map}
 use Rattle.std.specs.List.{list_any}
 use Rattle.iox_domain_ports.specs.MessagesSending.{with_uses}
 use Rattle.iox_domain_ports.specs.DomainSlots.Uses.{emptied}
-use Rattle.iox_domain_ports.specs.Publishers.{port_of}
+use Rattle.iox_domain_ports.specs.Publishers.{changed, port_of}
 use Rattle.iox_domain_ports.specs.declared.publisher_port.PublisherPort.{PublisherPort}
 use Rattle.iox_domain.specs.declared.domain.Domain.{Domain}
+use Rattle.iox_lanes_threads.specs.Ports.{BoardPublisher}
 
 -- a publisher without its messages: nothing waits at its connections, and its history is empty; all else is as it was
 abbrev pub without_messages : {T U : Type 0} → PublisherPort T U → PublisherPort T U
@@ -26,7 +27,28 @@ emptied_if false port = port
 abbrev pub AreWithout : {T U : Type 0} → List ℕ → List (ℕ × PublisherPort T U) → List (ℕ × PublisherPort T U) → Type 0
 AreWithout numbers old new = (number : ℕ) → port_of number new ≡ emptied_if (is_among number numbers) (port_of number old)
 
--- The publishers of these numbers in a domain have no messages any longer; all else of the domain is as it was.
-pub record IsEnded {T U B D : Type 0} (numbers : List ℕ) (old new : Domain T U B D) : Type 0 where
+-- a publisher whose next message gets the number behind this one, if messages have numbers
+abbrev pub with_last : {T U : Type 0} → Option ℕ → PublisherPort T U → PublisherPort T U
+with_last last port = record port { last_sequence = last }
+
+-- publishers, of which the one of a number, if there is one, goes on behind this number
+abbrev pub gone_on_at : {T U : Type 0} → Option ℕ → Option ℕ → List (ℕ × PublisherPort T U) → List (ℕ × PublisherPort T U)
+gone_on_at None last ports = ports
+gone_on_at (Some number) last ports = changed number (with_last last) ports
+
+-- publishers, of which that of a port in threads, if there is one, goes on behind the number that this gave last: these are the numbers of
+-- the publishers, by the places of the ports
+abbrev pub gone_on_by : {T U : Type 0} → List ℕ → Option BoardPublisher → List (ℕ × PublisherPort T U) → List (ℕ × PublisherPort T U)
+gone_on_by numbers None ports = ports
+gone_on_by numbers (Some port) ports = gone_on_at (slice_get numbers port.place) port.own.lane.last ports
+
+-- publishers, of which those of the first ports, so many, go on so
+abbrev pub gone_on : {T U : Type 0} → List ℕ → List BoardPublisher → List (ℕ × PublisherPort T U) → ℕ → List (ℕ × PublisherPort T U)
+gone_on numbers ended ports zero = ports
+gone_on numbers ended ports (suc count) = gone_on_by numbers (slice_get ended count) (gone_on numbers ended ports count)
+
+-- The publishers of these numbers in a domain have no messages any longer, and go on behind the numbers that their ports in threads gave
+-- last; all else of the domain is as it was.
+pub record IsEnded {T U B D : Type 0} (numbers : List ℕ) (ended : List BoardPublisher) (old new : Domain T U B D) : Type 0 where
   pub rest : new ≡ record old { state = record old.state { ports = record old.state.ports { publishers = new.state.ports.publishers } } }
-  pub publishers : AreWithout numbers old.state.ports.publishers new.state.ports.publishers
+  pub publishers : AreWithout numbers (gone_on numbers ended old.state.ports.publishers (length ended)) new.state.ports.publishers

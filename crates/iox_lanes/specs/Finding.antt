@@ -28,5 +28,5 @@ failing_behind (found.Newest publisher slot) all = all
 failing_behind (found.Held slot word value) all = all
 failing_behind (found.Buffer publisher place messages) all = all
 failing_behind (found.Slots publisher slots most_loans) all = all
-failing_behind (found.Sender publisher node_id publisher_id fails) all = set all publisher fails
+failing_behind (found.Sender publisher node_id publisher_id fails last) all = set all publisher fails
 failing_behind (found.Swapped subscriber one other) all = all

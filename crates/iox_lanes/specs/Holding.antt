@@ -53,16 +53,19 @@ abbrev pub IsNamedIf : {T U : Type 0} → PublisherPort T U → Option (List ℕ
 IsNamedIf port None = Unit {0}
 IsNamedIf port (Some head) = IsNamed port head
 
--- A lane is that of a publisher: as many slots and loans, its history, and headers of its node and number.
-pub record IsLaneOf {T U : Type 0} (payload_words : T → List ℕ) (header_words : U
+-- A lane is that of a publisher: as many slots and loans, its history, headers of its node and number, and the same last number of a
+-- message.
+pub record IsLaneOf {T U : Type 0} (payload_words : T → List ℕ) (header_words : Option ℕ × U
     → List ℕ) (table : TableWords) (port : PublisherPort T U) (lane : PublisherLaneState) : Type 0 where
   pub slots : length lane.port.book.loans ≡ port.sender.uses.first + port.sender.uses.size
   pub most_loans : lane.port.book.most_loans ≡ port.sender.uses.most_loans
   pub history : AreLaid payload_words header_words table lane.port.book.first port lane.port.book.history port.sender.uses.history
   pub named : (at : ℕ) → IsNamedIf port (slice_get lane.heads at)
+  pub last : lane.last ≡ port.last_sequence
 
 -- a lane, if there is one, is that of a publisher, if there is one; where one is wanting it isn't
-abbrev pub IsLaneIf : {T U : Type 0} → (T → List ℕ) → (U → List ℕ) → TableWords → Option (PublisherPort T U) → Option PublisherLaneState
+abbrev pub IsLaneIf : {T U : Type 0} → (T → List ℕ) → (Option ℕ × U → List ℕ) → TableWords → Option (PublisherPort T U) → Option
+    PublisherLaneState
     → Type 0
 IsLaneIf payload_words header_words table None lane = ⊥
 IsLaneIf payload_words header_words table (Some port) None = ⊥
@@ -80,14 +83,15 @@ SenderKeeps domain lanes publishers place =
     KeepsIf (port_if domain.state.ports.publishers (slice_get publishers place)) (slice_get lanes.publishers place)
 
 -- the publisher at a place of the lanes is the one of the domain that has the number of this place
-abbrev pub SenderHolds : {T U B D : Type 0} → (T → List ℕ) → (U → List ℕ) → Domain T U B D → World → List ℕ → ℕ → Type 0
+abbrev pub SenderHolds : {T U B D : Type 0} → (T → List ℕ) → (Option ℕ × U → List ℕ) → Domain T U B D → World → List ℕ → ℕ → Type 0
 SenderHolds payload_words header_words domain lanes publishers place =
     IsLaneIf payload_words header_words lanes.table (port_if domain.state.ports.publishers (slice_get publishers place))
     (slice_get lanes.publishers place)
 
 -- A link is a connection of a publisher to a subscriber, the one that its messages for the subscriber's place go to: it leads
 -- from the one's place to the other's, as many may wait, and the same messages do.
-pub record IsLinkOf {T U : Type 0} (payload_words : T → List ℕ) (header_words : U → List ℕ) (table : TableWords) (overflows : Bool)
+pub record IsLinkOf {T U : Type 0} (payload_words : T → List ℕ) (header_words : Option ℕ × U → List ℕ) (table : TableWords)
+    (overflows : Bool)
     (port : PublisherPort T U) (reader : SubscriberPort) (first index publisher subscriber : ℕ) (link : LinkState) : Type 0 where
   pub from : link.publisher ≡ publisher
   pub to : link.subscriber ≡ subscriber
@@ -103,7 +107,7 @@ Leads overflows publisher subscriber (Some link) =
     (link.publisher ≡ publisher) × (link.subscriber ≡ subscriber) × (link.kind ≡ kind_of overflows)
 
 -- the same of a link, a lane, an index and ports that may be wanting; where one is it isn't so
-abbrev pub IsLinkIf : {T U : Type 0} → (T → List ℕ) → (U → List ℕ) → TableWords → Bool → ℕ → ℕ → Option (PublisherPort T U)
+abbrev pub IsLinkIf : {T U : Type 0} → (T → List ℕ) → (Option ℕ × U → List ℕ) → TableWords → Bool → ℕ → ℕ → Option (PublisherPort T U)
     → Option SubscriberPort → Option PublisherLaneState → Option ℕ → Option LinkState → Type 0
 IsLinkIf payload_words header_words table overflows publisher subscriber None reader lane index link = ⊥
 IsLinkIf payload_words header_words table overflows publisher subscriber (Some port) None lane index link = ⊥
@@ -132,7 +136,8 @@ LinkWaits domain lanes publishers subscribers connections publisher subscriber =
 
 -- the connection of the lanes between a publisher and a subscriber, at these places, is that of the domain; it has the number of
 -- its place, publisher by publisher
-abbrev pub LinkHolds : {T U B D : Type 0} → (T → List ℕ) → (U → List ℕ) → Domain T U B D → World → List ℕ → List ℕ → List ℕ → ℕ → ℕ → Type 0
+abbrev pub LinkHolds : {T U B D : Type 0} → (T → List ℕ) → (Option ℕ × U → List ℕ) → Domain T U B D → World → List ℕ → List ℕ → List ℕ →
+    ℕ → ℕ → Type 0
 LinkHolds payload_words header_words domain lanes publishers subscribers connections publisher subscriber =
     IsLinkIf payload_words header_words lanes.table domain.state.ports.sizes.enable_safe_overflow publisher subscriber
     (port_if domain.state.ports.publishers (slice_get publishers publisher))
@@ -176,7 +181,7 @@ ReaderHolds domain lanes publishers subscribers place =
     (slice_get lanes.subscribers place)
 
 -- Lanes hold what a domain has: before their first step, its publishers and subscribers by their places, with their connections.
-pub record LanesHold {T U B D : Type 0} (payload_words : T → List ℕ) (header_words : U
+pub record LanesHold {T U B D : Type 0} (payload_words : T → List ℕ) (header_words : Option ℕ × U
     → List ℕ) (payload_count header_count : ℕ) (domain : Domain T U B D) (lanes : World) (senders readers indices : List ℕ) : Type 0 where
   pub moments : lanes.moments ≡ 0
   pub payload : lanes.table.sizes.payload_words ≡ payload_count

@@ -45,13 +45,15 @@ words_findings payload_words header_words payload_count header_count slot node n
     ∷ (header_findings header_words header_count slot user_header ++ payload_findings payload_words payload_count slot values)
 
 -- that the words of a message of a publisher are in its slot, where the publisher's slots begin at this one
-abbrev pub message_findings : {T U : Type 0} → (T → List ℕ) → (U → List ℕ) → ℕ → ℕ → ℕ → PublisherPort T U → Message T U → List Found
+abbrev pub message_findings : {T U : Type 0} → (T → List ℕ) → (Option ℕ × U → List ℕ) → ℕ → ℕ → ℕ → PublisherPort T U → Message T U →
+    List Found
 message_findings payload_words header_words payload_count header_count first port message =
     words_findings payload_words header_words payload_count header_count (slot_in first message.slot) port.owner.node_id port.number
-    message.elements message.user_header message.values
+    message.elements (message.sequence, message.user_header) message.values
 
 -- that these are the messages of the history of the publisher at a place, oldest first: of each its words, and that it is the newest then
-abbrev pub history_findings : {T U : Type 0} → (T → List ℕ) → (U → List ℕ) → ℕ → ℕ → ℕ → ℕ → PublisherPort T U → List (Message T U)
+abbrev pub history_findings : {T U : Type 0} → (T → List ℕ) → (Option ℕ × U → List ℕ) → ℕ → ℕ → ℕ → ℕ → PublisherPort T U → List
+    (Message T U)
     → List Found
 history_findings payload_words header_words payload_count header_count place first port messages =
     flat_map (λ message. message_findings payload_words header_words payload_count header_count first port message
@@ -59,7 +61,7 @@ history_findings payload_words header_words payload_count header_count place fir
 
 -- that these messages wait at the connection of the publisher at a place to the subscriber at another, oldest first: of each its words,
 -- and that it waits behind those before it
-abbrev pub waiting_findings : {T U : Type 0} → (T → List ℕ) → (U → List ℕ) → ℕ → ℕ → ℕ → ℕ → ℕ → PublisherPort T U
+abbrev pub waiting_findings : {T U : Type 0} → (T → List ℕ) → (Option ℕ × U → List ℕ) → ℕ → ℕ → ℕ → ℕ → ℕ → PublisherPort T U
     → List (Message T U) → List Found
 waiting_findings payload_words header_words payload_count header_count place other first port messages =
     flat_map (λ message. message_findings payload_words header_words payload_count header_count first port message
@@ -67,7 +69,7 @@ waiting_findings payload_words header_words payload_count header_count place oth
 
 -- that as many may wait at the connection of the publisher at a place to the subscriber at another as at the one of this index in the
 -- domain, and that the messages do that wait there
-abbrev pub link_findings : {T U : Type 0} → (T → List ℕ) → (U → List ℕ) → ℕ → ℕ → ℕ → ℕ → ℕ → PublisherPort T U → ℕ → List Found
+abbrev pub link_findings : {T U : Type 0} → (T → List ℕ) → (Option ℕ × U → List ℕ) → ℕ → ℕ → ℕ → ℕ → ℕ → PublisherPort T U → ℕ → List Found
 link_findings payload_words header_words payload_count header_count place other first port index =
     found.Buffer place other (connection_of index port).limit
     ∷ waiting_findings payload_words header_words payload_count header_count place other first port (connection_of index port).waiting
@@ -91,11 +93,11 @@ slots_in port = min (port.sender.uses.first + port.sender.uses.size) (2 ^ 64 - 1
 abbrev pub sender_behind : {T U : Type 0} → World → ℕ → Bool → PublisherPort T U → World
 sender_behind m place fails port =
     behind_finding (behind_finding m (found.Slots place (slots_in port) port.sender.uses.most_loans))
-    (found.Sender place port.owner.node_id port.number fails)
+    (found.Sender place port.owner.node_id port.number fails port.last_sequence)
 
 -- and behind the messages of its history, and those at its connections to the subscribers of these numbers, where its slots begin at
 -- this one
-abbrev pub messages_behind : {T U : Type 0} → (T → List ℕ) → (U → List ℕ) → ℕ → ℕ → List (ℕ × SubscriberPort) → List ℕ → ℕ
+abbrev pub messages_behind : {T U : Type 0} → (T → List ℕ) → (Option ℕ × U → List ℕ) → ℕ → ℕ → List (ℕ × SubscriberPort) → List ℕ → ℕ
     → PublisherPort T U → ℕ → World → World
 messages_behind payload_words header_words payload_count header_count readers subscribers place port first m =
     behind_findings (behind_findings m (history_findings payload_words header_words payload_count header_count place first port
@@ -104,7 +106,8 @@ messages_behind payload_words header_words payload_count header_count readers su
     (tie_for port (subscriber_of (slice_index subscribers other) readers))) (length subscribers))
 
 -- so it is of a whole publisher, if it is in the domain
-abbrev pub publisher_behind : {T U : Type 0} → (T → List ℕ) → (U → List ℕ) → ℕ → ℕ → List (ℕ × SubscriberPort) → List ℕ → World → ℕ
+abbrev pub publisher_behind : {T U : Type 0} → (T → List ℕ) → (Option ℕ × U → List ℕ) → ℕ → ℕ → List (ℕ × SubscriberPort) → List ℕ →
+    World → ℕ
     → Bool → Option (PublisherPort T U) → World
 publisher_behind payload_words header_words payload_count header_count readers subscribers m place fails None = m
 publisher_behind payload_words header_words payload_count header_count readers subscribers m place fails (Some port) =
@@ -112,7 +115,7 @@ publisher_behind payload_words header_words payload_count header_count readers s
     (first_slot (slice_get (sender_behind m place fails port).publishers place)) (sender_behind m place fails port)
 
 -- and of the publishers of these numbers, the first so many, each at its place
-abbrev pub publishers_behind : {T U X Y D : Type 0} {F : X → Type 0} {G : Y → Type 0} → (T → List ℕ) → (U → List ℕ) → ℕ → ℕ
+abbrev pub publishers_behind : {T U X Y D : Type 0} {F : X → Type 0} {G : Y → Type 0} → (T → List ℕ) → (Option ℕ × U → List ℕ) → ℕ → ℕ
     → Domain T U (Handlers X Y F G) D → List ℕ → List ℕ → World → ℕ → World
 publishers_behind payload_words header_words payload_count header_count domain publishers subscribers m zero = m
 publishers_behind payload_words header_words payload_count header_count domain publishers subscribers m (suc count) =

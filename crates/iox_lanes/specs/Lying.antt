@@ -35,20 +35,21 @@ WordsLie payload_words header_words table slot node number elements user_header 
     × PayloadLies payload_words table slot values
 
 -- a message of a publisher lies in its slot, where the publisher's slots begin at this one
-abbrev pub Lies : {T U : Type 0} → (T → List ℕ) → (U → List ℕ) → TableWords → ℕ → PublisherPort T U → Message T U → Type 0
+abbrev pub Lies : {T U : Type 0} → (T → List ℕ) → (Option ℕ × U → List ℕ) → TableWords → ℕ → PublisherPort T U → Message T U → Type 0
 Lies payload_words header_words table first port message =
-    WordsLie payload_words header_words table (first + message.slot) port.owner.node_id port.number message.elements message.user_header
+    WordsLie payload_words header_words table (first + message.slot) port.owner.node_id port.number message.elements
+    (message.sequence, message.user_header)
     message.values
 
 -- a message of a publisher, if there is one, has this slot and lies there
-abbrev pub IsLaidAt : {T U : Type 0} → (T → List ℕ) → (U → List ℕ) → TableWords → ℕ → PublisherPort T U → Option ℕ
+abbrev pub IsLaidAt : {T U : Type 0} → (T → List ℕ) → (Option ℕ × U → List ℕ) → TableWords → ℕ → PublisherPort T U → Option ℕ
     → Option (Message T U) → Type 0
 IsLaidAt payload_words header_words table first port slot None = Unit {0}
 IsLaidAt payload_words header_words table first port slot (Some message) =
     (slot ≡ Some (first + message.slot)) × Lies payload_words header_words table first port message
 
 -- These are the slots of these messages of a publisher, in their order, and each message lies in its slot.
-pub record AreLaid {T U : Type 0} (payload_words : T → List ℕ) (header_words : U
+pub record AreLaid {T U : Type 0} (payload_words : T → List ℕ) (header_words : Option ℕ × U
     → List ℕ) (table : TableWords) (first : ℕ) (port : PublisherPort T U) (laid : List ℕ) (messages : List (Message T U)) : Type 0 where
   pub as_many : length laid ≡ length messages
   pub each : (at : ℕ) → IsLaidAt payload_words header_words table first port (slice_get laid at) (slice_get messages at)

@@ -8,6 +8,7 @@ ghost use Rattle.iox_domain.specs.DomainPorts.Publishers.{port_of};
 ghost use Rattle.iox_domain.specs.Kept.{kept_under};
 ghost use Rattle.iox_domain.specs.Subscribers.{subscriber_of};
 ghost use Rattle.iox_lanes_opening.specs.Deciding.{would_fail};
+ghost use Rattle.iox_lanes_opening.specs.Middles.{middle_count, middle_words};
 ghost use Rattle.iox_lanes_opening.specs.Refusals.{first_reason};
 ghost use Rattle.iox_lanes.specs.Alone.{AreAlone, HasOne, KeepAlone};
 ghost use Rattle.iox_lanes.specs.Behind.{behind_findings, behind_finding};
@@ -33,6 +34,7 @@ use iox_domain_ports::{PublisherPort, Stage, SubscriberPort};
 use iox_lanes_base::calls::Route;
 use iox_lanes_base::words::SlotWord;
 use iox_lanes_machine::{Found, LaneSizes, Lanes};
+use iox_lanes_opening::leaving::words::middle_count;
 use iox_lanes_opening::refusals::deciding::would_fail;
 use iox_queues_base::Words;
 use iox_queues_steps::rings::RingKind;
@@ -47,14 +49,16 @@ pub(crate) fn build<T: Words, U: Words>(
     ensures came { IfOk result (λ opened. CameTo opened.lanes) }
     ensures between { IfOk result (λ opened. AllBetween opened.lanes) }
     ensures sized { IfOk result (λ opened. AreSized domain.now.state.ports.sizes (length opened.publishers.items)
-        (length opened.subscribers.items) T.WORDS U.WORDS opened.lanes) }
-    ensures exact { IfOk result (λ opened. WasFound (sizes_for T.WORDS U.WORDS domain.now.state.ports opened.publishers.items
+        (length opened.subscribers.items) T.WORDS (middle_count domain.now.state.ports.sizes.sequence_numbers U.WORDS) opened.lanes) }
+    ensures exact { IfOk result (λ opened. WasFound (sizes_for T.WORDS
+        (middle_count domain.now.state.ports.sizes.sequence_numbers U.WORDS) domain.now.state.ports opened.publishers.items
         (length opened.subscribers.items)) opened.lanes) }
     ensures publishers { IfOk result (λ opened. opened.publishers.items
         ≡ numbers_of (λ entry. entry.publisher) domain.now.state.ports.publisher_list.places) }
     ensures subscribers { IfOk result (λ opened. opened.subscribers.items
         ≡ numbers_of (λ entry. entry.subscriber) domain.now.state.ports.subscriber_list.places) }
-    ensures built { IfOk result (λ opened. AreBuilt T.parts U.parts T.WORDS U.WORDS domain.now opened.publishers.items
+    ensures built { IfOk result (λ opened. AreBuilt T.parts (middle_words domain.now.state.ports.sizes.sequence_numbers U.parts) T.WORDS
+        (middle_count domain.now.state.ports.sizes.sequence_numbers U.WORDS) domain.now opened.publishers.items
         opened.subscribers.items opened.lanes) }
     ensures some { IfOk result (λ opened. 0 < length opened.one.items) }
     ensures fails { IfOk result (λ opened. FailAsAsked domain.now opened.lanes opened.publishers.items) }
@@ -101,10 +105,12 @@ fn sizes_of<T: Words, U: Words>(
 ) -> LaneSizes
     ensures some { 0 < result.buffer }
     ensures small { (result.buffer < 2 ^ 61) × (result.most_borrowed < 2 ^ 61) }
-    ensures agreed { AreAgreed domain.now.state.ports.sizes publishers subscribers T.WORDS U.WORDS result }
+    ensures agreed { AreAgreed domain.now.state.ports.sizes publishers subscribers T.WORDS
+        (middle_count domain.now.state.ports.sizes.sequence_numbers U.WORDS) result }
     ensures room { HaveSlots domain.now.state.ports.publishers numbers.now result.slots }
     ensures exact { publishers ≡ length numbers.now
-        → result ≡ sizes_for T.WORDS U.WORDS domain.now.state.ports numbers.now subscribers }
+        → result ≡ sizes_for T.WORDS (middle_count domain.now.state.ports.sizes.sequence_numbers U.WORDS) domain.now.state.ports
+        numbers.now subscribers }
 {
     let sizes = domain.state.ports.sizes;
     LaneSizes {
@@ -116,7 +122,7 @@ fn sizes_of<T: Words, U: Words>(
         history: sizes.history_size as u64,
         most_loans: most_loans(domain, numbers),
         slots: most_slots(domain, numbers),
-        user_header_words: U::WORDS as u64,
+        user_header_words: middle_count::<U>(sizes.sequence_numbers) as u64,
         payload_words: T::WORDS as u64,
     }
 }
@@ -195,14 +201,17 @@ fn find_publishers<T: Words, U: Words>(
     ensures fails { OnOk result (failing lanes.new.lanes ≡ asked domain.now.state.publisher_handlers publishers.now) }
     ensures alone { OnOk result (KeepAlone domain.now.state.ports publishers.now subscribers.now) }
     ensures ties { OnOk result (AreTies domain.now.state.ports publishers.now subscribers.now connections.new.items) }
-    ensures behind { OnOk result (lanes.new.lanes ≡ publishers_behind T.parts U.parts T.WORDS U.WORDS domain.now publishers.now
+    ensures behind { OnOk result (lanes.new.lanes ≡ publishers_behind T.parts
+        (middle_words domain.now.state.ports.sizes.sequence_numbers U.parts) T.WORDS
+        (middle_count domain.now.state.ports.sizes.sequence_numbers U.WORDS) domain.now publishers.now
         subscribers.now lanes.old.lanes (length publishers.now)) }
 {
     for place in 0..publishers.len() {
         let port = publisher_of(domain, publishers[place]);
         find_publisher(lanes, domain, place, publishers[place], port)?;
         let first = first_slot(lanes.lanes(), place);
-        find_history(lanes, place, first, port)?;
+        let numbered = domain.state.ports.sizes.sequence_numbers;
+        find_history(lanes, numbered, place, first, port)?;
         find_connections(lanes, domain, place, first, port, subscribers, connections)?;
     }
     Ok(())
@@ -243,6 +252,7 @@ fn find_publisher<T: Words, U: Words>(
         node_id: port.owner.node_id,
         publisher_id: port.number,
         fails: would_fail(domain.state.publisher_handlers.get(number)),
+        last: port.last_sequence,
     })
 }
 
@@ -258,6 +268,7 @@ fn first_slot(lanes: &Lanes, place: usize) -> u64
 
 fn find_history<T: Words, U: Words>(
     lanes: &mut NewLanes,
+    numbered: bool,
     place: usize,
     first: u64,
     port: &PublisherPort<T, U>,
@@ -265,12 +276,13 @@ fn find_history<T: Words, U: Words>(
     ensures sizes { lanes.new.sizes ≡ lanes.old.sizes }
     ensures fails { failing lanes.new.lanes ≡ failing lanes.old.lanes }
     ensures behind { OnOk result (lanes.new.lanes ≡ behind_findings lanes.old.lanes
-        (history_findings T.parts U.parts T.WORDS U.WORDS place first port.now port.now.sender.uses.history)) }
+        (history_findings T.parts (middle_words numbered U.parts) T.WORDS (middle_count numbered U.WORDS) place first port.now
+        port.now.sender.uses.history)) }
     ensures alone { OnOk result (AreAlone port.now port.now.sender.uses.history) }
 {
     for at in 0..port.sender.history() {
         let slot = port.sender.remembered(at);
-        find_message(lanes, first, port, slot)?;
+        find_message(lanes, numbered, first, port, slot)?;
         lanes.find(Found::Newest {
             publisher: place,
             slot: first.saturating_add(slot as u64),
@@ -293,7 +305,8 @@ fn find_connections<T: Words, U: Words>(
     ensures ties { OnOk result (connections.new.items
         ≡ connections.old.items ++ ties_for domain.now.state.ports.subscribers subscribers.now port.now) }
     ensures behind { OnOk result (lanes.new.lanes ≡ behind_findings lanes.old.lanes
-        (flat_listed (λ other. link_findings T.parts U.parts T.WORDS U.WORDS place other first port.now
+        (flat_listed (λ other. link_findings T.parts (middle_words domain.now.state.ports.sizes.sequence_numbers U.parts) T.WORDS
+        (middle_count domain.now.state.ports.sizes.sequence_numbers U.WORDS) place other first port.now
         (tie_for port.now (subscriber_of (slice_index subscribers.now other) domain.now.state.ports.subscribers)))
         (length subscribers.now))) }
     ensures alone { OnOk result ((other : ℕ) → other < length subscribers.now → AreAlone port.now
@@ -308,7 +321,8 @@ fn find_connections<T: Words, U: Words>(
             place: other as u64,
             messages: limit_at(port, index) as u64,
         })?;
-        find_waiting(lanes, place, first, port, other as u64, index)?;
+        let numbered = domain.state.ports.sizes.sequence_numbers;
+        find_waiting(lanes, numbered, place, first, port, other as u64, index)?;
     }
     Ok(())
 }
@@ -339,6 +353,7 @@ pub(crate) fn limit_at<T: Words, U: Words>(port: &PublisherPort<T, U>, index: us
 
 fn find_waiting<T: Words, U: Words>(
     lanes: &mut NewLanes,
+    numbered: bool,
     place: usize,
     first: u64,
     port: &PublisherPort<T, U>,
@@ -348,12 +363,13 @@ fn find_waiting<T: Words, U: Words>(
     ensures sizes { lanes.new.sizes ≡ lanes.old.sizes }
     ensures fails { failing lanes.new.lanes ≡ failing lanes.old.lanes }
     ensures behind { OnOk result (lanes.new.lanes ≡ behind_findings lanes.old.lanes
-        (waiting_findings T.parts U.parts T.WORDS U.WORDS place other first port.now (connection_of index port.now).waiting)) }
+        (waiting_findings T.parts (middle_words numbered U.parts) T.WORDS (middle_count numbered U.WORDS) place other first port.now
+        (connection_of index port.now).waiting)) }
     ensures alone { OnOk result (AreAlone port.now (connection_of index port.now).waiting) }
 {
     for at in 0..waiting_at(port, index) {
         let slot = waiting_slot(port, index, at);
-        find_message(lanes, first, port, slot)?;
+        find_message(lanes, numbered, first, port, slot)?;
         lanes.find(Found::Waiting {
             publisher: place,
             place: other,
@@ -382,6 +398,7 @@ pub(crate) fn waiting_slot<T: Words, U: Words>(
 // The words of the message in a slot.
 fn find_message<T: Words, U: Words>(
     lanes: &mut NewLanes,
+    numbered: bool,
     first: u64,
     port: &PublisherPort<T, U>,
     slot: usize,
@@ -391,17 +408,25 @@ fn find_message<T: Words, U: Words>(
     ensures fails { failing lanes.new.lanes ≡ failing lanes.old.lanes }
     ensures waiting { OnOk result ((index at : ℕ) (message : Message T U)
         → slice_get (connection_of index port.now).waiting at ≡ Some message → message.slot ≡ slot
-        → lanes.new.lanes ≡ behind_findings lanes.old.lanes (message_findings T.parts U.parts T.WORDS U.WORDS first port.now message)) }
+        → lanes.new.lanes ≡ behind_findings lanes.old.lanes (message_findings T.parts (middle_words numbered U.parts) T.WORDS
+        (middle_count numbered U.WORDS) first port.now message)) }
     ensures remembered { OnOk result ((at : ℕ) (message : Message T U) → slice_get port.now.sender.uses.history at ≡ Some message
         → message.slot ≡ slot
-        → lanes.new.lanes ≡ behind_findings lanes.old.lanes (message_findings T.parts U.parts T.WORDS U.WORDS first port.now message)) }
+        → lanes.new.lanes ≡ behind_findings lanes.old.lanes (message_findings T.parts (middle_words numbered U.parts) T.WORDS
+        (middle_count numbered U.WORDS) first port.now message)) }
     ensures one { OnOk result (HasOne port.now slot) }
 {
     let at = first.saturating_add(slot as u64);
     find_word(lanes, at, SlotWord::Header(0), port.owner.node_id)?;
     find_word(lanes, at, SlotWord::Header(1), port.number)?;
     find_word(lanes, at, SlotWord::Header(2), port.sender.elements(slot))?;
-    find_user_header(lanes, at, port.sender.user_header(slot))?;
+    find_middle(
+        lanes,
+        numbered,
+        at,
+        port.sender.sequence(slot),
+        port.sender.user_header(slot),
+    )?;
     match port.sender.payload(slot).first() {
         Some(value) => find_value(lanes, at, value),
         None => Ok(()),
@@ -416,25 +441,37 @@ fn find_word(lanes: &mut NewLanes, slot: u64, word: SlotWord, value: u64) -> Res
     lanes.find(Found::Held { slot, word, value })
 }
 
-fn find_user_header<U: Words>(
+// What lies between header and payload: the number, where messages have numbers, and the words of the user header.
+fn find_middle<U: Words>(
     lanes: &mut NewLanes,
+    numbered: bool,
     slot: u64,
+    sequence: Option<u64>,
     user_header: &U,
 ) -> Result<(), AllocError>
     ensures sizes { lanes.new.sizes ≡ lanes.old.sizes }
     ensures fails { failing lanes.new.lanes ≡ failing lanes.old.lanes }
-    ensures behind { OnOk result (lanes.new.lanes
-        ≡ behind_findings lanes.old.lanes (header_findings U.parts U.WORDS slot user_header.now)) }
+    ensures behind { OnOk result (lanes.new.lanes ≡ behind_findings lanes.old.lanes
+        (header_findings (middle_words numbered U.parts) (middle_count numbered U.WORDS) slot (sequence, user_header.now))) }
 {
-    for word in 0..U::WORDS {
-        find_word(
-            lanes,
-            slot,
-            SlotWord::UserHeader(word as u64),
-            user_header.word(word),
-        )?;
+    for word in 0..middle_count::<U>(numbered) {
+        let value = middle_word(numbered, sequence, user_header, word);
+        find_word(lanes, slot, SlotWord::UserHeader(word as u64), value)?;
     }
     Ok(())
+}
+
+// One of these words.
+fn middle_word<U: Words>(numbered: bool, sequence: Option<u64>, user_header: &U, word: usize) -> u64
+    ensures { result ≡ slice_index (middle_words numbered U.parts (sequence, user_header.now)) word }
+{
+    if !numbered {
+        return user_header.word(word);
+    }
+    match word.checked_sub(1) {
+        Some(behind) => user_header.word(behind),
+        None => sequence.unwrap_or(0),
+    }
 }
 
 fn find_value<T: Words>(lanes: &mut NewLanes, slot: u64, value: &T) -> Result<(), AllocError>

@@ -1,5 +1,6 @@
 //! Lanes with the domain that they came from.
 ghost use Rattle.std.specs.Prelude.{◌≡◌, length, IfOk, IfErr, OnOk, None};
+ghost use Rattle.iox_lanes_opening.specs.Middles.{middle_count, middle_words};
 ghost use Rattle.iox_lanes_opening.specs.Refusals.{first_reason};
 ghost use Rattle.iox_lanes_laws.specs.Numbered.{found_messages};
 ghost use Rattle.iox_lanes_laws.specs.Recorded.{AreAsHeld, ArePast};
@@ -81,6 +82,10 @@ struct Recorded<T> {
 /// They keep their messages. Those that wait or are remembered have the first numbers, publisher by publisher and slot by slot; each
 /// that is sent gets the next one.
 ///
+/// Where the service agreed on `sequence_numbers`, a slot has a fourth word of header, directly behind the three: the number of its
+/// message. Each send stores the number behind its publisher's last one there. So what a write names between header and payload has one
+/// word more than a user header, in front, as what a read gives there. It is no matter what a write names in that word.
+///
 /// Refused with the first reason of `refusal` that applies, before anything is built; else with `OutOfMemory`, only where an allocation
 /// fails, as it would for the numbers of 2^61 subscribers. Then the domain is handed back as it was. Of what is built nothing is tested:
 /// that it holds what the domain has is proved.
@@ -88,20 +93,23 @@ pub fn into_lanes<T: Words, U: Words>(
     alloc: Global,
     domain: Domain<T, U>,
 ) -> Result<DomainLanes<T, U>, Refused<T, U>>
-    ensures lanes { IfOk result (λ opened. LanesHold T.parts U.parts T.WORDS U.WORDS domain opened.lanes.lanes opened.publishers.items
+    ensures lanes { IfOk result (λ opened. LanesHold T.parts (middle_words domain.state.ports.sizes.sequence_numbers U.parts) T.WORDS
+        (middle_count domain.state.ports.sizes.sequence_numbers U.WORDS) domain opened.lanes.lanes opened.publishers.items
         opened.subscribers.items opened.connections.items) }
     ensures fails { IfOk result (λ opened. FailAsAsked domain opened.lanes.lanes opened.publishers.items) }
     ensures came { IfOk result (λ opened. CameTo opened.lanes.lanes) }
     ensures between { IfOk result (λ opened. AllBetween opened.lanes.lanes) }
     ensures sized { IfOk result (λ opened. AreSized domain.state.ports.sizes (length opened.publishers.items)
-        (length opened.subscribers.items) T.WORDS U.WORDS opened.lanes.lanes) }
-    ensures exact { IfOk result (λ opened. WasFound (sizes_for T.WORDS U.WORDS domain.state.ports opened.publishers.items
+        (length opened.subscribers.items) T.WORDS (middle_count domain.state.ports.sizes.sequence_numbers U.WORDS) opened.lanes.lanes) }
+    ensures exact { IfOk result (λ opened. WasFound (sizes_for T.WORDS (middle_count domain.state.ports.sizes.sequence_numbers U.WORDS)
+        domain.state.ports opened.publishers.items
         (length opened.subscribers.items)) opened.lanes.lanes) }
     ensures messages { IfOk result (λ opened. opened.lanes.messages ≡ found_messages opened.lanes.lanes) }
     ensures held { IfOk result (λ opened. AreAsHeld opened.lanes.lanes opened.lanes.messages
         × ArePast opened.lanes.lanes opened.lanes.messages) }
     ensures domain { IfOk result (λ opened. opened.domain ≡ domain) }
-    ensures joined { IfOk result (λ opened. IsJoined T.WORDS U.WORDS (length opened.one.items) opened.lanes.lanes
+    ensures joined { IfOk result (λ opened. IsJoined T.WORDS (middle_count domain.state.ports.sizes.sequence_numbers U.WORDS)
+        (length opened.one.items) opened.lanes.lanes
         domain.state.ports.publishers opened.publishers.items (length opened.subscribers.items) opened.connections.items) }
     ensures none { OnOk result (first_reason domain ≡ None) }
     ensures told { IfErr result (λ refused. refused.error ≡ told_of (first_reason domain)) }
@@ -147,15 +155,18 @@ fn open<T: Words, U: Words>(alloc: Global, domain: &Domain<T, U>) -> Result<Reco
     ensures came { IfOk result (λ opened. CameTo opened.lanes.lanes) }
     ensures between { IfOk result (λ opened. AllBetween opened.lanes.lanes) }
     ensures sized { IfOk result (λ opened. AreSized domain.now.state.ports.sizes (length opened.publishers.items)
-        (length opened.subscribers.items) T.WORDS U.WORDS opened.lanes.lanes) }
-    ensures exact { IfOk result (λ opened. WasFound (sizes_for T.WORDS U.WORDS domain.now.state.ports opened.publishers.items
+        (length opened.subscribers.items) T.WORDS (middle_count domain.now.state.ports.sizes.sequence_numbers U.WORDS) opened.lanes.lanes) }
+    ensures exact { IfOk result (λ opened. WasFound (sizes_for T.WORDS
+        (middle_count domain.now.state.ports.sizes.sequence_numbers U.WORDS) domain.now.state.ports opened.publishers.items
         (length opened.subscribers.items)) opened.lanes.lanes) }
     ensures messages { IfOk result (λ opened. opened.lanes.messages ≡ found_messages opened.lanes.lanes) }
     ensures held { IfOk result (λ opened. AreAsHeld opened.lanes.lanes opened.lanes.messages
         × ArePast opened.lanes.lanes opened.lanes.messages) }
-    ensures joined { IfOk result (λ opened. IsJoined T.WORDS U.WORDS (length opened.one.items) opened.lanes.lanes
+    ensures joined { IfOk result (λ opened. IsJoined T.WORDS (middle_count domain.now.state.ports.sizes.sequence_numbers U.WORDS)
+        (length opened.one.items) opened.lanes.lanes
         domain.now.state.ports.publishers opened.publishers.items (length opened.subscribers.items) opened.connections.items) }
-    ensures holds { IfOk result (λ opened. LanesHold T.parts U.parts T.WORDS U.WORDS domain.now opened.lanes.lanes opened.publishers.items
+    ensures holds { IfOk result (λ opened. LanesHold T.parts (middle_words domain.now.state.ports.sizes.sequence_numbers U.parts) T.WORDS
+        (middle_count domain.now.state.ports.sizes.sequence_numbers U.WORDS) domain.now opened.lanes.lanes opened.publishers.items
         opened.subscribers.items opened.connections.items) }
     ensures fails { IfOk result (λ opened. FailAsAsked domain.now opened.lanes.lanes opened.publishers.items) }
 {

@@ -4,6 +4,7 @@ ghost use Rattle.std.specs.Prelude.{IfSome, None, Some, false};
 ghost use Rattle.std.specs.Bool.{OnTrue};
 ghost use Rattle.iox_domain.specs.DomainPorts.MessagesSending.{with_uses};
 ghost use Rattle.iox_domain.specs.DomainPorts.Publishers.{port_of};
+ghost use Rattle.iox_lanes_opening.specs.Middles.{middle_count, middle_of};
 ghost use Rattle.iox_lanes_opening.specs.Restored.{IsRested, IsRestored, place_of};
 ghost use Rattle.iox_lanes_opening.specs.Restoring.{IsWhole};
 ghost use Rattle.iox_lanes_machine.specs.Kept.{IsWithin};
@@ -18,6 +19,7 @@ use iox_domain::Domain;
 use iox_domain_ports::{PublisherPort, Publishers};
 use iox_lanes_machine::{Lanes, Unrest};
 use iox_lanes_opening::leaving::restore;
+use iox_lanes_opening::leaving::words::middle_count;
 use iox_lanes_parties::PublisherLane;
 use iox_queues_base::Words;
 
@@ -32,8 +34,9 @@ pub struct StillLanes<T, U> {
 
 impl<T: Words, U: Words> DomainLanes<T, U> {
     /// The domain as the lanes leave it: what waits at each connection by its order waits there in the domain, each publisher's
-    /// history is that of its lane, each message with the values, user header and number of elements that its slot holds, and all
-    /// else is as it was when the lanes began. Where the lanes made no step, it is the domain as it was. It takes no memory.
+    /// history is that of its lane, each message with the values, user header, number of elements and number that its slot holds, its
+    /// numbers go on behind the last one that its lane gave, and all else is as it was when the lanes began. Where the lanes made no
+    /// step, it is the domain as it was. It takes no memory.
     ///
     /// Refused with `PartyInCall` while a party is inside a call, else with `SamplesOut` while a loan or a sample is out; then
     /// the lanes are handed back as they were. What is said of the messages is said of at most 2^63 steps, and of lanes that go
@@ -47,9 +50,11 @@ impl<T: Words, U: Words> DomainLanes<T, U> {
         ensures same { IfOk result (λ domain. self.lanes.lanes.moments ≡ 0 → domain ≡ self.domain) }
         ensures rest { IfOk result (λ domain. OnlyPublishers self.domain domain) }
         ensures left { IfOk result (λ domain. 0 < self.lanes.lanes.moments → self.lanes.lanes.moments ≤ 2 ^ 63
-            → IsJoined T.WORDS U.WORDS (length self.one.items) self.lanes.lanes self.domain.state.ports.publishers self.publishers.items
+            → IsJoined T.WORDS (middle_count self.domain.state.ports.sizes.sequence_numbers U.WORDS) (length self.one.items)
+            self.lanes.lanes self.domain.state.ports.publishers self.publishers.items
             (length self.subscribers.items) self.connections.items
-            → ArePortsLeft T.of_parts U.of_parts self.lanes.lanes self.publishers.items (length self.subscribers.items)
+            → ArePortsLeft T.of_parts (middle_of self.domain.state.ports.sizes.sequence_numbers U.of_parts) self.lanes.lanes
+            self.publishers.items (length self.subscribers.items)
             self.connections.items self.domain.state.ports.publishers domain.state.ports.publishers) }
     {
         if let Some(unrest) = self.lanes.lanes().unrest() {
@@ -79,9 +84,11 @@ fn error_of(unrest: Unrest) -> IntoDomainError
 fn returned<T: Words, U: Words>(opened: DomainLanes<T, U>) -> Domain<T, U>
     ensures rest { OnlyPublishers opened.domain result }
     ensures left { AllRest opened.lanes.lanes
-        → IsJoined T.WORDS U.WORDS (length opened.one.items) opened.lanes.lanes opened.domain.state.ports.publishers opened.publishers.items
+        → IsJoined T.WORDS (middle_count opened.domain.state.ports.sizes.sequence_numbers U.WORDS) (length opened.one.items)
+        opened.lanes.lanes opened.domain.state.ports.publishers opened.publishers.items
         (length opened.subscribers.items) opened.connections.items
-        → ArePortsLeft T.of_parts U.of_parts opened.lanes.lanes opened.publishers.items (length opened.subscribers.items)
+        → ArePortsLeft T.of_parts (middle_of opened.domain.state.ports.sizes.sequence_numbers U.of_parts) opened.lanes.lanes
+        opened.publishers.items (length opened.subscribers.items)
         opened.connections.items opened.domain.state.ports.publishers result.state.ports.publishers }
 {
     let DomainLanes {
@@ -98,12 +105,14 @@ fn returned<T: Words, U: Words>(opened: DomainLanes<T, U>) -> Domain<T, U>
     if one.is_empty() {
         return domain;
     }
-    if !has_words::<T, U>(&lanes) {
+    let numbered = domain.state.ports.sizes.sequence_numbers;
+    if !has_words::<T, U>(&lanes, numbered) {
         return domain;
     }
     let readers = count(&subscribers);
     restore_publishers(
         &lanes,
+        numbered,
         &publishers,
         readers,
         &connections,
@@ -120,16 +129,17 @@ fn count(numbers: &[u64]) -> usize
 }
 
 // Whether the words of the lanes are those of values of `T` and user headers of `U`.
-fn has_words<T: Words, U: Words>(lanes: &Lanes) -> bool
-    ensures whole { OnTrue result (IsWhole T.WORDS U.WORDS lanes.now.table) }
-    ensures not { result ≡ false → lanes.now.table.sizes.payload_words ≡ T.WORDS → lanes.now.table.sizes.user_header_words ≡ U.WORDS → ⊥ }
+fn has_words<T: Words, U: Words>(lanes: &Lanes, numbered: bool) -> bool
+    ensures whole { OnTrue result (IsWhole T.WORDS (middle_count numbered U.WORDS) lanes.now.table) }
+    ensures not { result ≡ false → lanes.now.table.sizes.payload_words ≡ T.WORDS → lanes.now.table.sizes.user_header_words ≡
+        (middle_count numbered U.WORDS) → ⊥ }
 {
     lanes.are_of_one_service();
     let sizes = lanes.table().sizes();
     if sizes.payload_words != T::WORDS as u64 {
         return false;
     }
-    if sizes.user_header_words != U::WORDS as u64 {
+    if sizes.user_header_words != middle_count::<U>(numbered) as u64 {
         return false;
     }
     true
@@ -138,6 +148,7 @@ fn has_words<T: Words, U: Words>(lanes: &Lanes) -> bool
 // The publishers with the messages that the lanes leave, where these lanes go with them.
 fn restore_publishers<T: Words, U: Words>(
     lanes: &Lanes,
+    numbered: bool,
     numbers: &[u64],
     readers: usize,
     indices: &[usize],
@@ -145,13 +156,15 @@ fn restore_publishers<T: Words, U: Words>(
     one: &mut Vec<T>,
 )
     requires room { 0 < vec_capacity one.old }
-    requires whole { IsWhole T.WORDS U.WORDS lanes.now.table }
-    ensures { AllRest lanes.now → (places : ℕ) → IsJoined T.WORDS U.WORDS places lanes.now publishers.old numbers.now readers indices.now
-        → ArePortsLeft T.of_parts U.of_parts lanes.now numbers.now readers indices.now publishers.old publishers.new }
+    requires whole { IsWhole T.WORDS (middle_count numbered U.WORDS) lanes.now.table }
+    ensures { AllRest lanes.now → (places : ℕ) → IsJoined T.WORDS (middle_count numbered U.WORDS) places lanes.now publishers.old
+        numbers.now readers indices.now
+        → ArePortsLeft T.of_parts (middle_of numbered U.of_parts) lanes.now numbers.now readers indices.now publishers.old publishers.new }
 {
     for place in 0..numbers.len() {
         restore_publisher(
             lanes,
+            numbered,
             numbers[place],
             place,
             readers,
@@ -165,6 +178,7 @@ fn restore_publishers<T: Words, U: Words>(
 // The publisher of a number, which is the one at a place of the lanes.
 fn restore_publisher<T: Words, U: Words>(
     lanes: &Lanes,
+    numbered: bool,
     number: u64,
     place: usize,
     readers: usize,
@@ -173,21 +187,22 @@ fn restore_publisher<T: Words, U: Words>(
     one: &mut Vec<T>,
 )
     requires room { 0 < vec_capacity one.old }
-    requires whole { IsWhole T.WORDS U.WORDS lanes.now.table }
+    requires whole { IsWhole T.WORDS (middle_count numbered U.WORDS) lanes.now.table }
     ensures others { (other : ℕ) → (other ≡ number → ⊥) → port_of other publishers.new ≡ port_of other publishers.old }
     ensures this { AllRest lanes.now → JoinsAt lanes.now (port_of number publishers.old) place readers indices.now
-        → IsPortLeftIf T.of_parts U.of_parts lanes.now (place * readers) (row_of readers indices.now place)
+        → IsPortLeftIf T.of_parts (middle_of numbered U.of_parts) lanes.now (place * readers) (row_of readers indices.now place)
         (slice_get lanes.now.publishers place) (port_of number publishers.old) (port_of number publishers.new) }
     ensures room { vec_capacity one.new ≡ vec_capacity one.old }
 {
     if let Some(port) = publishers.get_mut(number) {
-        restore_port(lanes, place, readers, indices, port, one);
+        restore_port(lanes, numbered, place, readers, indices, port, one);
     }
 }
 
 // A publisher that is the one at a place of the lanes.
 fn restore_port<T: Words, U: Words>(
     lanes: &Lanes,
+    numbered: bool,
     place: usize,
     readers: usize,
     indices: &[usize],
@@ -195,9 +210,9 @@ fn restore_port<T: Words, U: Words>(
     one: &mut Vec<T>,
 )
     requires room { 0 < vec_capacity one.old }
-    requires whole { IsWhole T.WORDS U.WORDS lanes.now.table }
+    requires whole { IsWhole T.WORDS (middle_count numbered U.WORDS) lanes.now.table }
     ensures left { AllRest lanes.now → JoinsAt lanes.now (Some port.old) place readers indices.now
-        → IsPortLeftIf T.of_parts U.of_parts lanes.now (place * readers) (row_of readers indices.now place)
+        → IsPortLeftIf T.of_parts (middle_of numbered U.of_parts) lanes.now (place * readers) (row_of readers indices.now place)
         (slice_get lanes.now.publishers place) (Some port.old) (Some port.new) }
     ensures room { vec_capacity one.new ≡ vec_capacity one.old }
 {
@@ -208,7 +223,7 @@ fn restore_port<T: Words, U: Words>(
     let Some((from, row)) = row_at(lanes, place, readers, indices) else {
         return;
     };
-    restore_lane(lanes, from, row, lane, port, one);
+    restore_lane(lanes, numbered, from, row, lane, port, one);
 }
 
 // The lane at a place, if there is one.
@@ -241,6 +256,7 @@ fn row_at<'a>(
 // A publisher gets what the lanes leave of a lane.
 fn restore_lane<T: Words, U: Words>(
     lanes: &Lanes,
+    numbered: bool,
     from: u64,
     row: &[usize],
     lane: &PublisherLane,
@@ -249,16 +265,18 @@ fn restore_lane<T: Words, U: Words>(
 )
     requires room { 0 < vec_capacity one.old }
     requires connections { from + length row.now ≤ length lanes.now.links }
-    requires whole { IsWhole T.WORDS U.WORDS lanes.now.table }
-    ensures rest { port.new ≡ record port.old { sender = port.new.sender } }
+    requires whole { IsWhole T.WORDS (middle_count numbered U.WORDS) lanes.now.table }
+    ensures rest { port.new ≡ record port.old { last_sequence = lane.now.last; sender = port.new.sender } }
     ensures restored { IsRested port.old.sender
-        → IsRestored T.of_parts U.of_parts lanes.now from row.now lane.now.port.book.first lane.now.port.book.history port.old.sender
+        → IsRestored T.of_parts (middle_of numbered U.of_parts) lanes.now from row.now lane.now.port.book.first
+        lane.now.port.book.history port.old.sender
         port.new.sender }
     ensures room { vec_capacity one.new ≡ vec_capacity one.old }
 {
     let first = lane.first_slot();
     let _rested = restore(
         lanes,
+        numbered,
         from,
         row,
         first,
@@ -266,4 +284,5 @@ fn restore_lane<T: Words, U: Words>(
         &mut port.sender,
         one,
     );
+    port.last_sequence = lane.last_sequence();
 }

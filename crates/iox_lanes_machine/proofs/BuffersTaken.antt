@@ -285,6 +285,7 @@ buffer_taken m who place messages lane is stands w h h' = record {
       most = refl;
       heads = heads_stay f other lane.heads refl refl refl;
       fails = refl;
+      last = refl;
       same = refl;
     }
 
@@ -313,6 +314,7 @@ buffer_taken m who place messages lane is stands w h h' = record {
         most = refl;
         heads = heads_stay f other was.heads refl refl refl;
         fails = refl;
+        last = refl;
         same = refl;
       })
     ]

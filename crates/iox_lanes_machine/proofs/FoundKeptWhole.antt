@@ -233,8 +233,8 @@ found_both m (found.Buffer publisher place messages) fit w h
     = buffers_keep m publisher place messages (slice_get m.publishers publisher) refl fit w h
 found_both m (found.Slots publisher slots most_loans) fit w h
     = resizes_keep m publisher slots most_loans (slice_get m.publishers publisher) refl fit w h
-found_both m (found.Sender publisher node_id publisher_id fails) fit w h
-    = names_keep m publisher node_id publisher_id fails (slice_get m.publishers publisher) refl fit w h
+found_both m (found.Sender publisher node_id publisher_id fails last) fit w h
+    = names_keep m publisher node_id publisher_id fails last (slice_get m.publishers publisher) refl fit w h
 found_both m (found.Swapped subscriber one other) fit w h
     = swaps_keep m subscriber one other (slice_get m.subscribers subscriber) refl fit w h
 
@@ -274,8 +274,8 @@ found_moments m (found.Newest publisher slot) = newest_moments m publisher slot 
 found_moments m (found.Held slot word value) = refl
 found_moments m (found.Buffer publisher place messages) = buffered_moments m publisher place messages (slice_get m.publishers publisher)
 found_moments m (found.Slots publisher slots most_loans) = resized_moments m publisher slots most_loans (slice_get m.publishers publisher)
-found_moments m (found.Sender publisher node_id publisher_id fails)
-    = named_moments m publisher node_id publisher_id fails (slice_get m.publishers publisher)
+found_moments m (found.Sender publisher node_id publisher_id fails last)
+    = named_moments m publisher node_id publisher_id fails last (slice_get m.publishers publisher)
 found_moments m (found.Swapped subscriber one other) = swapped_moments m subscriber one other (slice_get m.subscribers subscriber)
 
 -- before the first step alone
@@ -388,11 +388,11 @@ resized_routes : (m : World) (who slots most : ℕ) (at : Option PublisherLaneSt
 resized_routes m who slots most None e = none_changed m
 resized_routes m who slots most (Some lane) e = one_changed m m.table.words m.links who lane (lane_resized slots most lane) e refl
 
-named_routes : (m : World) (who node publisher : ℕ) (fails : Bool) (at : Option PublisherLaneState) → slice_get m.publishers who ≡ at
-    → SameSizes m (named_of m who node publisher fails at)
-named_routes m who node publisher fails None e = none_changed m
-named_routes m who node publisher fails (Some lane) e
-    = one_changed m m.table.words m.links who lane (lane_named node publisher fails lane) e refl
+named_routes : (m : World) (who node publisher : ℕ) (fails : Bool) (last : Option ℕ) (at : Option PublisherLaneState)
+    → slice_get m.publishers who ≡ at → SameSizes m (named_of m who node publisher fails last at)
+named_routes m who node publisher fails last None e = none_changed m
+named_routes m who node publisher fails last (Some lane) e
+    = one_changed m m.table.words m.links who lane (lane_named node publisher fails last lane) e refl
 
 swapped_routes : (m : World) (who one other : ℕ) (at : Option SubscriberLaneState) → SameSizes m (swapped_of m who one other at)
 swapped_routes m who one other None = none_changed m
@@ -407,6 +407,6 @@ found_routes m (found.Buffer publisher place messages)
     = buffered_of_routes m publisher place messages (slice_get m.publishers publisher) refl
 found_routes m (found.Slots publisher slots most_loans)
     = resized_routes m publisher slots most_loans (slice_get m.publishers publisher) refl
-found_routes m (found.Sender publisher node_id publisher_id fails)
-    = named_routes m publisher node_id publisher_id fails (slice_get m.publishers publisher) refl
+found_routes m (found.Sender publisher node_id publisher_id fails last)
+    = named_routes m publisher node_id publisher_id fails last (slice_get m.publishers publisher) refl
 found_routes m (found.Swapped subscriber one other) = swapped_routes m subscriber one other (slice_get m.subscribers subscriber)

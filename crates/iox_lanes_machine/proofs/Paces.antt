@@ -413,7 +413,7 @@ ends_within m came place most c called entries fit few words paced asked first i
 loan_bound : (s c : ℕ) → s * (4 * c + 2) + 2 ≤ 4 * s * (c + 1) + 2
 loan_bound s c = omega arith
 
-send_bound : (s c u : ℕ) → s * (4 * c + 2) + 6 * s + u + 6 ≤ 4 * s * (c + 2) + u + 8
+send_bound : (s c u : ℕ) → s * (4 * c + 2) + 6 * s + u + 6 ≤ 4 * s * (c + 2) + u + 7
 send_bound s c u = omega arith
 
 pub loans_end_soon : LoansEndSoon
@@ -447,5 +447,5 @@ sends_end_soon = λ m came place loan entries user fit few inside.
     (inl user) (inr (loan, refl)) (λ lane. refl)
     (λ lane found bound. omega (arith, head_left cells s (3 + u) lane.port.book loan 0 (slice_get (head_of loan lane) 0))) inside in
     let e : cells + 2 ≡ came.sizes.buffer + came.sizes.most_borrowed + 3 = omega arith in
-    subst (λ (n : ℕ). 1 + own_steps (happens m (Publisher place) (Begin (call.Send loan))) place entries + 1 ≤ 4 * s * n + u + 8) e
+    subst (λ (n : ℕ). 1 + own_steps (happens m (Publisher place) (Begin (call.Send loan))) place entries + 1 ≤ 4 * s * n + u + 7) e
     (omega (arith, done, send_bound s cells u))

@@ -1,6 +1,6 @@
 -- A publisher that was found to have fewer slots, or other headers, leaves lanes as they are before their first step.
 use Rattle.std.proofs.Common.{ℕ, ◌≡◌, ◌+◌, ◌≤◌, if◌then◌else◌, Bool, true, false, nat_le, nat_lt, List, length, take, set, slice_get}
-use Rattle.std.proofs.Common.{Option, Some, None, refl, sym, ◌∙◌, ap, subst, inl, inr, arith}
+use Rattle.std.proofs.Common.{Option, Some, None, refl, sym, ◌∙◌, ap, subst, inl, inr, arith, Option}
 use Rattle.std.proofs.lemmas.Bool.{leb-true}
 use Rattle.std.proofs.lemmas.List.{length-map, length-set, length-take-le}
 use Rattle.std.proofs.lemmas.List.Elements.{All-map, All-take, All-weaker}
@@ -138,16 +138,16 @@ origin_length node publisher head = by_test (nat_lt 1 (length head))
     by_test true = length-set (set head 0 node) 1 publisher ∙ length-set head 0 node
     by_test false = refl
 
-pub named_fresh : (m : World) (who node publisher : ℕ) (fails : Bool) (lane : PublisherLaneState)
+pub named_fresh : (m : World) (who node publisher : ℕ) (fails : Bool) (last : Option ℕ) (lane : PublisherLaneState)
     → slice_get m.publishers who ≡ Some lane → IsWithin m → IsFresh m
-    → IsWithin (named_of m who node publisher fails (Some lane)) × IsFresh (named_of m who node publisher fails (Some lane))
-named_fresh m who node publisher fails lane found w h = (within, fresh)
+    → IsWithin (named_of m who node publisher fails last (Some lane)) × IsFresh (named_of m who node publisher fails last (Some lane))
+named_fresh m who node publisher fails last lane found w h = (within, fresh)
   where
     own : IsFreshPublisher m who lane
     own = h.publishers who lane found
 
     now' : PublisherLaneState
-    now' = lane_named node publisher fails lane
+    now' = lane_named node publisher fails last lane
 
     publishers' : List PublisherLaneState
     publishers' = set m.publishers who now'
@@ -206,14 +206,14 @@ named_fresh m who node publisher fails lane found w h = (within, fresh)
         } in
         publisher_within m world who lane now' found moved refl refl refl refl refl refl refl w
 
-pub names_keep : (m : World) (who node publisher : ℕ) (fails : Bool) (at : Option PublisherLaneState) → slice_get m.publishers who ≡ at
-    → is_there at ≡ true → IsWithin m → IsFresh m
-    → IsWithin (named_of m who node publisher fails (slice_get m.publishers who))
-    × IsFresh (named_of m who node publisher fails (slice_get m.publishers who))
-names_keep m who node publisher fails None e fit w h = absurd (cc fit)
-names_keep m who node publisher fails (Some lane) e fit w h =
-    subst (λ (n : World). IsWithin n × IsFresh n) (sym (ap (named_of m who node publisher fails) e))
-    (named_fresh m who node publisher fails lane e w h)
+pub names_keep : (m : World) (who node publisher : ℕ) (fails : Bool) (last : Option ℕ) (at : Option PublisherLaneState)
+    → slice_get m.publishers who ≡ at → is_there at ≡ true → IsWithin m → IsFresh m
+    → IsWithin (named_of m who node publisher fails last (slice_get m.publishers who))
+    × IsFresh (named_of m who node publisher fails last (slice_get m.publishers who))
+names_keep m who node publisher fails last None e fit w h = absurd (cc fit)
+names_keep m who node publisher fails last (Some lane) e fit w h =
+    subst (λ (n : World). IsWithin n × IsFresh n) (sym (ap (named_of m who node publisher fails last) e))
+    (named_fresh m who node publisher fails last lane e w h)
 
 -- no step was made
 pub resized_moments : (m : World) (who slots most : ℕ) (at : Option PublisherLaneState)
@@ -221,7 +221,7 @@ pub resized_moments : (m : World) (who slots most : ℕ) (at : Option PublisherL
 resized_moments m who slots most None = refl
 resized_moments m who slots most (Some lane) = refl
 
-pub named_moments : (m : World) (who node publisher : ℕ) (fails : Bool) (at : Option PublisherLaneState)
-    → (named_of m who node publisher fails at).moments ≡ m.moments
-named_moments m who node publisher fails None = refl
-named_moments m who node publisher fails (Some lane) = refl
+pub named_moments : (m : World) (who node publisher : ℕ) (fails : Bool) (last : Option ℕ) (at : Option PublisherLaneState)
+    → (named_of m who node publisher fails last at).moments ≡ m.moments
+named_moments m who node publisher fails last None = refl
+named_moments m who node publisher fails last (Some lane) = refl

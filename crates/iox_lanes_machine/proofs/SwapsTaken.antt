@@ -36,6 +36,7 @@ swap_taken m who one other lane may stands = record {
     most = refl;
     heads = heads_stay f i was.heads refl refl refl;
     fails = refl;
+    last = refl;
     same = refl;
   });
   as_many = refl;

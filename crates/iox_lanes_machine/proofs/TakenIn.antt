@@ -38,7 +38,8 @@ use Rattle.iox_lanes_machine.specs.Links.{LinkState}
 use Rattle.iox_lanes_machine.specs.Rings.{ring_in}
 use Rattle.iox_lanes_machine.specs.TakenIn.{slot_if}
 use Rattle.iox_lanes_machine.specs.TakenIn.{more_messages, more_samples, more_history, more_referred, more_uses, new_buffer, new_slots}
-use Rattle.iox_lanes_machine.specs.TakenIn.{new_loans, new_node, new_publisher, fails_behind, number_with, place_before}
+use Rattle.iox_lanes_machine.specs.TakenIn.{new_loans, new_node, new_publisher, fails_behind, last_behind, number_with}
+use Rattle.iox_lanes_machine.specs.TakenIn.{place_before}
 use Rattle.iox_lanes_machine.specs.TakenIn.{route_with, RoutesKnow, RingGrows, link_with, PublisherGrows, SubscriberKnows, IsTakenIn}
 use Rattle.iox_lanes_machine.specs.Uses.{given_back}
 use Rattle.iox_lanes_machine.specs.World.{World}
@@ -164,6 +165,7 @@ pub record Stays (f : Found) (who : ℕ) : Type 0 where
   pub node : new_node f who ≡ None
   pub publisher : new_publisher f who ≡ None
   pub fails : (was : Bool) → fails_behind f who was ≡ was
+  pub last : (was : Option ℕ) → last_behind f who was ≡ was
 
 -- a publisher of which nothing was found
 none_grows : (m : World) (f : Found) (who : ℕ) (lane : PublisherLaneState) → ((c : ℕ) → new_buffer m f c ≡ None)
@@ -180,6 +182,7 @@ none_grows m f who lane none history referred uses stays = record {
   most = ap (λ (n : Option ℕ). number_with n lane.port.book.most_loans) (sym stays.loans);
   heads = heads_stay f who lane.heads stays.slots stays.node stays.publisher;
   fails = sym (stays.fails lane.fails);
+  last = sym (stays.last lane.last);
   same = refl;
 }
 
@@ -223,6 +226,7 @@ found_grows m f who place slot lane none history referred uses stays fits counte
   most = ap (λ (n : Option ℕ). number_with n lane.port.book.most_loans) (sym stays.loans);
   heads = heads_stay f who lane.heads stays.slots stays.node stays.publisher;
   fails = sym (stays.fails lane.fails);
+  last = sym (stays.last lane.last);
   same = refl;
 }
 
@@ -252,6 +256,7 @@ newest_grows m f who slot lane none history referred uses stays own counted = re
   most = ap (λ (n : Option ℕ). number_with n lane.port.book.most_loans) (sym stays.loans);
   heads = heads_stay f who lane.heads stays.slots stays.node stays.publisher;
   fails = sym (stays.fails lane.fails);
+  last = sym (stays.last lane.last);
   same = refl;
 }
 
@@ -291,12 +296,12 @@ waiting_taken m who place slot lane is stands w h h' =
     (others_grow m f who lane (lane_found place slot lane) (λ d. refl) stands
     (found_grows m f who place slot lane (λ d. refl) refl (λ at. ap (λ (b : Bool). slot_if (b && (place == at)) slot) (itself who))
     (ap (λ (b : Bool). slot_if b slot) (itself who))
-    (record { slots = refl; loans = refl; node = refl; publisher = refl; fails = λ x. refl }) fits own.counted)
+    (record { slots = refl; loans = refl; node = refl; publisher = refl; fails = λ x. refl; last = λ x. refl }) fits own.counted)
     (λ other e. (
       refl,
       λ at. ap (λ (b : Bool). slot_if (b && (place == at)) slot) e,
       ap (λ (b : Bool). slot_if b slot) e,
-      (record { slots = refl; loans = refl; node = refl; publisher = refl; fails = λ x. refl }),
+      (record { slots = refl; loans = refl; node = refl; publisher = refl; fails = λ x. refl; last = λ x. refl }),
     )))
     (length-set m.publishers who (lane_found place slot lane))
   where
@@ -352,12 +357,12 @@ given_taken m who place slot lane is stands w h h' =
     (others_grow m f who lane (lane_found place slot lane) (λ d. refl) stands
     (found_grows m f who place slot lane (λ d. refl) refl (λ at. ap (λ (b : Bool). slot_if (b && (place == at)) slot) (itself who))
     (ap (λ (b : Bool). slot_if b slot) (itself who))
-    (record { slots = refl; loans = refl; node = refl; publisher = refl; fails = λ x. refl }) fits own.counted)
+    (record { slots = refl; loans = refl; node = refl; publisher = refl; fails = λ x. refl; last = λ x. refl }) fits own.counted)
     (λ other e. (
       refl,
       λ at. ap (λ (b : Bool). slot_if (b && (place == at)) slot) e,
       ap (λ (b : Bool). slot_if b slot) e,
-      (record { slots = refl; loans = refl; node = refl; publisher = refl; fails = λ x. refl }),
+      (record { slots = refl; loans = refl; node = refl; publisher = refl; fails = λ x. refl; last = λ x. refl }),
     )))
     (length-set m.publishers who (lane_found place slot lane))
   where
@@ -407,13 +412,13 @@ newest_taken m who slot lane may stands h h' =
     (others_grow m f who lane (lane_remembers slot lane) (λ d. refl) stands
     (newest_grows m f who slot lane (λ d. refl) (ap (λ (b : Bool). slot_if b slot) (itself who)) (λ at. refl)
     (ap (λ (b : Bool). slot_if b slot) (itself who))
-    (record { slots = refl; loans = refl; node = refl; publisher = refl; fails = λ x. refl })
+    (record { slots = refl; loans = refl; node = refl; publisher = refl; fails = λ x. refl; last = λ x. refl })
     (newest_is slot lane.port.book may).own (h.publishers who lane stands).counted)
     (λ other e. (
       ap (λ (b : Bool). slot_if b slot) e,
       λ at. refl,
       ap (λ (b : Bool). slot_if b slot) e,
-      (record { slots = refl; loans = refl; node = refl; publisher = refl; fails = λ x. refl }),
+      (record { slots = refl; loans = refl; node = refl; publisher = refl; fails = λ x. refl; last = λ x. refl }),
     )))
     (length-set m.publishers who (lane_remembers slot lane))
 
@@ -429,7 +434,7 @@ held_taken m slot word value is w h h' =
     (λ s other there not. word_stays m.table (Slot slot word) value s other is there (λ same. not value (cc same)))
     (λ who was now before behind. subst (PublisherGrows m f who was) (some_is was now (sym before ∙ behind))
     (none_grows m f who was (λ d. refl) refl (λ place. refl) refl
-    (record { slots = refl; loans = refl; node = refl; publisher = refl; fails = λ x. refl })))
+    (record { slots = refl; loans = refl; node = refl; publisher = refl; fails = λ x. refl; last = λ x. refl })))
     refl
   where
     f : Found

@@ -69,6 +69,7 @@ slots_taken m who slots most lane may stands w h h' =
         publisher
             = refl;
         fails = λ x. refl;
+        last = λ x. refl;
       },
     )))
     (length-set m.publishers who now')
@@ -111,6 +112,7 @@ slots_taken m who slots most lane may stands w h h' =
         as_many = length-take-le slots lane.heads (omega (arith, may.fits, each_loan, port.heads)) ∙ sym (given (length lane.heads));
       };
       fails = refl;
+      last = refl;
       same = refl;
     }
 
@@ -128,10 +130,10 @@ named_says node publisher head wide =
       as_many = length-set one 1 publisher ∙ length-set head 0 node;
     })
 
-sender_taken : (m : World) (who node publisher : ℕ) (fails : Bool) (lane : PublisherLaneState) → slice_get m.publishers who ≡ Some lane
-    → IsWithin m → IsFresh m → IsFresh (named_of m who node publisher fails (Some lane))
-    → IsTakenIn m (found.Sender who node publisher fails) (named_of m who node publisher fails (Some lane))
-sender_taken m who node publisher fails lane stands w h h' =
+sender_taken : (m : World) (who node publisher : ℕ) (fails : Bool) (last : Option ℕ) (lane : PublisherLaneState)
+    → slice_get m.publishers who ≡ Some lane → IsWithin m → IsFresh m → IsFresh (named_of m who node publisher fails last (Some lane))
+    → IsTakenIn m (found.Sender who node publisher fails last) (named_of m who node publisher fails last (Some lane))
+sender_taken m who node publisher fails last lane stands w h h' =
     taken_in m f m.table.words m.links (set m.publishers who now') (λ d. refl) (λ other place. refl) h h'
     (λ d. link_same (slice_get m.links d))
     (λ d link e. sym (append-nil (given_back m.table d)))
@@ -149,15 +151,16 @@ sender_taken m who node publisher fails lane stands w h h' =
         publisher
             = ap (λ (b : Bool). number_if b publisher) e;
         fails = λ x. ap (λ (b : Bool). if b then fails else x) e;
+        last = λ x. ap (λ (b : Bool). if b then last else x) e;
       },
     )))
     (length-set m.publishers who now')
   where
     f : Found
-    f = found.Sender who node publisher fails
+    f = found.Sender who node publisher fails last
 
     now' : PublisherLaneState
-    now' = lane_named node publisher fails lane
+    now' = lane_named node publisher fails last lane
 
     port : IsPublisher m.table.sizes lane
     port = all_at (IsPublisher m.table.sizes) m.publishers who lane stands w.publishers
@@ -189,6 +192,7 @@ sender_taken m who node publisher fails lane stands w h h' =
       most = refl;
       heads = record { each = says; as_many = length-map lane.heads (with_origin node publisher) };
       fails = sym (ap (λ (b : Bool). if b then fails else lane.fails) (itself who));
+      last = sym (ap (λ (b : Bool). if b then last else lane.last) (itself who));
       same = refl;
     }
 
@@ -228,13 +232,14 @@ sizes_taken m who slots most (Some lane) e fit w h h' =
     (slots_taken m who slots most lane (may_shrink_is m who slots lane fit e h) e w h
     (subst IsFresh (ap (resized_of m who slots most) e) h'))
 
-names_taken : (m : World) (who node publisher : ℕ) (fails : Bool) (at : Option PublisherLaneState) → slice_get m.publishers who ≡ at
-    → is_there at ≡ true → IsWithin m → IsFresh m → IsFresh (named_of m who node publisher fails (slice_get m.publishers who))
-    → IsTakenIn m (found.Sender who node publisher fails) (named_of m who node publisher fails (slice_get m.publishers who))
-names_taken m who node publisher fails None e fit w h h' = absurd (cc fit)
-names_taken m who node publisher fails (Some lane) e fit w h h' =
-    subst (IsTakenIn m (found.Sender who node publisher fails)) (sym (ap (named_of m who node publisher fails) e))
-    (sender_taken m who node publisher fails lane e w h (subst IsFresh (ap (named_of m who node publisher fails) e) h'))
+names_taken : (m : World) (who node publisher : ℕ) (fails : Bool) (last : Option ℕ) (at : Option PublisherLaneState)
+    → slice_get m.publishers who ≡ at → is_there at ≡ true → IsWithin m → IsFresh m → IsFresh
+    (named_of m who node publisher fails last (slice_get m.publishers who))
+    → IsTakenIn m (found.Sender who node publisher fails last) (named_of m who node publisher fails last (slice_get m.publishers who))
+names_taken m who node publisher fails last None e fit w h h' = absurd (cc fit)
+names_taken m who node publisher fails last (Some lane) e fit w h h' =
+    subst (IsTakenIn m (found.Sender who node publisher fails last)) (sym (ap (named_of m who node publisher fails last) e))
+    (sender_taken m who node publisher fails last lane e w h (subst IsFresh (ap (named_of m who node publisher fails last) e) h'))
 
 now_taken : (m : World) (f : Found) → finds_now m f ≡ true → IsWithin m → IsFresh m → IsFresh (with_found m f)
     → IsTakenIn m f (with_found m f)
@@ -251,8 +256,8 @@ now_taken m (found.Buffer publisher place messages) fit w h h'
     = buffers_taken m publisher place messages (slice_get m.publishers publisher) refl fit w h h'
 now_taken m (found.Slots publisher slots most_loans) fit w h h'
     = sizes_taken m publisher slots most_loans (slice_get m.publishers publisher) refl fit w h h'
-now_taken m (found.Sender publisher node_id publisher_id fails) fit w h h'
-    = names_taken m publisher node_id publisher_id fails (slice_get m.publishers publisher) refl fit w h h'
+now_taken m (found.Sender publisher node_id publisher_id fails last) fit w h h'
+    = names_taken m publisher node_id publisher_id fails last (slice_get m.publishers publisher) refl fit w h h'
 now_taken m (found.Swapped subscriber one other) fit w h h'
     = swaps_taken m subscriber one other (slice_get m.subscribers subscriber) refl fit
 
@@ -343,7 +348,7 @@ may_now m (found.Held slot word value) fit h =
 may_now m (found.Buffer publisher place messages) fit h
     = buffers_may m publisher place messages (slice_get m.publishers publisher) refl fit h
 may_now m (found.Slots publisher slots most_loans) fit h = sizes_may m publisher slots (slice_get m.publishers publisher) refl fit h
-may_now m (found.Sender publisher node_id publisher_id fails) fit h = names_may m publisher (slice_get m.publishers publisher) refl fit
+may_now m (found.Sender publisher node_id publisher_id fails last) fit h = names_may m publisher (slice_get m.publishers publisher) refl fit
 may_now m (found.Swapped subscriber one other) fit h = swaps_may m subscriber one other (slice_get m.subscribers subscriber) refl fit
 
 pub may_first : (m : World) (f : Found) → finds m f ≡ true → IsKept m → IsFirst m f
@@ -453,7 +458,7 @@ now_says m (found.Held slot word value) is w h
     (word_says m.table.sizes slot word is)
 now_says m (found.Buffer publisher place messages) is w h = buffers_say m publisher place messages is h
 now_says m (found.Slots publisher slots most_loans) is w h = sizes_say m publisher slots is w h
-now_says m (found.Sender publisher node_id publisher_id fails) is w h = ap is_there is.1
+now_says m (found.Sender publisher node_id publisher_id fails last) is w h = ap is_there is.1
 now_says m (found.Swapped subscriber one other) is w h = swaps_say m subscriber one other is
 
 first_says : (m : World) (f : Found) → IsFirst m f → IsKept m → finds m f ≡ true

@@ -1,7 +1,7 @@
 -- What lanes may find before their first step, and what that makes of them: messages that wait, samples given back, histories,
 -- what slots hold, buffers of connections, slots and headers of publishers, and places of connections.
 use Rattle.std.specs.Prelude.{ℕ, ◌≡◌, ◌-◌, ◌==◌, ◌&&◌, Bool, true, false, nat_lt, nat_le, List, [], ◌∷◌, ◌++◌, length, set, slice_get}
-use Rattle.std.specs.Prelude.{Option, Some, None}
+use Rattle.std.specs.Prelude.{Option, Some, None, Option}
 use Rattle.iox_lanes_machine.specs.QueuesSteps.Access.{successor}
 use Rattle.iox_lanes_machine.specs.QueuesSteps.declared.access.Word.TheVariants.{Write, Cell}
 use Rattle.iox_lanes_machine.specs.QueuesSteps.Ends.{cells_of}
@@ -116,7 +116,7 @@ finds_now m (found.Newest publisher slot) = newest_of slot (slice_get m.publishe
 finds_now m (found.Held slot word value) = nat_lt slot m.table.sizes.slots && has_word m.table.sizes word
 finds_now m (found.Buffer publisher place messages) = buffers_of m place messages (slice_get m.publishers publisher)
 finds_now m (found.Slots publisher slots most_loans) = resizes_of slots (slice_get m.publishers publisher)
-finds_now m (found.Sender publisher node_id publisher_id fails) = is_there (slice_get m.publishers publisher)
+finds_now m (found.Sender publisher node_id publisher_id fails last) = is_there (slice_get m.publishers publisher)
 finds_now m (found.Swapped subscriber one other) = swaps_of one other (slice_get m.subscribers subscriber)
 
 -- what may be found: before the first step alone
@@ -197,13 +197,14 @@ buffered_of m publisher place messages (Some lane) = buffered_at m publisher mes
 -- a publisher has just its first slots, and so many of its loans may be out
 abbrev pub resized_of : World → ℕ → ℕ → ℕ → Option PublisherLaneState → World
 resized_of m publisher slots most_loans None = m
-resized_of m publisher slots most_loans (Some lane) = record m { publishers = set m.publishers publisher (lane_resized slots most_loans lane) }
+resized_of m publisher slots most_loans (Some lane) = record m
+    { publishers = set m.publishers publisher (lane_resized slots most_loans lane) }
 
 -- the headers of a publisher's messages say this node and this publisher, and its sends fail at a full mailbox or don't
-abbrev pub named_of : World → ℕ → ℕ → ℕ → Bool → Option PublisherLaneState → World
-named_of m publisher node_id publisher_id fails None = m
-named_of m publisher node_id publisher_id fails (Some lane) = record m {
-  publishers = set m.publishers publisher (lane_named node_id publisher_id fails lane);
+abbrev pub named_of : World → ℕ → ℕ → ℕ → Bool → Option ℕ → Option PublisherLaneState → World
+named_of m publisher node_id publisher_id fails last None = m
+named_of m publisher node_id publisher_id fails last (Some lane) = record m {
+  publishers = set m.publishers publisher (lane_named node_id publisher_id fails last lane);
 }
 
 -- two connections of a subscriber change places
@@ -219,8 +220,8 @@ with_found m (found.Newest publisher slot) = remembered_of m publisher slot (sli
 with_found m (found.Held slot word value) = record m { table = stored_in m.table (Slot slot word) value }
 with_found m (found.Buffer publisher place messages) = buffered_of m publisher place messages (slice_get m.publishers publisher)
 with_found m (found.Slots publisher slots most_loans) = resized_of m publisher slots most_loans (slice_get m.publishers publisher)
-with_found m (found.Sender publisher node_id publisher_id fails) =
-    named_of m publisher node_id publisher_id fails (slice_get m.publishers publisher)
+with_found m (found.Sender publisher node_id publisher_id fails last) =
+    named_of m publisher node_id publisher_id fails last (slice_get m.publishers publisher)
 with_found m (found.Swapped subscriber one other) = swapped_of m subscriber one other (slice_get m.subscribers subscriber)
 
 -- what a finding answers, and what it leaves

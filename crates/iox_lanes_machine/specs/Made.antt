@@ -1,5 +1,5 @@
 -- Lanes as they are made: each publisher has a connection to each subscriber, and nothing was done yet.
-use Rattle.std.specs.Prelude.{ℕ, false, zero, suc, ◌+◌, ◌*◌, ◌/◌, ◌%◌, List, [], ◌∷◌, ◌++◌, replicate}
+use Rattle.std.specs.Prelude.{ℕ, false, zero, suc, ◌+◌, ◌*◌, ◌/◌, ◌%◌, List, [], ◌∷◌, ◌++◌, replicate, None}
 use Rattle.iox_lanes_machine.specs.QueuesSteps.Ends.{cells_of}
 use Rattle.iox_lanes_machine.specs.LanesBase.Numbers.{words_of}
 use Rattle.iox_lanes_machine.specs.LanesBase.declared.words.sizes.TableSizes.{TableSizes}
@@ -72,6 +72,7 @@ publisher_at sizes publisher = record {
       (new_book (publisher * sizes.slots) sizes.slots sizes.subscribers sizes.most_loans sizes.history)
       sizes.payload_words (3 + sizes.user_header_words);
   fails = false;
+  last = None;
   heads = replicate sizes.slots (first_head sizes publisher);
   call = name.LoanUninit;
   first = 0;

@@ -51,11 +51,12 @@ LoansEndSoon = (m : World) (came : CameTo m) (place : ℕ) (entries : List Entry
     → 1 + own_steps (happens m (Publisher place) (Begin call.LoanUninit)) place entries + 1
     ≤ 4 * came.sizes.subscribers * (came.sizes.buffer + came.sizes.most_borrowed + 2) + 2
 
--- Nor does a send take more than 4 * S * (B + R + 3) + U + 8, where a user header has U words, fewer than 2^61.
+-- Nor does a send take more than 4 * S * (B + R + 3) + W + 7, where W words lie between the three of a header and the payload, fewer than
+-- 2^61: those of a user header, and the number, where messages have numbers. So it is at most U + 8 for a user header of U words.
 abbrev pub SendsEndSoon : Type 0
 SendsEndSoon = (m : World) (came : CameTo m) (place loan : ℕ) (entries : List Entry) → came.sizes.user_header_words < 2 ^ 61
     → fits m (Publisher place) (Begin (call.Send loan)) ≡ true
     → (led (happens m (Publisher place) (Begin (call.Send loan))) entries).moments ≤ 2 ^ 63
     → IsInCall (led (happens m (Publisher place) (Begin (call.Send loan))) entries) place m.moments
     → 1 + own_steps (happens m (Publisher place) (Begin (call.Send loan))) place entries + 1
-    ≤ 4 * came.sizes.subscribers * (came.sizes.buffer + came.sizes.most_borrowed + 3) + came.sizes.user_header_words + 8
+    ≤ 4 * came.sizes.subscribers * (came.sizes.buffer + came.sizes.most_borrowed + 3) + came.sizes.user_header_words + 7

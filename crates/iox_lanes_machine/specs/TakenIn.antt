@@ -89,7 +89,7 @@ MayBeFound m (found.Newest publisher slot) = MayBeNewest m publisher slot
 MayBeFound m (found.Held slot word value) = IsWord m.table.sizes (Slot slot word)
 MayBeFound m (found.Buffer publisher place messages) = MayHaveBuffer m publisher place messages
 MayBeFound m (found.Slots publisher slots most_loans) = MayHaveSlots m publisher slots
-MayBeFound m (found.Sender publisher node_id publisher_id fails) =
+MayBeFound m (found.Sender publisher node_id publisher_id fails last) =
     (lane : PublisherLaneState) × (slice_get m.publishers publisher ≡ Some lane)
 MayBeFound m (found.Swapped subscriber one other) = MayChangePlaces m subscriber one other
 
@@ -117,7 +117,7 @@ more_messages m (found.Newest publisher slot) connection = []
 more_messages m (found.Held slot word value) connection = []
 more_messages m (found.Buffer publisher place messages) connection = []
 more_messages m (found.Slots publisher slots most_loans) connection = []
-more_messages m (found.Sender publisher node_id publisher_id fails) connection = []
+more_messages m (found.Sender publisher node_id publisher_id fails last) connection = []
 more_messages m (found.Swapped subscriber one other) connection = []
 
 -- what it adds to the samples given back there
@@ -129,7 +129,7 @@ more_samples m (found.Newest publisher slot) connection = []
 more_samples m (found.Held slot word value) connection = []
 more_samples m (found.Buffer publisher place messages) connection = []
 more_samples m (found.Slots publisher slots most_loans) connection = []
-more_samples m (found.Sender publisher node_id publisher_id fails) connection = []
+more_samples m (found.Sender publisher node_id publisher_id fails last) connection = []
 more_samples m (found.Swapped subscriber one other) connection = []
 
 -- what it adds to the history of a publisher
@@ -140,7 +140,7 @@ more_history (found.Newest publisher slot) who = slot_if (publisher == who) slot
 more_history (found.Held slot word value) who = []
 more_history (found.Buffer publisher place messages) who = []
 more_history (found.Slots publisher slots most_loans) who = []
-more_history (found.Sender publisher node_id publisher_id fails) who = []
+more_history (found.Sender publisher node_id publisher_id fails last) who = []
 more_history (found.Swapped subscriber one other) who = []
 
 -- what it adds to what a publisher's record says that the connection at a place has
@@ -151,7 +151,7 @@ more_referred (found.Newest publisher slot) who at = []
 more_referred (found.Held slot word value) who at = []
 more_referred (found.Buffer publisher place messages) who at = []
 more_referred (found.Slots publisher slots most_loans) who at = []
-more_referred (found.Sender publisher node_id publisher_id fails) who at = []
+more_referred (found.Sender publisher node_id publisher_id fails last) who at = []
 more_referred (found.Swapped subscriber one other) who at = []
 
 -- the slot of a publisher to which it adds a use
@@ -162,7 +162,7 @@ more_uses (found.Newest publisher slot) who = slot_if (publisher == who) slot
 more_uses (found.Held slot word value) who = []
 more_uses (found.Buffer publisher place messages) who = []
 more_uses (found.Slots publisher slots most_loans) who = []
-more_uses (found.Sender publisher node_id publisher_id fails) who = []
+more_uses (found.Sender publisher node_id publisher_id fails last) who = []
 more_uses (found.Swapped subscriber one other) who = []
 
 -- a number, if the test holds
@@ -179,7 +179,7 @@ new_buffer m (found.Held slot word value) connection = None
 new_buffer m (found.Buffer publisher place messages) connection
     = number_if (leads_of (slice_get m.publishers publisher) place connection) messages
 new_buffer m (found.Slots publisher slots most_loans) connection = None
-new_buffer m (found.Sender publisher node_id publisher_id fails) connection = None
+new_buffer m (found.Sender publisher node_id publisher_id fails last) connection = None
 new_buffer m (found.Swapped subscriber one other) connection = None
 
 -- a number that a finding gives, or else the one that stood
@@ -200,7 +200,7 @@ new_slots (found.Newest publisher slot) who = None
 new_slots (found.Held slot word value) who = None
 new_slots (found.Buffer publisher place messages) who = None
 new_slots (found.Slots publisher slots most_loans) who = number_if (publisher == who) slots
-new_slots (found.Sender publisher node_id publisher_id fails) who = None
+new_slots (found.Sender publisher node_id publisher_id fails last) who = None
 new_slots (found.Swapped subscriber one other) who = None
 
 -- how many of its loans may be out then
@@ -211,7 +211,7 @@ new_loans (found.Newest publisher slot) who = None
 new_loans (found.Held slot word value) who = None
 new_loans (found.Buffer publisher place messages) who = None
 new_loans (found.Slots publisher slots most_loans) who = number_if (publisher == who) most_loans
-new_loans (found.Sender publisher node_id publisher_id fails) who = None
+new_loans (found.Sender publisher node_id publisher_id fails last) who = None
 new_loans (found.Swapped subscriber one other) who = None
 
 -- the node that the headers of its messages say then
@@ -222,7 +222,7 @@ new_node (found.Newest publisher slot) who = None
 new_node (found.Held slot word value) who = None
 new_node (found.Buffer publisher place messages) who = None
 new_node (found.Slots publisher slots most_loans) who = None
-new_node (found.Sender publisher node_id publisher_id fails) who = number_if (publisher == who) node_id
+new_node (found.Sender publisher node_id publisher_id fails last) who = number_if (publisher == who) node_id
 new_node (found.Swapped subscriber one other) who = None
 
 -- and the publisher
@@ -233,7 +233,7 @@ new_publisher (found.Newest publisher slot) who = None
 new_publisher (found.Held slot word value) who = None
 new_publisher (found.Buffer publisher place messages) who = None
 new_publisher (found.Slots publisher slots most_loans) who = None
-new_publisher (found.Sender publisher node_id publisher_id fails) who = number_if (publisher == who) publisher_id
+new_publisher (found.Sender publisher node_id publisher_id fails last) who = number_if (publisher == who) publisher_id
 new_publisher (found.Swapped subscriber one other) who = None
 
 -- whether the sends of a publisher fail at a full mailbox behind a finding, if they did or didn't before
@@ -244,8 +244,19 @@ fails_behind (found.Newest publisher slot) who fails = fails
 fails_behind (found.Held slot word value) who fails = fails
 fails_behind (found.Buffer publisher place messages) who fails = fails
 fails_behind (found.Slots publisher slots most_loans) who fails = fails
-fails_behind (found.Sender publisher node_id publisher_id given) who fails = if publisher == who then given else fails
+fails_behind (found.Sender publisher node_id publisher_id given last) who fails = if publisher == who then given else fails
 fails_behind (found.Swapped subscriber one other) who fails = fails
+
+-- the number that a publisher gave last, behind a finding, if it was this one before; none where messages have no numbers
+abbrev pub last_behind : Found → ℕ → Option ℕ → Option ℕ
+last_behind (found.Waiting publisher place slot) who last = last
+last_behind (found.GivenBack publisher place slot) who last = last
+last_behind (found.Newest publisher slot) who last = last
+last_behind (found.Held slot word value) who last = last
+last_behind (found.Buffer publisher place messages) who last = last
+last_behind (found.Slots publisher slots most_loans) who last = last
+last_behind (found.Sender publisher node_id publisher_id fails given) who last = if publisher == who then given else last
+last_behind (found.Swapped subscriber one other) who last = last
 
 -- the place at which a connection stood that stands at a place now, if those at two places changed places
 abbrev pub other_place : ℕ → ℕ → ℕ → ℕ
@@ -264,7 +275,7 @@ place_before (found.Newest publisher slot) who at = at
 place_before (found.Held slot word value) who at = at
 place_before (found.Buffer publisher place messages) who at = at
 place_before (found.Slots publisher slots most_loans) who at = at
-place_before (found.Sender publisher node_id publisher_id fails) who at = at
+place_before (found.Sender publisher node_id publisher_id fails last) who at = at
 place_before (found.Swapped subscriber one other) who at = place_if (subscriber == who) one other at
 
 -- so a port knows each of its connections, each at the place that it has then, and nothing else of them changes
@@ -299,7 +310,8 @@ pub record HeadsSay (f : Found) (who : ℕ) (was now : List (List ℕ)) : Type 0
 
 -- The history of a publisher, what its record says of its connections and the uses of its slots have more; it has as many slots
 -- as it is given, may have as many loans out, and no other slot becomes a loan; it knows the buffers of its connections, its
--- headers say what they are given, and its sends fail as they are told. Nothing else of it changes.
+-- headers say what they are given, its sends fail as they are told, and its numbers go on behind the one that it is given. Nothing else
+-- of it changes.
 pub record PublisherGrows (m : World) (f : Found) (who : ℕ) (was now : PublisherLaneState) : Type 0 where
   pub routes : RoutesKnow m f (λ place. place) was.port.routes now.port.routes
   pub history : now.port.book.history ≡ was.port.book.history ++ more_history f who
@@ -313,9 +325,11 @@ pub record PublisherGrows (m : World) (f : Found) (who : ℕ) (was now : Publish
   pub most : now.port.book.most_loans ≡ number_with (new_loans f who) was.port.book.most_loans
   pub heads : HeadsSay f who was.heads now.heads
   pub fails : now.fails ≡ fails_behind f who was.fails
+  pub last : now.last ≡ last_behind f who was.last
   pub same : now ≡ record was {
     fails = now.fails;
     heads = now.heads;
+    last = now.last;
     port = record was.port {
       routes = now.port.routes;
       book = record was.port.book {
@@ -371,7 +385,7 @@ IsAppended (found.Newest publisher slot) = ⊥
 IsAppended (found.Held slot word value) = ⊥
 IsAppended (found.Buffer publisher place messages) = ⊥
 IsAppended (found.Slots publisher slots most_loans) = ⊥
-IsAppended (found.Sender publisher node_id publisher_id fails) = ⊥
+IsAppended (found.Sender publisher node_id publisher_id fails last) = ⊥
 IsAppended (found.Swapped subscriber one other) = ⊥
 
 -- memory may be wanting only for a finding that would be taken in, and is appended to what waited

@@ -61,12 +61,14 @@ pub enum Found {
         slots: u64,
         most_loans: u64,
     },
-    /// The headers of a publisher's messages say this node and this publisher, and its sends fail at a full mailbox or don't.
+    /// The headers of a publisher's messages say this node and this publisher, its sends fail at a full mailbox or don't, and its next
+    /// message gets the number behind `last`; None where messages have no numbers.
     Sender {
         publisher: usize,
         node_id: u64,
         publisher_id: u64,
         fails: bool,
+        last: Option<u64>,
     },
     /// The connections at two places of a subscriber change places.
     Swapped {
@@ -287,8 +289,9 @@ impl State {
                 node_id,
                 publisher_id,
                 fails,
+                last,
             } => {
-                self.find_sender(publisher, node_id, publisher_id, fails);
+                self.find_sender(publisher, node_id, publisher_id, fails, last);
                 Ok(())
             }
             Found::Swapped {
@@ -400,12 +403,19 @@ impl State {
         }
     }
 
-    fn find_sender(&mut self, publisher: usize, node_id: u64, publisher_id: u64, fails: bool)
-        ensures { world_of self.new ≡ named_of (world_of self.old) publisher node_id publisher_id fails
+    fn find_sender(
+        &mut self,
+        publisher: usize,
+        node_id: u64,
+        publisher_id: u64,
+        fails: bool,
+        last: Option<u64>,
+    )
+        ensures { world_of self.new ≡ named_of (world_of self.old) publisher node_id publisher_id fails last
             (slice_get self.old.publishers.items publisher) }
     {
         if let Some(lane) = self.publishers.get_mut(publisher) {
-            lane.name(node_id, publisher_id, fails);
+            lane.name(node_id, publisher_id, fails, last);
         }
     }
 

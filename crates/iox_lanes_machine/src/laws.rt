@@ -30,8 +30,9 @@ pub fn loans_end_soon()
     ensures { LoansEndSoon }
 {}
 
-/// A send takes at most 4 · S · (B + R + 3) + U + 8 steps of its publisher, where a user header has U words; as long as at most
-/// 2^63 steps were made.
+/// A send takes at most 4 · S · (B + R + 3) + W + 7 steps of its publisher, where W words lie between the three of a header and the
+/// payload: U of a user header, and one more where messages have numbers. So that is at most U + 8. So it is as long as at most 2^63
+/// steps were made.
 pub fn sends_end_soon()
     ensures { SendsEndSoon }
 {}

@@ -28,7 +28,8 @@ pub struct LaneSizes {
     pub most_loans: u64,
     /// How many slots a publisher has; some may have fewer, if that is found before the first step.
     pub slots: u64,
-    /// How many words a user header has.
+    /// How many words lie between the three of a header and the payload: those of a user header, and before them the number, where
+    /// messages have numbers.
     pub user_header_words: u64,
     /// How many words a payload has.
     pub payload_words: u64,

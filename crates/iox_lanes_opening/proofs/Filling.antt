@@ -46,7 +46,7 @@ may_still lanes from first index old new (Some place) alike may = record {
 }
 
 -- what the lanes leave waits at the first connections
-pub record Filling {T U : Type 0} (value_of : List ℕ → T) (header_of : List ℕ → U) (lanes : World) (from : ℕ) (indices : List ℕ)
+pub record Filling {T U : Type 0} (value_of : List ℕ → T) (header_of : List ℕ → Option ℕ × U) (lanes : World) (from : ℕ) (indices : List ℕ)
     (first : ℕ) (start now : SenderState T U) (count : ℕ) : Type 0 where
   pub rest : now ≡ with_uses (record start.uses { connections = now.uses.connections }) start
   pub same : length now.uses.connections ≡ length start.uses.connections
@@ -69,7 +69,7 @@ filling_alike index start now rest each = record {
 }
 
 -- and at one more
-pub one_filled : {T U : Type 0} (value_of : List ℕ → T) (header_of : List ℕ → U) (lanes : World) (from : ℕ) (indices : List ℕ)
+pub one_filled : {T U : Type 0} (value_of : List ℕ → T) (header_of : List ℕ → Option ℕ × U) (lanes : World) (from : ℕ) (indices : List ℕ)
     (first : ℕ) (start now next : SenderState T U) (count : ℕ)
     → Filling value_of header_of lanes from indices first start now count → count < length start.uses.connections → OnlyWaits count now next
     → (MayWaitAt lanes from first count now (place_of count indices)
@@ -116,7 +116,7 @@ one_filled {T = T} {U = U} value_of header_of lanes from indices first start now
         (filling_alike count start now so_far.rest (so_far.each count)) may)
 
 -- once it has gone over all
-pub all_filled : {T U : Type 0} (value_of : List ℕ → T) (header_of : List ℕ → U) (lanes : World) (from : ℕ) (indices : List ℕ)
+pub all_filled : {T U : Type 0} (value_of : List ℕ → T) (header_of : List ℕ → Option ℕ × U) (lanes : World) (from : ℕ) (indices : List ℕ)
     (first : ℕ) (start now : SenderState T U) (count : ℕ)
     → Filling value_of header_of lanes from indices first start now count → count ≡ length start.uses.connections
     → (index : ℕ) → MayWaitAt lanes from first index start (place_of index indices)
@@ -132,7 +132,7 @@ all_filled value_of header_of lanes from indices first start now count filled is
     nothing beyond (Some place) may = absurd (omega (arith, beyond, is, within start.uses.connections index may.live))
 
 -- before it has begun
-pub none_filled : {T U : Type 0} (value_of : List ℕ → T) (header_of : List ℕ → U) (lanes : World) (from : ℕ) (indices : List ℕ)
+pub none_filled : {T U : Type 0} (value_of : List ℕ → T) (header_of : List ℕ → Option ℕ × U) (lanes : World) (from : ℕ) (indices : List ℕ)
     (first : ℕ) (start : SenderState T U)
     → AreLeft value_of header_of lanes.table first start.uses → ((index : ℕ) → (connection_at index start.uses).waiting ≡ [])
     → Filling value_of header_of lanes from indices first start start 0
@@ -171,7 +171,7 @@ pub cleared_empty : {T U : Type 0} (old new : SenderState T U) → IsCleared old
 cleared_empty old new cleared index = ap (λ c. c.waiting) (cleared.each index)
 
 -- no message of it lies elsewhere than in its slot
-pub cleared_left : {T U : Type 0} (value_of : List ℕ → T) (header_of : List ℕ → U) (table : TableWords) (first : ℕ)
+pub cleared_left : {T U : Type 0} (value_of : List ℕ → T) (header_of : List ℕ → Option ℕ × U) (table : TableWords) (first : ℕ)
     (old new : SenderState T U) → IsCleared old.uses new.uses → NoneBorrowed old.uses → AreLeft value_of header_of table first new.uses
 cleared_left value_of header_of table first old new cleared none = record {
   history = subst (All (IsLeft value_of header_of table first)) (sym (ap (λ u. u.history) cleared.same))
@@ -189,7 +189,7 @@ cleared_left value_of header_of table first old new cleared none = record {
 }
 
 -- what a publisher is once it has forgotten its messages, got what waits, and got the history
-pub restored_is : {T U : Type 0} (value_of : List ℕ → T) (header_of : List ℕ → U) (lanes : World) (from : ℕ) (indices : List ℕ)
+pub restored_is : {T U : Type 0} (value_of : List ℕ → T) (header_of : List ℕ → Option ℕ × U) (lanes : World) (from : ℕ) (indices : List ℕ)
     (first : ℕ) (history : List ℕ) (old mid next new : SenderState T U)
     → mid ≡ with_uses mid.uses old → IsCleared old.uses mid.uses
     → next ≡ with_uses (record mid.uses { connections = next.uses.connections }) mid

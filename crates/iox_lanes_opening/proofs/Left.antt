@@ -1,6 +1,6 @@
 -- The messages that lanes leave.
 use Rattle.std.proofs.Common.{◌≡◌, ◌-◌, ◌∷◌, [], ◌++◌, ℕ, zero, suc, Bool, true, false, nat_lt, if◌then◌else◌, List, length, get_or, refl}
-use Rattle.std.proofs.Common.{ap, ◌∙◌}
+use Rattle.std.proofs.Common.{Option, ap, ◌∙◌}
 use Rattle.std.specs.List.{All, list_any}
 use Rattle.std.proofs.Math.Dec.{eqb}
 use Rattle.std.proofs.lemmas.List.Elements.{All-nil, All-cons, All-head, All-tail, All-set, All-drop, All-push}
@@ -32,7 +32,7 @@ all_offered P overflows limit waiting message all this = at overflows (nat_lt (l
     at false true is = rw is (All-push P waiting message all this)
     at false false is = rw is all
 
-module _ {T U : Type 0} (value_of : List ℕ → T) (header_of : List ℕ → U) (table : TableWords) (first : ℕ) where
+module _ {T U : Type 0} (value_of : List ℕ → T) (header_of : List ℕ → Option ℕ × U) (table : TableWords) (first : ℕ) where
   left : Message T U → Type 0
   left = IsLeft value_of header_of table first
 

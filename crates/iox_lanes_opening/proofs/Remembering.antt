@@ -1,6 +1,6 @@
 -- The history comes back, one message after the other.
 use Rattle.std.proofs.Common.{arith, ◌≡◌, ◌+◌, ◌-◌, ◌<◌, ◌≤◌, ◌∷◌, [], ◌++◌, ℕ, List, length, length-append, map, take, drop, get_or}
-use Rattle.std.proofs.Common.{slice_get, Some, sym, ap, ◌∙◌}
+use Rattle.std.proofs.Common.{slice_get, Option, Some, sym, ap, ◌∙◌}
 use Rattle.std.proofs.lemmas.List.{map-append, length-map, length-take-le, take_more}
 use Rattle.std.proofs.lemmas.Option.{get_or_from_slice_get, slice_get-get_or}
 use Rattle.iox_domain_ports.specs.DomainSlots.Uses.{newest}
@@ -23,14 +23,15 @@ quiet_yet old new only quiet = record {
 }
 
 -- so many slots of the history have come back
-pub record Remembering {T U : Type 0} (value_of : List ℕ → T) (header_of : List ℕ → U) (table : TableWords) (history : List ℕ)
+pub record Remembering {T U : Type 0} (value_of : List ℕ → T) (header_of : List ℕ → Option ℕ × U) (table : TableWords) (history : List ℕ)
     (first : ℕ) (start now : SenderState T U) (count : ℕ) : Type 0 where
   pub rest : OnlyRemembers start now
   pub left : AreLeft value_of header_of table first now.uses
   pub remembers : MayRememberAll table history first start
       → now.uses.history ≡ messages_in value_of header_of table first (take count history)
 
-pub one_remembered : {T U : Type 0} (value_of : List ℕ → T) (header_of : List ℕ → U) (table : TableWords) (history : List ℕ) (first : ℕ)
+pub one_remembered : {T U : Type 0} (value_of : List ℕ → T) (header_of : List ℕ → Option ℕ × U) (table : TableWords) (history : List ℕ)
+    (first : ℕ)
     (start now next : SenderState T U) (count slot : ℕ)
     → Remembering value_of header_of table history first start now count → count < length history → slot ≡ get_or history count 0
     → (IsOwn first slot table.sizes.slots now.uses

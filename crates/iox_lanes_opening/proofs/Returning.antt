@@ -1,6 +1,6 @@
 -- Messages come back to a connection, one after the other.
 use Rattle.std.proofs.Common.{rules, arith, ◌≡◌, ◌+◌, ◌-◌, ◌<◌, ◌∷◌, [], ◌++◌, ℕ, zero, suc, Bool, true, false, nat_lt, if◌then◌else◌}
-use Rattle.std.proofs.Common.{List, length, map, take, get_or, slice_get, Some, refl, sym, ap, ◌∙◌}
+use Rattle.std.proofs.Common.{List, length, map, take, get_or, slice_get, Option, Some, refl, sym, ap, ◌∙◌}
 use Rattle.std.proofs.lemmas.List.{get_or-set_same, map-append, length-map, length-take-le, take_more}
 use Rattle.std.proofs.lemmas.Option.{get_or_from_slice_get}
 use Rattle.iox_domain_ports.specs.DomainSlots.Waiting.{put, put_over}
@@ -36,18 +36,18 @@ quiet_still index old new only quiet = record {
 }
 
 -- the message that lies in a slot of the lanes
-abbrev pub message_of : {T U : Type 0} → (List ℕ → T) → (List ℕ → U) → TableWords → ℕ → ℕ → Message T U
+abbrev pub message_of : {T U : Type 0} → (List ℕ → T) → (List ℕ → Option ℕ × U) → TableWords → ℕ → ℕ → Message T U
 message_of value_of header_of table first slot = message_in value_of header_of table first (slot - first)
 
 -- so many of the messages that wait in the lanes wait in the domain
-pub record Returning {T U : Type 0} (value_of : List ℕ → T) (header_of : List ℕ → U) (lanes : World) (connection first index : ℕ)
+pub record Returning {T U : Type 0} (value_of : List ℕ → T) (header_of : List ℕ → Option ℕ × U) (lanes : World) (connection first index : ℕ)
     (start now : SenderState T U) (count : ℕ) : Type 0 where
   pub rest : OnlyWaits index start now
   pub left : AreLeft value_of header_of lanes.table first now.uses
   pub waits : MayWaitAll lanes connection first index start
       → (connection_at index now.uses).waiting ≡ messages_in value_of header_of lanes.table first (take count (mail_at lanes connection))
 
-pub one_returned : {T U : Type 0} (value_of : List ℕ → T) (header_of : List ℕ → U) (lanes : World) (connection first index : ℕ)
+pub one_returned : {T U : Type 0} (value_of : List ℕ → T) (header_of : List ℕ → Option ℕ × U) (lanes : World) (connection first index : ℕ)
     (start now next : SenderState T U) (count total slot : ℕ)
     → Returning value_of header_of lanes connection first index start now count → count < total
     → (Rests lanes connection → total ≡ length (mail_at lanes connection))

@@ -5,8 +5,10 @@ pub mod UpToDate
 pub mod Deciding
 pub mod Lingering
 pub mod Slices
+pub mod Sequences
 pub mod Soundness
 pub mod Refusals
+pub mod Middles
 pub mod Leaving
 pub mod Clearing
 pub mod Restoring

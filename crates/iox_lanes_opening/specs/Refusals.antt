@@ -11,6 +11,7 @@ use Rattle.iox_domain.specs.declared.domain.Domain.{Domain}
 use Rattle.iox_lanes_opening.specs.UpToDate.{is_up_to_date}
 use Rattle.iox_lanes_opening.specs.Deciding.{has_handlers, is_retrying}
 use Rattle.iox_lanes_opening.specs.Lingering.{is_lingering}
+use Rattle.iox_lanes_opening.specs.Sequences.{has_too_large}
 use Rattle.iox_lanes_opening.specs.Slices.{has_slices}
 use Rattle.iox_lanes_opening.specs.Soundness.{is_unsound}
 use Rattle.iox_lanes_opening.specs.declared.refusals.into_lanes_error.IntoLanesError.{IntoLanesError}
@@ -42,4 +43,5 @@ first_reason domain =
     else if is_lingering domain.state.ports then Some reason.Lingering
     else if has_slices domain then Some reason.HasSlices
     else if is_unsound domain.state.ports then Some reason.Unsound
+    else if has_too_large domain.state.ports then Some reason.SequenceTooLarge
     else None

@@ -23,7 +23,7 @@ abbrev pub place_of : ℕ → List ℕ → Option ℕ
 place_of index indices = position (λ it. it == index) indices
 
 -- the messages that lanes leave at the connection at a place of a publisher, whose first one is `from`; none at no place
-abbrev pub left_at : {T U : Type 0} → (List ℕ → T) → (List ℕ → U) → World → ℕ → ℕ → Option ℕ → List (Message T U)
+abbrev pub left_at : {T U : Type 0} → (List ℕ → T) → (List ℕ → Option ℕ × U) → World → ℕ → ℕ → Option ℕ → List (Message T U)
 left_at value_of header_of lanes from first None = []
 left_at value_of header_of lanes from first (Some place) = messages_in value_of header_of lanes.table first (mail_at lanes (from + place))
 
@@ -35,7 +35,7 @@ MayWaitAt lanes from first index sender (Some place) = MayWaitAll lanes (from + 
 -- Only what waits at connections and the history have changed. What the lanes leave at a connection waits at that of its index,
 -- if it may, and nothing at one of which the lanes have none; and the history is that of the lanes, if it may be.
 pub record IsRestored {T U : Type 0} (value_of : List ℕ → T) (header_of : List ℕ
-    → U) (lanes : World) (from : ℕ) (indices : List ℕ) (first : ℕ) (history : List ℕ) (old new : SenderState T U) : Type 0 where
+    → Option ℕ × U) (lanes : World) (from : ℕ) (indices : List ℕ) (first : ℕ) (history : List ℕ) (old new : SenderState T U) : Type 0 where
   pub rest : new ≡ with_uses (record old.uses { history = new.uses.history; connections = new.uses.connections }) old
   pub count : length new.uses.connections ≡ length old.uses.connections
   pub each : (index : ℕ) → connection_at index new.uses ≡ with_waiting (connection_at index old.uses) (connection_at index new.uses).waiting

@@ -1,5 +1,5 @@
 -- A publisher that gets the messages that lanes leave.
-use Rattle.std.specs.Prelude.{ℕ, ◌≡◌, ◌+◌, ◌-◌, ◌<◌, ◌≤◌, List, [], length, map, slice_get, None, Some}
+use Rattle.std.specs.Prelude.{ℕ, ◌≡◌, ◌+◌, ◌-◌, ◌<◌, ◌≤◌, List, [], length, map, slice_get, Option, None, Some}
 use Rattle.std.specs.List.{All}
 use Rattle.iox_domain_ports.specs.DomainSlots.Uses.{Uses, connection_at, with_connection}
 use Rattle.iox_domain_ports.specs.DomainSlots.declared.stage.Stage.TheVariants as stage
@@ -18,12 +18,12 @@ pub record IsWhole (payload_words header_words : ℕ) (table : TableWords) : Typ
   pub user_header : table.sizes.user_header_words ≡ header_words
 
 -- a message is the one that lies in its slot
-abbrev pub IsLeft : {T U : Type 0} → (List ℕ → T) → (List ℕ → U) → TableWords → ℕ → Message T U → Type 0
+abbrev pub IsLeft : {T U : Type 0} → (List ℕ → T) → (List ℕ → Option ℕ × U) → TableWords → ℕ → Message T U → Type 0
 IsLeft value_of header_of table first message = message ≡ message_in value_of header_of table first message.slot
 
 -- each message of the history and of the connections is the one that lies in its slot
 pub record AreLeft {T U : Type 0} (value_of : List ℕ → T) (header_of : List ℕ
-    → U) (table : TableWords) (first : ℕ) (uses : Uses (Loan T U) (Message T U)) : Type 0 where
+    → Option ℕ × U) (table : TableWords) (first : ℕ) (uses : Uses (Loan T U) (Message T U)) : Type 0 where
   pub history : All (IsLeft value_of header_of table first) uses.history
   pub connections : All (λ connection. All (IsLeft value_of header_of table first) connection.waiting
       × All (IsLeft value_of header_of table first) connection.borrowed) uses.connections
@@ -52,7 +52,7 @@ abbrev pub OnlyRemembers : {T U : Type 0} → SenderState T U → SenderState T 
 OnlyRemembers old new = new ≡ with_uses (record old.uses { history = new.uses.history }) old
 
 -- the messages that lie in these slots of the lanes
-abbrev pub messages_in : {T U : Type 0} → (List ℕ → T) → (List ℕ → U) → TableWords → ℕ → List ℕ → List (Message T U)
+abbrev pub messages_in : {T U : Type 0} → (List ℕ → T) → (List ℕ → Option ℕ × U) → TableWords → ℕ → List ℕ → List (Message T U)
 messages_in value_of header_of table first slots = map (λ slot. message_in value_of header_of table first (slot - first)) slots
 
 -- The ports of a connection of the lanes are between calls, and at most 2^63 steps were made; what waits there has its slots in
@@ -79,7 +79,7 @@ pub record MayStand {T U : Type 0} (slot : ℕ) (sender : SenderState T U) : Typ
 -- A message that lies in a slot of the lanes may be sent again, in the same slot of a publisher whose slots begin at `first` there,
 -- by way of a place for so many values: all words are there, one value has a place, and what the publisher has lies in the lanes.
 pub record MayBeSent {T U : Type 0} (value_of : List ℕ → T) (header_of : List ℕ
-    → U) (payload_words header_words : ℕ) (table : TableWords) (first slot places : ℕ) (sender : SenderState T U) : Type 0 where
+    → Option ℕ × U) (payload_words header_words : ℕ) (table : TableWords) (first slot places : ℕ) (sender : SenderState T U) : Type 0 where
   pub room : 0 < places
   pub whole : IsWhole payload_words header_words table
   pub there : first + slot < table.sizes.slots
@@ -88,7 +88,7 @@ pub record MayBeSent {T U : Type 0} (value_of : List ℕ → T) (header_of : Lis
 
 -- The messages that lanes leave may come to a publisher of which nothing is out, one by one.
 pub record MayCome {T U : Type 0} (value_of : List ℕ → T) (header_of : List ℕ
-    → U) (payload_words header_words : ℕ) (table : TableWords) (first places : ℕ) (sender : SenderState T U) : Type 0 where
+    → Option ℕ × U) (payload_words header_words : ℕ) (table : TableWords) (first places : ℕ) (sender : SenderState T U) : Type 0 where
   pub room : 0 < places
   pub whole : IsWhole payload_words header_words table
   pub quiet : IsQuiet sender

@@ -1,5 +1,7 @@
 -- What no calls leave of the ports of a service.
-use Rattle.std.specs.Prelude.{ℕ, zero, suc, ◌==◌, ◌&&◌, ◌||◌, Bool, false, not, nat_lt, List, length, slice_get, Option, None, Some}
+use Rattle.std.specs.Prelude.{ℕ, zero, suc, ◌==◌, ◌&&◌, ◌||◌, Bool, false, is_some, not, nat_lt, List, length, slice_get, Option, None}
+use Rattle.std.specs.Prelude.{Some}
+use Rattle.std.specs.Bool.{beq}
 use Rattle.std.specs.List.{list_any}
 use Rattle.iox_domain.specs.DomainPorts.Messages.{Message}
 use Rattle.iox_domain.specs.DomainPorts.Publishers.{port_of}
@@ -67,10 +69,14 @@ waits_ill sizes connection = is_there connection
     && ((connection.limit == 0) || (nat_lt sizes.subscriber_max_buffer_size connection.limit
     || (nat_lt connection.limit (length connection.waiting) || has_twice connection.waiting)))
 
+-- whether a publisher numbers its messages though that isn't agreed, or doesn't though it is
+abbrev pub is_misnumbered : {T U : Type 0} → ServiceSizes → PublisherPort T U → Bool
+is_misnumbered sizes port = not (beq (is_some port.last_sequence) sizes.sequence_numbers)
+
 -- whether a publisher has slots of more segments than one, or isn't made for what is agreed, or its messages don't keep to that
 abbrev pub is_misfit : {T U : Type 0} → ServiceSizes → PublisherPort T U → Bool
-is_misfit sizes port = nat_lt 0 port.sender.uses.first || (not (port.sender.uses.kept == sizes.history_size)
-    || (remembers_ill sizes port || list_any (waits_ill sizes) port.sender.uses.connections))
+is_misfit sizes port = is_misnumbered sizes port || (nat_lt 0 port.sender.uses.first || (not (port.sender.uses.kept == sizes.history_size)
+    || (remembers_ill sizes port || list_any (waits_ill sizes) port.sender.uses.connections)))
 
 -- whether two connections come from one publisher; where one is wanting they don't
 abbrev pub share_publisher : Option Attached → Option Attached → Bool

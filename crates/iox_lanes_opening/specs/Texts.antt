@@ -13,6 +13,7 @@ into_lanes_name reason.Retrying = codes "Retrying"
 into_lanes_name reason.Lingering = codes "Lingering"
 into_lanes_name reason.HasSlices = codes "HasSlices"
 into_lanes_name reason.Unsound = codes "Unsound"
+into_lanes_name reason.SequenceTooLarge = codes "SequenceTooLarge"
 into_lanes_name reason.OutOfMemory = codes "OutOfMemory"
 
 -- the type's name, `::` and that of the variant

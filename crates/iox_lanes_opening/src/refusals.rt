@@ -6,6 +6,7 @@
 //! - [`lingering`]: what is still out, and who left and isn't gone.
 //! - [`slices`]: what isn't one value.
 //! - [`soundness`]: what no calls leave.
+//! - [`sequences`]: which numbers of messages are too large.
 //! - [`reasons`]: the first reason that applies.
 //!
 //! First calls, of a domain:
@@ -19,6 +20,7 @@ pub mod deciding;
 pub mod into_lanes_error;
 pub mod lingering;
 pub mod reasons;
+pub mod sequences;
 pub mod slices;
 pub mod soundness;
 pub mod up_to_date;

@@ -33,8 +33,9 @@ use Rattle.iox_lanes_parties.specs.PublisherKeeping.{BookState, loan_of, put_at,
 use Rattle.iox_lanes_parties.specs.Publishers.{words_of}
 use Rattle.iox_lanes_parties.specs.declared.publisher.slot_book.LoanMark.{LoanMark}
 use Rattle.iox_lanes_parties.specs.declared.publisher.slot_book.LoanMark.TheVariants as mark
-use Rattle.iox_lanes_parties.specs.Parties.{PublisherLaneState, is_out, is_written, index_of, head_of, with_user_header, publisher_may}
+use Rattle.iox_lanes_parties.specs.Parties.{PublisherLaneState, is_out, is_written, index_of, head_of, kept_head, with_user_header, publisher_may}
 use Rattle.iox_lanes_parties.specs.Parties.{publisher_fits, publisher_begun, publisher_after}
+use Rattle.iox_lanes_parties.specs.Sequences.{number_after, with_number}
 use Rattle.iox_lanes_parties.specs.Within.{IsRoute, IsAt, IsPublishing, IsPublisher, PublishersStayWithin}
 use Rattle.iox_lanes_parties.specs.declared.call.Call.{Call}
 use Rattle.iox_lanes_parties.specs.declared.call.Call.TheVariants as call
@@ -225,10 +226,24 @@ written_is_out mark.No h = h
 written_is_out mark.Lent h = refl
 written_is_out mark.Written h = refl
 
+-- a number takes no room
+pub numbered_length : (number : Option ℕ) (head : List ℕ) → length (with_number number head) ≡ length head
+numbered_length None head = refl
+numbered_length (Some number) head = by_test (nat_lt 3 (length head))
+  where
+    by_test : (b : Bool) → length (if b then set head 3 number else head) ≡ length head
+    by_test true = length-set head 3 number
+    by_test false = refl
+
+kept_head_width : (sizes : TableSizes) (lane : PublisherLaneState) (slot : ℕ) → IsPublisher sizes lane → IsOwn lane.port.book slot
+    → length (kept_head slot lane) ≡ 3 + sizes.user_header_words
+kept_head_width sizes lane slot k o = All-get_or (λ (head : List ℕ). length head ≡ 3 + sizes.user_header_words) lane.heads
+    (index_of slot lane) [] (omega (arith, k.heads, o.below)) k.widths
+
 head_width : (sizes : TableSizes) (lane : PublisherLaneState) (slot : ℕ) → IsPublisher sizes lane → IsOwn lane.port.book slot
     → length (head_of slot lane) ≡ 3 + sizes.user_header_words
-head_width sizes lane slot k o = All-get_or (λ (head : List ℕ). length head ≡ 3 + sizes.user_header_words) lane.heads
-    (index_of slot lane) [] (omega (arith, k.heads, o.below)) k.widths
+head_width sizes lane slot k o
+    = numbered_length (number_after lane.last) (kept_head slot lane) ∙ kept_head_width sizes lane slot k o
 
 kept_width : (head user_header : List ℕ) (words : ℕ) → length head ≡ 3 + words → 3 + length user_header ≡ 3 + words
     → length (with_user_header head user_header) ≡ 3 + words
@@ -264,10 +279,11 @@ begun_within sizes lane moment (call.Write loan payload user_header) fit k =
       slots = k.slots;
       payload = fills ∙ k.payload;
       head = k.head;
-      heads = length-set lane.heads (index_of loan lane) (with_user_header (head_of loan lane) user_header.items) ∙ k.heads;
+      heads = length-set lane.heads (index_of loan lane) (with_user_header (kept_head loan lane) user_header.items) ∙ k.heads;
       widths = All-set (λ (head : List ℕ). length head ≡ 3 + sizes.user_header_words) lane.heads (index_of loan lane)
-          (with_user_header (head_of loan lane) user_header.items)
-          (kept_width (head_of loan lane) user_header.items sizes.user_header_words (head_width sizes lane loan k o) (heads ∙ k.head))
+          (with_user_header (kept_head loan lane) user_header.items)
+          (kept_width (kept_head loan lane) user_header.items sizes.user_header_words (kept_head_width sizes lane loan k o)
+          (heads ∙ k.head))
           k.widths;
     }
 begun_within sizes lane moment (call.Send loan) fit k =

@@ -1,4 +1,5 @@
 -- The definitions that contracts about publishers and subscribers with their calls cite.
+pub mod Sequences
 pub mod Parties
 pub mod Within
 pub mod Keeping

@@ -18,6 +18,7 @@ use Rattle.iox_lanes_parties.specs.declared.publisher.slot_book.LoanAnswer.TheVa
 use Rattle.iox_lanes_parties.specs.Keeping as subscribers
 use Rattle.iox_lanes_parties.specs.Keeping.{SubscriberState}
 use Rattle.iox_lanes_parties.specs.SendAnswers.{send_answer}
+use Rattle.iox_lanes_parties.specs.Sequences.{number_after, with_number}
 use Rattle.iox_lanes_parties.specs.declared.call.Call.{Call}
 use Rattle.iox_lanes_parties.specs.declared.call.Call.TheVariants as call
 use Rattle.iox_lanes_parties.specs.declared.call.CallName.{CallName}
@@ -28,11 +29,12 @@ use Rattle.iox_lanes_parties.specs.declared.call.Answer.{Answer}
 use Rattle.iox_lanes_parties.specs.declared.call.Answer.TheVariants as answer
 
 -- A publisher: its port, for each of its slots the header and user header that a send stores, whether its sends fail at a full
--- mailbox, and the call that it began last, at its first moment.
+-- mailbox, the number that it gave last, if messages have numbers, and the call that it began last, at its first moment.
 pub record PublisherLaneState : Type 0 where
   pub port : PublisherState
   pub fails : Bool
   pub heads : List (List ℕ)
+  pub last : Option ℕ
   pub call : CallName
   pub first : ℕ
 
@@ -62,9 +64,11 @@ lane_resized slots most_loans lane = record lane { port = publishers.with_slots 
 abbrev pub with_origin : ℕ → ℕ → List ℕ → List ℕ
 with_origin node_id publisher_id head = if nat_lt 1 (length head) then set (set head 0 node_id) 1 publisher_id else head
 
--- so do the headers of all slots of a publisher, whose sends fail at a full mailbox or don't
-abbrev pub lane_named : ℕ → ℕ → Bool → PublisherLaneState → PublisherLaneState
-lane_named node_id publisher_id fails lane = record lane { fails = fails; heads = map (with_origin node_id publisher_id) lane.heads }
+-- so do the headers of all slots of a publisher, whose sends fail at a full mailbox or don't, and whose next message gets the number behind
+-- this one, if messages have numbers
+abbrev pub lane_named : ℕ → ℕ → Bool → Option ℕ → PublisherLaneState → PublisherLaneState
+lane_named node_id publisher_id fails last lane =
+    record lane { fails = fails; heads = map (with_origin node_id publisher_id) lane.heads; last = last }
 
 -- two connections of a subscriber change places
 abbrev pub receiver_swapped : ℕ → ℕ → SubscriberLaneState → SubscriberLaneState
@@ -123,9 +127,13 @@ publisher_fits lane GoOn = not (publisher_is_idle lane.port.call)
 abbrev pub index_of : ℕ → PublisherLaneState → ℕ
 index_of slot lane = slot - lane.port.book.first
 
--- the header and user header of a slot
+-- the header and user header that are kept for a slot
+abbrev pub kept_head : ℕ → PublisherLaneState → List ℕ
+kept_head slot lane = get_or lane.heads (index_of slot lane) []
+
+-- the header and user header that a send of a slot stores: with the next number, if messages have numbers
 abbrev pub head_of : ℕ → PublisherLaneState → List ℕ
-head_of slot lane = get_or lane.heads (index_of slot lane) []
+head_of slot lane = with_number (number_after lane.last) (kept_head slot lane)
 
 -- another user header behind the three words of a header
 abbrev pub with_user_header : List ℕ → List ℕ → List ℕ
@@ -134,16 +142,17 @@ with_user_header head user_header = take 3 head ++ user_header
 -- a slot keeps another user header for its send
 abbrev pub kept : ℕ → List ℕ → PublisherLaneState → PublisherLaneState
 kept slot user_header lane =
-    record lane { heads = set lane.heads (index_of slot lane) (with_user_header (head_of slot lane) user_header) }
+    record lane { heads = set lane.heads (index_of slot lane) (with_user_header (kept_head slot lane) user_header) }
 
 -- a write of a slot begins
 abbrev pub write_begun : ℕ → List ℕ → List ℕ → PublisherLaneState → PublisherLaneState
 write_begun slot payload user_header lane =
     record (kept slot user_header lane) { port = publishers.begun_write slot payload lane.port }
 
--- a send of a slot begins
+-- a send of a slot begins, with the next number, if messages have numbers
 abbrev pub send_begun : ℕ → PublisherLaneState → PublisherLaneState
-send_begun slot lane = record lane { port = publishers.begun_send slot (head_of slot lane) lane.port }
+send_begun slot lane =
+    record lane { port = publishers.begun_send slot (head_of slot lane) lane.port; last = number_after lane.last }
 
 -- a publisher that begins a call; what isn't a call of publishers leaves it as it is
 abbrev pub publisher_begun : ℕ → Call → PublisherLaneState → PublisherLaneState

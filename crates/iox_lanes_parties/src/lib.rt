@@ -4,6 +4,7 @@
 //! - [`head`]: the header and user header of a slot.
 //! - [`publisher`], [`subscriber`]: a port, and what it keeps for itself.
 //! - [`laws`]: ports keep to their own service.
+//! - `sequences`: the numbers that sends give messages.
 //! - [`values`]: a program's own values as the words of a call.
 //! - [`publisher_lane`], [`subscriber_lane`]: a port with the call that it began last.
 //!
@@ -21,6 +22,7 @@ pub mod head;
 pub mod laws;
 pub mod publisher;
 pub mod publisher_lane;
+mod sequences;
 pub mod subscriber;
 pub mod subscriber_lane;
 pub mod values;

@@ -1,28 +1,30 @@
 //! A publisher, its call in hand, and the headers of its slots.
-ghost use Rattle.std.specs.Prelude.{◌≡◌, ◌+◌, ◌<◌, ◌&&◌, ◌==◌, true, false, [], length, slice_get, IsSome, is_some};
+ghost use Rattle.std.specs.Prelude.{◌≡◌, ◌+◌, ◌<◌, ◌&&◌, ◌==◌, true, false, [], length, slice_get, IfOk, IsSome, is_some};
 ghost use Rattle.std.specs.List.{All};
 ghost use Rattle.iox_lanes_parties.specs.LanesBase.Publishing.{publisher_next, publisher_is_idle, publisher_is_over};
 ghost use Rattle.iox_lanes_parties.specs.PublisherKeeping.{may_have, may_remember, may_resize};
 ghost use Rattle.iox_lanes_parties.specs.Publishers.{words_of};
 ghost use Rattle.iox_lanes_parties.specs.Parties.{lane_found, lane_meets, lane_named, lane_remembers, lane_resized, name_of, is_out};
 ghost use Rattle.iox_lanes_parties.specs.Parties.{is_written, publisher_may, publisher_fits, publisher_begun, publisher_after};
-ghost use Rattle.iox_lanes_parties.specs.Parties.{publisher_answer, lent, index_of, head_of, kept, send_begun};
+ghost use Rattle.iox_lanes_parties.specs.Parties.{publisher_answer, lent, index_of, head_of, kept_head, kept, send_begun};
 
 use crate::call::{Answer, Call, CallName, Move, SendAnswer};
 use crate::head::Head;
 use crate::publisher::{LanePublisher, LoanAnswer, LoanMark};
+use crate::sequences::{number_after, put_number};
 use iox_lanes_base::calls::{PublisherCall, Route};
 use iox_lanes_base::words::SharedAccess;
 use std::alloc::{AllocError, Global};
 use std::marker::Model;
 
-/// A publisher, the header and user header that each of its slots will be sent with, whether its sends fail at a full mailbox, and
-/// the call that it began last.
+/// A publisher, the header and user header that each of its slots will be sent with, whether its sends fail at a full mailbox, the
+/// number that it gave last, if messages have numbers, and the call that it began last.
 #[derive(Drop)]
 pub struct PublisherLane {
     port: LanePublisher,
     fails: bool,
     heads: Vec<Head>,
+    last: Option<u64>,
     call: CallName,
     first: u64,
 }
@@ -32,18 +34,34 @@ impl Model for PublisherLane {
 
     ghost Value = { PublisherLaneState };
 
-    ghost view = { λ l. record { port = l.port; fails = l.fails; heads = l.heads.items; call = l.call; first = l.first } };
+    ghost view = { λ l. record {
+      port = l.port;
+      fails = l.fails;
+      heads = l.heads.items;
+      last = l.last;
+      call = l.call;
+      first = l.first;
+    } };
 }
 
 impl PublisherLane {
-    /// A publisher between calls whose slots will be sent with these headers, and whose sends don't fail at a full mailbox.
+    /// A publisher between calls whose slots will be sent with these headers, whose sends don't fail at a full mailbox, and whose messages
+    /// have no numbers.
     pub fn new(port: LanePublisher, heads: Vec<Head>) -> PublisherLane
-        ensures { result ≡ record { port = port; fails = false; heads = heads.items; call = CallName.LoanUninit; first = 0 } }
+        ensures { result ≡ record {
+          port = port;
+          fails = false;
+          heads = heads.items;
+          last = None;
+          call = CallName.LoanUninit;
+          first = 0;
+        } }
     {
         PublisherLane {
             port,
             fails: false,
             heads,
+            last: None,
             call: CallName::LoanUninit,
             first: 0,
         }
@@ -123,21 +141,38 @@ impl PublisherLane {
     // Keeps the user header of a slot for its send.
     fn keep(&mut self, slot: u64, user_header: &[u64])
         requires there { index_of slot self.old < length self.old.heads }
-        requires width { 3 + length user_header.now ≡ length (head_of slot self.old) }
+        requires width { 3 + length user_header.now ≡ length (kept_head slot self.old) }
         ensures { self.new ≡ kept slot user_header.now self.old }
     {
         let index = self.index(slot);
         self.heads[index].keep(user_header);
     }
 
+    /// The words of header and user header that a send of a slot stores now: with the next number, where messages have numbers. Fails only
+    /// where an allocation fails.
+    pub fn head(&self, alloc: Global, slot: u64) -> Result<Vec<u64>, AllocError>
+        ensures { IfOk result (λ words. words.items ≡ head_of slot self.now) }
+    {
+        let head = match self.heads.get(self.index(slot)) {
+            Some(head) => head.words(),
+            None => &[],
+        };
+        let mut words = Vec::from_slice(alloc, head)?;
+        put_number(&mut words, number_after(self.last));
+        Ok(words)
+    }
+
     fn begin_send(&mut self, slot: u64)
         requires idle { publisher_is_idle self.old.port.call ≡ true }
         requires there { index_of slot self.old < length self.old.heads }
-        requires width { length (head_of slot self.old) ≡ length self.old.port.head }
+        requires width { length (kept_head slot self.old) ≡ length self.old.port.head }
         ensures { self.new ≡ send_begun slot self.old }
     {
         let index = self.index(slot);
-        self.port.begin_send(slot, self.heads[index].words());
+        let number = number_after(self.last);
+        self.port
+            .begin_send(slot, self.heads[index].words(), number);
+        self.last = number;
     }
 
     /// The access that comes next.
@@ -227,6 +262,13 @@ impl PublisherLane {
         self.fails
     }
 
+    /// The number that it gave last, or the one before the first; None where messages have no numbers.
+    pub fn last_sequence(&self) -> Option<u64>
+        ensures { result ≡ self.now.last }
+    {
+        self.last
+    }
+
     /// Of how many of the last messages its history is.
     pub fn kept(&self) -> usize
         ensures { result ≡ self.now.port.book.kept }
@@ -313,11 +355,13 @@ impl PublisherLane {
         self.heads.truncate(slots as usize);
     }
 
-    /// From now on the headers of its messages say this node and this publisher, and its sends fail at a full mailbox or don't.
-    pub fn name(&mut self, node_id: u64, publisher_id: u64, fails: bool)
-        ensures { self.new ≡ lane_named node_id publisher_id fails self.old }
+    /// From now on the headers of its messages say this node and this publisher, its sends fail at a full mailbox or don't, and its next
+    /// message gets the number behind `last`; None where messages have no numbers.
+    pub fn name(&mut self, node_id: u64, publisher_id: u64, fails: bool, last: Option<u64>)
+        ensures { self.new ≡ lane_named node_id publisher_id fails last self.old }
     {
         self.fails = fails;
+        self.last = last;
         for head in self.heads.iter_mut() {
             head.name(node_id, publisher_id);
         }

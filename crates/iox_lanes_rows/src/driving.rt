@@ -26,6 +26,7 @@ pub(crate) struct Service {
     pub(crate) overflow: bool,
     pub(crate) buffer: u64,
     pub(crate) history: u64,
+    pub(crate) numbered: bool,
 }
 
 /// Who answers at a full mailbox.
@@ -48,6 +49,7 @@ pub(crate) struct Plan {
     pub(crate) allocation: AllocationStrategy,
     pub(crate) strategy: BackpressureStrategy,
     pub(crate) asked: Asked,
+    pub(crate) first_sequence: u64,
 }
 
 /// A publisher of three loans, of single values, that discards at a full mailbox.
@@ -58,6 +60,7 @@ pub(crate) const PLAIN: Plan = Plan {
     allocation: AllocationStrategy::Static,
     strategy: BackpressureStrategy::DiscardData,
     asked: Asked::Nobody,
+    first_sequence: 1,
 };
 
 /// The same, whose sends fail at a full mailbox.
@@ -96,6 +99,8 @@ pub(crate) enum Step {
     Spare(u64),
     /// A subscriber receives this value and releases it.
     Take(u64, u64),
+    /// A subscriber receives this value, whose message has this number, and releases it.
+    TakeNumbered(u64, u64, u64),
     /// A subscriber receives nothing.
     Nothing(u64),
     /// A publisher follows the subscribers.
@@ -160,6 +165,7 @@ fn described(service: &Service) -> Option<Description> {
     config.enable_safe_overflow = service.overflow;
     config.subscriber_max_buffer_size = service.buffer;
     config.history_size = service.history;
+    config.sequence_numbers = service.numbered;
     config.subscriber_max_borrowed_samples = 2;
     config.max_publishers = 2;
     config.max_subscribers = 3;
@@ -258,6 +264,7 @@ fn publishes(
         values: plan.values,
         unit: 1,
         allocation: plan.allocation,
+        first_sequence: plan.first_sequence,
     };
     match domain
         .state
@@ -462,6 +469,17 @@ fn holds(
     }
 }
 
+// Whether the message of the sample that is kept has this number.
+fn is_numbered(domain: &Numbers, kept: &Kept, sequence: u64) -> bool {
+    match kept.sample {
+        Some(sample) => match domain.state.ports.header(sample) {
+            Some(header) => header.sequence() == Some(sequence),
+            None => false,
+        },
+        None => false,
+    }
+}
+
 fn release(domain: &mut Numbers, kept: &Kept, number: u64) -> bool {
     match kept.sample {
         Some(sample) => domain.state.ports.release(number, sample),
@@ -515,6 +533,13 @@ fn hands_on(
         Step::Hold(number, value) => holds(domain, kept, alloc, number, value),
         Step::Take(number, value) => {
             Ok(holds(domain, kept, alloc, number, value)? && release(domain, kept, number))
+        }
+        Step::TakeNumbered(number, value, sequence) => {
+            Ok(
+                holds(domain, kept, alloc, number, value)?
+                    && is_numbered(domain, kept, sequence)
+                    && release(domain, kept, number),
+            )
         }
         Step::Nothing(number) => Ok(receive(domain, alloc, number)? == Some(None)),
         Step::Update(number) => follows(domain.state.update_publisher(alloc, number)),

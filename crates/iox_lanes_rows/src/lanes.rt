@@ -10,10 +10,14 @@ use std::alloc::{AllocError, Global};
 pub(crate) enum Lane {
     /// A subscriber receives and reads a message of the publisher of this number, of this value, and releases it.
     Gets(usize, u64, u64),
+    /// The same, of a message that has this number, before the value.
+    GetsNumbered(usize, u64, u64, u64),
     /// It receives nothing.
     Nothing(usize),
     /// A publisher sends a value: so many connections take it, and so many refuse it.
     Sends(usize, u64, u64, u64),
+    /// A publisher sends a value in a message that gets a number: so many connections take it, and so many refuse it.
+    SendsNumbered(usize, u64, u64, u64),
     /// A publisher sends a value that it is unable to deliver: so many connections take it all the same, and so many refuse it.
     Fails(usize, u64, u64, u64),
     /// A publisher lends so many slots, and then this is answered.
@@ -24,6 +28,8 @@ pub(crate) enum Lane {
     Waited(usize, usize, u64),
     /// The message of a number is of the publisher of this number, and has this value.
     Message(usize, u64, u64),
+    /// The same, of a message that has this number, before the value.
+    MessageNumbered(usize, u64, u64, u64),
     /// So many messages have numbers.
     Messages(usize),
     /// An entry of the order of a connection puts or takes the message of this number.
@@ -53,8 +59,8 @@ fn whole(lanes: &mut RecordedLanes, party: Party, call: Call) -> Option<Answer> 
     None
 }
 
-// Whether a subscriber receives, reads and releases such a message.
-fn gets(lanes: &mut RecordedLanes, place: usize, number: u64, value: u64) -> bool {
+// Whether a subscriber receives, reads and releases a message of these words.
+fn gets(lanes: &mut RecordedLanes, place: usize, words: &[u64]) -> bool {
     let party = Party::Subscriber(place);
     let Some(Answer::Received(Receipt::Taken { slot, .. })) = whole(lanes, party, Call::Receive)
     else {
@@ -62,7 +68,7 @@ fn gets(lanes: &mut RecordedLanes, place: usize, number: u64, value: u64) -> boo
     };
     let before = lanes.lanes().words_read().len();
     let is_read = whole(lanes, party, Call::Read { sample: slot }).is_some();
-    let is_right = lanes.lanes().words_read().get(before..) == Some(&[8, number, 1, 6, value]);
+    let is_right = lanes.lanes().words_read().get(before..) == Some(words);
     let is_back = whole(lanes, party, Call::Release { sample: slot });
     is_read && is_right && is_back == Some(Answer::Released(true))
 }
@@ -79,9 +85,9 @@ fn lend(lanes: &mut RecordedLanes, place: usize) -> Option<LoanAnswer> {
     }
 }
 
-// The call that writes a value into a loan.
-fn write(alloc: Global, loan: u64, value: u64) -> Result<Call, AllocError> {
-    let user_header = Vec::from_slice(alloc, &[6])?;
+// The call that writes a value and these words between header and payload into a loan.
+fn write(alloc: Global, loan: u64, middle: &[u64], value: u64) -> Result<Call, AllocError> {
+    let user_header = Vec::from_slice(alloc, middle)?;
     Ok(Call::Write {
         loan,
         payload: Vec::from_slice(alloc, &[value])?,
@@ -101,12 +107,13 @@ fn send(
     alloc: Global,
     lanes: &mut RecordedLanes,
     place: usize,
+    middle: &[u64],
     value: u64,
 ) -> Result<Option<Answer>, AllocError> {
     let Some(LoanAnswer::Slot(loan)) = lend(lanes, place) else {
         return Ok(None);
     };
-    match write(alloc, loan, value) {
+    match write(alloc, loan, middle, value) {
         Ok(write) => Ok(send_loan(lanes, place, loan, write)),
         Err(error) => Err(error),
     }
@@ -146,6 +153,21 @@ fn is_message(lanes: &RecordedLanes, number: usize, publisher: u64, value: u64) 
     is_whole && message.values::<u64, u8>() == Some((6, value))
 }
 
+// The same, of a message that has this number: that is the fourth word of its header.
+fn is_message_numbered(
+    lanes: &RecordedLanes,
+    number: usize,
+    publisher: u64,
+    sequence: u64,
+    value: u64,
+) -> bool {
+    let Some(message) = lanes.message(number) else {
+        return false;
+    };
+    let is_whole = message.words() == [8, publisher, 1, sequence, 6, value].as_slice();
+    is_whole && message.values::<u64, [u64; 2]>() == Some(([sequence, 6], value))
+}
+
 fn begins(lanes: &mut RecordedLanes, party: Party) -> bool {
     let call = match party {
         Party::Publisher(_) => Call::LoanUninit,
@@ -157,20 +179,30 @@ fn begins(lanes: &mut RecordedLanes, party: Party) -> bool {
 // Whether a step of the lanes goes so.
 fn goes(alloc: Global, lanes: &mut RecordedLanes, step: &Lane) -> Result<bool, AllocError> {
     Ok(match *step {
-        Lane::Gets(place, number, value) => gets(lanes, place, number, value),
+        Lane::Gets(place, number, value) => gets(lanes, place, &[8, number, 1, 6, value]),
+        Lane::GetsNumbered(place, number, sequence, value) => {
+            gets(lanes, place, &[8, number, 1, sequence, 6, value])
+        }
         Lane::Nothing(place) => gets_nothing(lanes, place),
         Lane::Sends(place, value, taken, refused) => {
             let told = SendAnswer::Delivered(Delivery { taken, refused });
-            send(alloc, lanes, place, value)? == Some(Answer::Sent(told))
+            send(alloc, lanes, place, &[6], value)? == Some(Answer::Sent(told))
+        }
+        Lane::SendsNumbered(place, value, taken, refused) => {
+            let told = SendAnswer::Delivered(Delivery { taken, refused });
+            send(alloc, lanes, place, &[0, 6], value)? == Some(Answer::Sent(told))
         }
         Lane::Fails(place, value, taken, refused) => {
             let told = SendAnswer::UnableToDeliver(Delivery { taken, refused });
-            send(alloc, lanes, place, value)? == Some(Answer::Sent(told))
+            send(alloc, lanes, place, &[6], value)? == Some(Answer::Sent(told))
         }
         Lane::Lends(place, count, last) => lends(lanes, place, count, last),
         Lane::Keeps(place, count) => keeps(lanes, place, count),
         Lane::Waited(connection, count, limit) => waited(lanes, connection, count, limit),
         Lane::Message(number, publisher, value) => is_message(lanes, number, publisher, value),
+        Lane::MessageNumbered(number, publisher, sequence, value) => {
+            is_message_numbered(lanes, number, publisher, sequence, value)
+        }
         Lane::Messages(count) => lanes.len() == count,
         Lane::Numbered(connection, at, number) => lanes.number(connection, at) == Some(number),
         Lane::Begins(party) => begins(lanes, party),

@@ -13,6 +13,13 @@ pub(crate) const OVERFLOWING: Service = Service {
     overflow: true,
     buffer: 3,
     history: 0,
+    numbered: false,
+};
+
+/// A service whose messages have numbers.
+pub(crate) const NUMBERED: Service = Service {
+    numbered: true,
+    ..OVERFLOWING
 };
 
 pub(crate) const REFUSING: Service = Service {
@@ -20,6 +27,7 @@ pub(crate) const REFUSING: Service = Service {
     overflow: false,
     buffer: 2,
     history: 0,
+    numbered: false,
 };
 
 pub(crate) const REMEMBERING: Service = Service {
@@ -27,6 +35,7 @@ pub(crate) const REMEMBERING: Service = Service {
     overflow: true,
     buffer: 2,
     history: 2,
+    numbered: false,
 };
 
 // Two publishers, and three subscribers for which one, two and three messages may wait.

@@ -14,6 +14,7 @@ const OVERFLOWING: Service = Service {
     overflow: true,
     buffer: 2,
     history: 1,
+    numbered: false,
 };
 
 // A service whose mailboxes hold one message, and refuse more.
@@ -22,6 +23,7 @@ const REFUSING: Service = Service {
     overflow: false,
     buffer: 1,
     history: 0,
+    numbered: false,
 };
 
 // A service of slices.
@@ -30,6 +32,13 @@ const SLICES: Service = Service {
     overflow: true,
     buffer: 1,
     history: 0,
+    numbered: false,
+};
+
+// A service whose messages have numbers.
+const NUMBERED: Service = Service {
+    numbered: true,
+    ..OVERFLOWING
 };
 
 // A publisher that waits at a full mailbox.
@@ -247,6 +256,36 @@ const EMPTY: [Step; 6] = [
     Step::Refused(IntoLanesError::HasSlices),
 ];
 
+// A publisher whose last number before any send is 2^63 - 1.
+const FAR: Plan = Plan {
+    first_sequence: 1 << 63,
+    ..PLAIN
+};
+
+// A publisher of messages of two values, whose last number is 2^63.
+const WIDE_AND_FAR: Plan = Plan {
+    first_sequence: (1 << 63) + 1,
+    ..WIDE
+};
+
+const NUMBERS: [Step; 7] = [
+    Step::Subscribe(1, None),
+    Step::Come(2, FAR),
+    Step::Follow(1),
+    Step::May,
+    Step::Put(2, 5, Sent::Delivered(1)),
+    Step::Refused(IntoLanesError::SequenceTooLarge),
+    Step::TakeNumbered(1, 5, 1 << 63),
+];
+
+// That is told before.
+const WIDE_NUMBERS: [Step; 4] = [
+    Step::Come(1, WIDE_AND_FAR),
+    Step::Refused(IntoLanesError::HasSlices),
+    Step::Leave(1),
+    Step::May,
+];
+
 // A publisher that is listed at two places.
 const RELISTED: [Step; 4] = [
     Step::Come(1, PLAIN),
@@ -258,7 +297,7 @@ const RELISTED: [Step; 4] = [
 // It is listed so still where it is handed back.
 const STILL_RELISTED: [Step; 1] = [Step::Refused(IntoLanesError::Unsound)];
 
-const CASES: [Case; 15] = [
+const CASES: [Case; 17] = [
     Case {
         name: "a send that waits",
         service: &REFUSING,
@@ -330,6 +369,19 @@ const CASES: [Case; 15] = [
         ways: &[Way::Calls(&EMPTY)],
     },
     Case {
+        name: "a last number of 2^63",
+        service: &NUMBERED,
+        ways: &[
+            Way::Calls(&NUMBERS),
+            Way::Opens(Err(IntoLanesError::SequenceTooLarge)),
+        ],
+    },
+    Case {
+        name: "a last number of 2^63, and messages of two values",
+        service: &NUMBERED,
+        ways: &[Way::Calls(&WIDE_NUMBERS)],
+    },
+    Case {
         name: "a publisher that is listed twice",
         service: &OVERFLOWING,
         ways: &[
@@ -345,7 +397,7 @@ fn each_reason_is_told_where_it_applies(rt: HostRuntime) -> Result<(), AllocErro
     go_all(&rt, rt.alloc(), &CASES)
 }
 
-const TEXTS: [(IntoLanesError, &str); 9] = [
+const TEXTS: [(IntoLanesError, &str); 10] = [
     (IntoLanesError::Blocked, "IntoLanesError::Blocked"),
     (
         IntoLanesError::ConnectionsNotUpToDate,
@@ -357,6 +409,10 @@ const TEXTS: [(IntoLanesError, &str); 9] = [
     (IntoLanesError::Lingering, "IntoLanesError::Lingering"),
     (IntoLanesError::HasSlices, "IntoLanesError::HasSlices"),
     (IntoLanesError::Unsound, "IntoLanesError::Unsound"),
+    (
+        IntoLanesError::SequenceTooLarge,
+        "IntoLanesError::SequenceTooLarge",
+    ),
     (IntoLanesError::OutOfMemory, "IntoLanesError::OutOfMemory"),
 ];
 

@@ -1,7 +1,7 @@
 //! What lanes leave in the domain that they become again.
 use crate::driving::Step;
 use crate::lanes::Lane;
-use crate::openings::{FULL, KEPT, OVERFLOWING, PORTS, REFUSING, REMEMBERING};
+use crate::openings::{FULL, KEPT, NUMBERED, OVERFLOWING, PORTS, REFUSING, REMEMBERING};
 use crate::ways::{Case, Way, go_all};
 use iox_domain_ports::Sent;
 use iox_lanes::IntoDomainError;
@@ -56,7 +56,31 @@ const BEGUN: [Lane; 1] = [Lane::Begins(Party::Subscriber(0))];
 
 const GOES_ON: [Lane; 1] = [Lane::Lends(0, 0, LoanAnswer::ExceedsMaxLoans)];
 
-const CASES: [Case; 5] = [
+// The first message is taken; two wait, the second and a third that is sent.
+const NUMBERED_STEPS: [Lane; 6] = [
+    Lane::Messages(2),
+    Lane::MessageNumbered(0, 2, 1, 7),
+    Lane::GetsNumbered(0, 2, 1, 7),
+    Lane::SendsNumbered(0, 9, 1, 0),
+    Lane::MessageNumbered(2, 2, 3, 9),
+    Lane::GetsNumbered(0, 2, 2, 8),
+];
+
+const NUMBERED_PORTS: [Step; 5] = [
+    Step::Subscribe(1, None),
+    Step::Publish(2, 2, None),
+    Step::Follow(1),
+    Step::Put(2, 7, Sent::Delivered(1)),
+    Step::Put(2, 8, Sent::Delivered(1)),
+];
+
+const NUMBERS_GO_ON: [Step; 3] = [
+    Step::TakeNumbered(1, 9, 3),
+    Step::Put(2, 10, Sent::Delivered(1)),
+    Step::TakeNumbered(1, 10, 4),
+];
+
+const CASES: [Case; 6] = [
     Case {
         name: "no step between",
         service: &OVERFLOWING,
@@ -87,6 +111,17 @@ const CASES: [Case; 5] = [
             Way::Lanes(&ONE_MORE),
             Way::Returns(Ok(())),
             Way::Calls(&REMEMBERED),
+        ],
+    },
+    Case {
+        name: "numbers come back and go on",
+        service: &NUMBERED,
+        ways: &[
+            Way::Calls(&NUMBERED_PORTS),
+            Way::Opens(Ok(())),
+            Way::Lanes(&NUMBERED_STEPS),
+            Way::Returns(Ok(())),
+            Way::Calls(&NUMBERS_GO_ON),
         ],
     },
     Case {

@@ -11,6 +11,7 @@ const SERVICE_1: Service = Service {
     overflow: true,
     buffer: 1,
     history: 1,
+    numbered: false,
 };
 
 // As many messages stand in the history, wait for the subscriber, and are in the lanes.
@@ -33,6 +34,7 @@ const SERVICE_2: Service = Service {
     overflow: true,
     buffer: 2,
     history: 2,
+    numbered: false,
 };
 
 // As many messages stand in the history, wait for the subscriber, and are in the lanes.
@@ -55,6 +57,7 @@ const SERVICE_7: Service = Service {
     overflow: true,
     buffer: 7,
     history: 7,
+    numbered: false,
 };
 
 // As many messages stand in the history, wait for the subscriber, and are in the lanes.
@@ -77,6 +80,7 @@ const SERVICE_64: Service = Service {
     overflow: true,
     buffer: 64,
     history: 64,
+    numbered: false,
 };
 
 // As many messages stand in the history, wait for the subscriber, and are in the lanes.
@@ -99,6 +103,7 @@ const SERVICE_1000: Service = Service {
     overflow: true,
     buffer: 1_000,
     history: 1_000,
+    numbered: false,
 };
 
 // As many messages stand in the history, wait for the subscriber, and are in the lanes.

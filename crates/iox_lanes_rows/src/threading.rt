@@ -16,6 +16,7 @@ const SERVICE: Service = Service {
     overflow: true,
     buffer: 3,
     history: 1,
+    numbered: false,
 };
 
 // Two publishers, and two subscribers of each of which a message of each waits.
@@ -68,6 +69,7 @@ const NARROW: Service = Service {
     overflow: false,
     buffer: 1,
     history: 0,
+    numbered: false,
 };
 
 // Two publishers, of which the first one fails at a full mailbox.

@@ -1,7 +1,7 @@
 -- Lanes that were made stand for a service at which ports came and nothing was lent or sent.
 use Rattle.std.proofs.Common.{ℕ, zero, suc, ◌≡◌, ◌+◌, ◌-◌, ◌*◌, ◌/◌, ◌%◌, ◌<◌, ◌≤◌, ◌==◌, ◌⊎◌, Bool, true, false, nat_lt, if◌then◌else◌}
 use Rattle.std.proofs.Common.{List, [], ◌∷◌, ◌++◌}
-use Rattle.std.proofs.Common.{map, get_or, replicate, slice_get, Option, Some, None, refl, sym, ◌∙◌, ap, subst, inl, inr, arith}
+use Rattle.std.proofs.Common.{map, get_or, is_some, replicate, slice_get, Option, Some, None, refl, sym, ◌∙◌, ap, subst, inl, inr, arith}
 use Rattle.std.specs.Option.{option_map_or}
 use Rattle.std.proofs.lemmas.Bool.{eq-eqb, cases_lt}
 use Rattle.std.proofs.lemmas.List.{length-replicate, map-append, get_or_past}
@@ -174,6 +174,7 @@ module _ {T : Type 0} (choices : Choices T) (value : List ℕ → T) (names : La
         ∙ sym (map_listed (λ (route : Route). reader_name names m.links route.connection)
         (λ subscriber. route_to sizes (place * sizes.subscribers + subscriber)) names.subscriber sizes.subscribers
         (λ q b. reader_is place q below b));
+    last = h.last;
     history = h.history;
     numbers = record {
       apart = λ one other own_one own_other used_one used_other e. absurd (none_used place one used_one);
@@ -216,6 +217,11 @@ module _ {T : Type 0} (choices : Choices T) (value : List ℕ → T) (names : La
   pub new_stands : LanesStandFor choices value names [] [] m service
   new_stands = record {
     between = between;
+    numbers = record {
+      wide = λ is. not_both names.numbered is u.unnumbered;
+      each = λ place lane found. ap (λ (l : PublisherLaneState). is_some l.last) (publisher_is place lane found).1 ∙ sym u.unnumbered;
+      low = λ place lane last found is. absurd (no_last place lane last found is);
+    };
     publishers = λ place lane found.
         let it = publisher_is place lane found in
         let one = u.publishers place it.0 in (
@@ -281,6 +287,13 @@ module _ {T : Type 0} (choices : Choices T) (value : List ℕ → T) (names : La
     samples_all = λ connection link slot found. sym (ap one_if (none_borrowed connection slot link.subscriber));
   }
     where
+      no_last : (place : ℕ) (lane : PublisherLaneState) (last : ℕ) → slice_get m.publishers place ≡ Some lane → lane.last ≡ Some last → ⊥
+      no_last place lane last found is =
+          none (sym (ap (λ (l : PublisherLaneState). l.last) (publisher_is place lane found).1) ∙ is)
+        where
+          none : None ≡ Some last → ⊥
+          none e = cc e
+
       nothing : (index : ℕ) (entry : ℕ × LaneLoan) → slice_get [] index ≡ Some entry → ⊥
       nothing index entry is = cc is
 

@@ -1,5 +1,5 @@
 -- Which parts of what lanes stand for stay through a call.
-use Rattle.std.proofs.Common.{ℕ, ◌≡◌, ◌<◌, Bool, List, [], ◌∷◌, length, map, slice_get, Some, None, refl, sym}
+use Rattle.std.proofs.Common.{ℕ, ◌≡◌, ◌<◌, Bool, List, [], ◌∷◌, length, map, slice_get, Option, Some, None, refl, sym}
 use Rattle.std.proofs.Common.{◌∙◌, ap, if◌then◌else◌, arith}
 use Rattle.iox_lanes_machine.specs.LanesBase.declared.calls.route.Route.{Route}
 use Rattle.iox_lanes_machine.specs.LanesParties.Parties.{PublisherLaneState, SubscriberLaneState}
@@ -8,7 +8,7 @@ use Rattle.iox_lanes_machine.specs.LedgerUses.{count, IsOwn}
 use Rattle.iox_lanes_machine.specs.Links.{LinkState}
 use Rattle.iox_lanes_machine.specs.World.{World}
 use Rattle.iox_lanes_laws.specs.Messages.{payload_held}
-use Rattle.iox_lanes_service.specs.Naming.{LaneNaming, LaneLoan, reader_name, writer_name, slot_message, has_written}
+use Rattle.iox_lanes_service.specs.Naming.{LaneNaming, LaneLoan, reader_name, writer_name, slot_message, slot_sequence, has_written}
 use Rattle.iox_lanes_service.specs.Naming.{loan_by_numbers}
 use Rattle.iox_lanes_service.specs.Ports.{NumbersOwn, LanePublisherIs, LaneSubscriberIs}
 use Rattle.iox_lanes_service.proofs.Tables.{map_same}
@@ -41,11 +41,26 @@ numbers_kept name now m n lane after first next own used same h = record {
   ahead = h.ahead;
 }
 
+-- a slot holds the same payload, and in its header the same number, if sends number their messages
+abbrev pub HoldsSame : Bool → World → World → ℕ → Type 0
+HoldsSame numbered m n slot =
+    (payload_held n.table slot ≡ payload_held m.table slot) × (slot_sequence numbered n.table slot ≡ slot_sequence numbered m.table slot)
+
 module _ {T : Type 0} (choices : Choices T) (value : List ℕ → T) (names : LaneNaming) where
   -- the message in a slot that holds the same
-  pub same_message : (m n : World) (slot : ℕ) → payload_held n.table slot ≡ payload_held m.table slot
+  pub same_message : (m n : World) (slot : ℕ) → HoldsSame names.numbered m n slot
       → slot_message value names n.table slot ≡ slot_message value names m.table slot
-  same_message m n slot e = ap (λ (words : List ℕ). record { number = names.message slot; values = value words ∷ [] }) e
+  same_message m n slot e =
+      ap (λ (words : List ℕ). record {
+        number = names.message slot;
+        sequence = slot_sequence names.numbered n.table slot;
+        values = value words ∷ [];
+      }) e.0
+      ∙ ap (λ (o : Option ℕ). record {
+        number = names.message slot;
+        sequence = o;
+        values = value (payload_held m.table slot) ∷ [];
+      }) e.1
 
   -- a publisher that no step touched
   pub publisher_kept : (m n : World) (old new : Service T) (place : ℕ) (lane : PublisherLaneState) (publisher : Publisher T)
@@ -64,6 +79,7 @@ module _ {T : Type 0} (choices : Choices T) (value : List ℕ → T) (names : La
     room = h.room;
     connected = h.connected ∙ sym (ap (λ (ls : List LinkState). map (λ (route : Route). reader_name names ls route.connection)
         lane.port.routes) links);
+    last = h.last;
     history = h.history ∙ sym (map_same (slot_message value names n.table) (slot_message value names m.table) lane.port.book.history
         messages);
     numbers = numbers_kept names.message names.message m n lane lane publisher.first publisher.next (λ slot own. own) used

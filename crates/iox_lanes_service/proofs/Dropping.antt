@@ -20,7 +20,6 @@ use Rattle.iox_lanes_machine.specs.Links.{LinkState}
 use Rattle.iox_lanes_machine.specs.Resting.{mail_at}
 use Rattle.iox_lanes_machine.specs.World.{World}
 use Rattle.iox_lanes_machine.proofs.Owned.{histories_are_own}
-use Rattle.iox_lanes_laws.specs.Messages.{payload_held}
 use Rattle.iox_lanes_laws.specs.Publishing.{OnlyPublisher, HistoryStays, LoanEnds, is_loan}
 use Rattle.iox_lanes_laws.specs.Turns.{MailStays}
 use Rattle.iox_lanes_laws.proofs.Ends.{publisher_there}
@@ -32,10 +31,10 @@ use Rattle.iox_lanes_service.specs.Naming.{slots_lent_at}
 use Rattle.iox_lanes_service.specs.Ports.{LanePublisherIs, passing_over}
 use Rattle.iox_lanes_service.specs.Standing.{LanesStandFor}
 use Rattle.iox_lanes_service.proofs.Beside.{one_does}
-use Rattle.iox_lanes_service.proofs.Carrying.{numbers_kept, same_message}
+use Rattle.iox_lanes_service.proofs.Carrying.{HoldsSame, numbers_kept, same_message}
 use Rattle.iox_lanes_service.proofs.Holding.{over_borrowed}
 use Rattle.iox_lanes_service.proofs.Lent.{held_before, loans_left, same_left, left_there}
-use Rattle.iox_lanes_service.proofs.Publishing.{WriterCall, writer_call, sent_on}
+use Rattle.iox_lanes_service.proofs.Publishing.{WriterCall, sent_on, sequence_stays, writer_call}
 use Rattle.iox_lanes_service.proofs.Tables.{at_mapped, map_same, counted_stands, once_removed, not_both}
 use Rattle.iox_lanes_service.proofs.Used.{held_waits, held_borrowed, held_there, slot_there}
 use Rattle.iox_machine.specs.Choices.{Choices}
@@ -58,9 +57,9 @@ own_back m n place c before after w slot own =
 module _ {T : Type 0} (choices : Choices T) (value : List ℕ → T) (names : LaneNaming) (lent : List (ℕ × LaneLoan))
     (held : List (ℕ × LaneSample)) (m n : World) (service : Service T) (s : LanesStandFor choices value names lent held m service)
     (place : ℕ) (c : Call) (before after : PublisherLaneState) (w : WriterCall m n place c before after)
-    (held_stays : (slot : ℕ) → IsHeld m slot → payload_held n.table slot ≡ payload_held m.table slot)
+    (last : after.last ≡ before.last) (held_stays : (slot : ℕ) → IsHeld m slot → HoldsSame names.numbered m n slot)
     (kept_stays : (who : ℕ) (lane : PublisherLaneState) (slot : ℕ) → slice_get m.publishers who ≡ Some lane
-    → 0 < count slot lane.port.book.history → payload_held n.table slot ≡ payload_held m.table slot) where
+    → 0 < count slot lane.port.book.history → HoldsSame names.numbered m n slot) where
   -- messages that are held stay
   pub held_message : (slot : ℕ) → IsHeld m slot → slot_message value names n.table slot ≡ slot_message value names m.table slot
   held_message slot h = same_message choices value names m n slot (held_stays slot h)
@@ -108,6 +107,7 @@ module _ {T : Type 0} (choices : Choices T) (value : List ℕ → T) (names : La
     connected = h.connected
         ∙ sym (ap (λ (rs : List Route). map (λ (route : Route). reader_name names n.links route.connection) rs) w.port.routes
         ∙ ap (λ (ls : List LinkState). map (λ (route : Route). reader_name names ls route.connection) before.port.routes) w.links);
+    last = h.last ∙ sym last;
     history = h.history
         ∙ sym (ap (map (slot_message value names n.table)) history
         ∙ map_same (slot_message value names n.table) (slot_message value names m.table) before.port.book.history
@@ -159,8 +159,11 @@ drops_are_steps {T} choices value types buffer = λ names lent held m n service 
     let before = publisher_there m one.publisher c (slice_get m.publishers one.publisher) refl t.begins.0 in
     let w = writer_call m n one.publisher c before.0 t before.1 in
     let law = drops_in_turn m n one.publisher one.slot before.0 w.0 t before.1 w.1.now in
-    let stays : (slot : ℕ) → slot < m.table.sizes.slots → payload_held n.table slot ≡ payload_held m.table slot
-    = λ slot below. w.1.payloads slot below (differ one.slot slot) in
+    let stays : (slot : ℕ) → slot < m.table.sizes.slots → HoldsSame names.numbered m n slot
+    = λ slot below. (
+      w.1.payloads slot below (differ one.slot slot),
+      sequence_stays names.numbered m n one.publisher c before.0 w.0 w.1 s.numbers slot below (unsent one.slot slot),
+    ) in
     let found : at number service.loans ≡ Some (loan_by_numbers value names m one) =
     ap (at number) s.loans ∙ at_mapped (loan_by_numbers value names m) number lent
     ∙ ap (option_map (loan_by_numbers value names m)) there in (
@@ -172,7 +175,7 @@ drops_are_steps {T} choices value types buffer = λ names lent held m n service 
             × (new ≡ record old { loans = removed number old.loans }))
             state service (record service { loans = removed number service.loans }) reply.Done (loan_by_numbers value names m one) found
             (refl, refl),
-        loans_changed choices value names lent held m n service s one.publisher c before.0 w.0 w.1
+        loans_changed choices value names lent held m n service s one.publisher c before.0 w.0 w.1 w.1.last
             (λ slot h. stays slot (held_there m slot w.1.kept w.1.few h))
             (λ who lane slot at_it some.
             let stands = counted_stands lane.port.book.history slot some in
@@ -180,7 +183,7 @@ drops_are_steps {T} choices value types buffer = λ names lent held m n service 
             (removed number lent) (removed number service.loans) law.1 law.2 law.3
             (used_before m n one.publisher one.slot before.0 w.0 w.1 law.1 law.2 law.3 law.4)
             (same_left choices value names lent held m n service s number one there c before.0 w.0 w.1 law.1 (law.4).others
-            (λ slot below off. stays slot below))
+            (λ slot below off. (stays slot below).0))
             (once_removed number lent s.loans_once)
             (left_there choices value names lent held m n service s number one there c before.0 w.0 w.1 law.1)
             (loans_left choices value names lent held m n service s number one there c before.0 w.0 w.1 law.1 (law.4).ended (law.4).others),
@@ -189,6 +192,9 @@ drops_are_steps {T} choices value types buffer = λ names lent held m n service 
   where
     differ : (loan slot : ℕ) → name_of (call.DropLoan loan) ≡ name.Write slot → ⊥
     differ loan slot e = cc e
+
+    unsent : (loan slot : ℕ) → name_of (call.DropLoan loan) ≡ name.Send slot → ⊥
+    unsent loan slot e = cc e
 
     used_before : (m n : World) (place loan : ℕ) (before after : PublisherLaneState)
         → WriterCall m n place (call.DropLoan loan) before after → OnlyPublisher m place n → MailStays m n → HistoryStays before after

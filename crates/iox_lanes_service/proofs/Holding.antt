@@ -14,7 +14,7 @@ use Rattle.iox_lanes_laws.specs.Subscribing.{OnlySubscriber}
 use Rattle.iox_lanes_service.specs.Naming.{LaneNaming, LaneLoan, LaneSample, came_over, slots_held_over, slot_message, sample_by_numbers}
 use Rattle.iox_lanes_service.specs.Standing.{LanesStandFor}
 use Rattle.iox_lanes_service.proofs.Carrying.{same_message}
-use Rattle.iox_lanes_service.proofs.Subscribing.{ReaderCall, one_is}
+use Rattle.iox_lanes_service.proofs.Subscribing.{ReaderCall, one_is, reader_same}
 use Rattle.iox_lanes_service.proofs.Tables.{map_same, entries_same, entry_counted, named}
 use Rattle.iox_lanes_service.proofs.Used.{IsBorrowedOf, held_waits, held_borrowed, held_there, borrows_alike}
 use Rattle.iox_machine.specs.Choices.{Choices}
@@ -64,7 +64,8 @@ module _ {T : Type 0} (choices : Choices T) (value : List ℕ → T) (names : La
   module _ (n : World) (place : ℕ) (before after : SubscriberLaneState) (c : ReaderCall m n place before after) where
     -- the message in a slot that is held stays
     pub held_message : (slot : ℕ) → IsHeld m slot → slot_message value names n.table slot ≡ slot_message value names m.table slot
-    held_message slot h = same_message choices value names m n slot (c.payloads slot (held_there m slot c.kept c.few h))
+    held_message slot h = same_message choices value names m n slot (reader_same names.numbered m n place before after c s.numbers slot
+        (held_there m slot c.kept c.few h))
 
     -- so do those that wait
     pub mail_messages : (connection : ℕ) → map (slot_message value names n.table) (mail_at m connection)

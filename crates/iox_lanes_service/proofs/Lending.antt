@@ -40,18 +40,18 @@ use Rattle.iox_lanes_laws.specs.Turns.{MailStays}
 use Rattle.iox_lanes_laws.proofs.PublisherLaws.{loans_in_turn}
 use Rattle.iox_lanes_service.specs.Laws.{LoansAreSteps, IsLaneStep, loan_replied, with_lent_slot}
 use Rattle.iox_lanes_service.specs.Naming.{LaneNaming, LaneLoan, LaneSample, reader_name, slot_message, loan_by_numbers, lane_mailbox}
-use Rattle.iox_lanes_service.specs.Naming.{has_written}
+use Rattle.iox_lanes_service.specs.Naming.{has_written, slot_sequence}
 use Rattle.iox_lanes_service.specs.Naming.{slots_held_over, slots_lent_at}
 use Rattle.iox_lanes_service.specs.Ports.{LanePublisherIs, NumbersOwn, passing_over}
 use Rattle.iox_lanes_service.specs.Standing.{LanesStandFor}
 use Rattle.iox_lanes_service.proofs.Beside.{one_does, match_some, match_none, match_false}
-use Rattle.iox_lanes_service.proofs.Carrying.{loan_kept}
+use Rattle.iox_lanes_service.proofs.Carrying.{HoldsSame, loan_kept, same_message}
 use Rattle.iox_lanes_service.proofs.Counting.{counted_contained, contained_counted, many_named, many_is, total_all, total_misses}
 use Rattle.iox_lanes_service.proofs.Counting.{filter_keeps}
 use Rattle.iox_lanes_service.proofs.Dropping.{own_back, loans_changed}
 use Rattle.iox_lanes_service.proofs.Holding.{over_borrowed}
 use Rattle.iox_lanes_service.proofs.Lent.{held_before}
-use Rattle.iox_lanes_service.proofs.Publishing.{WriterCall, writer_call, sent_on}
+use Rattle.iox_lanes_service.proofs.Publishing.{WriterCall, sent_on, sequence_stays, writer_call}
 use Rattle.iox_lanes_service.proofs.Subscribing.{lent_own, lent_there, one_is}
 use Rattle.iox_lanes_service.proofs.Tables.{at_changed, at_changed_other, map_same, counted_stands, entries_same, appended_entry}
 use Rattle.iox_lanes_service.proofs.Tables.{appended_slots}
@@ -228,12 +228,17 @@ module _ {T : Type 0} (choices : Choices T) (value : List ℕ → T) (names : La
       let stands = counted_stands lane.port.book.history x some in
       (histories_are_own m w.kept w.few p lane found).own stands.0 x stands.1
 
+  -- and the same numbers
+  same : (x : ℕ) → x < m.table.sizes.slots → HoldsSame names.numbered m n x
+  same x below =
+      (stays x below, sequence_stays names.numbered m n place call.LoanUninit before after w s.numbers x below (λ e. absurd (cc e)))
+
   -- where nothing is lent, nothing changes
   pub unchanged : ((x : ℕ) → loan_of x after.port.book ≡ loan_of x before.port.book) → LanesStandFor choices value names lent held n service
   unchanged marks =
-      loans_changed choices value names lent held m n service s place call.LoanUninit before after w
-      (λ x h. stays x (held_there m x w.kept w.few h))
-      (λ p lane x found some. stays x (slot_there m p x w.kept (history_there p lane x found some)))
+      loans_changed choices value names lent held m n service s place call.LoanUninit before after w w.last
+      (λ x h. same x (held_there m x w.kept w.few h))
+      (λ p lane x found some. same x (slot_there m p x w.kept (history_there p lane x found some)))
       lent service.loans others mail history used
       (s.loans ∙ sym (entries_same (loan_by_numbers value names n) (loan_by_numbers value names m) lent (λ index entry is.
       loan_kept choices value names m n entry.1 (same_loan 0 index entry is (λ y e p. marks y))
@@ -295,8 +300,12 @@ module _ {T : Type 0} (choices : Choices T) (value : List ℕ → T) (names : La
     message_same : (x : ℕ) → (x ≡ slot → ⊥) → x < m.table.sizes.slots
         → slot_message value names_now n.table x ≡ slot_message value names m.table x
     message_same x apart below =
-        ap (λ (k : ℕ). record { number = k; values = value (payload_held n.table x) ∷ [] }) (number_same x apart)
-        ∙ ap (λ (words : List ℕ). record { number = names.message x; values = value words ∷ [] }) (stays x below)
+        ap (λ (k : ℕ). record {
+          number = k;
+          sequence = slot_sequence names.numbered n.table x;
+          values = value (payload_held n.table x) ∷ [];
+        }) (number_same x apart)
+        ∙ same_message choices value names m n x (same x below)
 
     not_held : (x : ℕ) → IsHeld m x → x ≡ slot → ⊥
     not_held x h e = unused (inr (inr (subst (IsHeld m) e h)))
@@ -370,6 +379,7 @@ module _ {T : Type 0} (choices : Choices T) (value : List ℕ → T) (names : La
       connected = (writer.2).connected
           ∙ sym (ap (λ (rs : List Route). map (λ (route : Route). reader_name names n.links route.connection) rs) w.port.routes
           ∙ ap (λ (ls : List LinkState). map (λ (route : Route). reader_name names ls route.connection) before.port.routes) w.links);
+      last = (writer.2).last ∙ sym w.last;
       history = (writer.2).history
           ∙ sym (ap (map (slot_message value names_now n.table)) history
           ∙ map_same (slot_message value names_now n.table) (slot_message value names m.table) before.port.book.history

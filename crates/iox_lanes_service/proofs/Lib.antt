@@ -3,6 +3,7 @@ pub mod Tables
 pub mod Shapes
 pub mod Used
 pub mod Beside
+pub mod Numbers
 pub mod Carrying
 pub mod Subscribing
 pub mod Holding
@@ -20,3 +21,4 @@ pub mod Counting
 pub mod Using
 pub mod Lending
 pub mod Beginning
+pub mod Chaining

@@ -1,13 +1,17 @@
 -- What a call of a publisher leaves of what lanes stand for.
-use Rattle.std.proofs.Common.{ℕ, ◌≡◌, ◌<◌, ◌≤◌, ◌^◌, List, [], map, slice_get, Option, Some, refl, sym}
-use Rattle.std.proofs.Common.{◌∙◌, ap}
+use Rattle.std.proofs.Common.{ℕ, ◌≡◌, ◌+◌, ◌<◌, ◌≤◌, ◌^◌, Bool, List, [], map, is_some, slice_get, Option, Some, None, refl}
+use Rattle.std.proofs.Common.{sym}
+use Rattle.std.proofs.Common.{◌∙◌, ap, arith}
 use Rattle.std.proofs.Common.{subst, inl, inr}
 use Rattle.std.specs.Prelude.{unwrap_or}
 use Rattle.std.specs.Map.{keys_of}
 use Rattle.std.proofs.lemmas.Bool.Decides.{eqb_tells}
+use Rattle.iox_lanes_machine.specs.QueuesSteps.Access.{successor}
 use Rattle.iox_lanes_machine.specs.LanesBase.declared.calls.route.Route.{Route}
+use Rattle.iox_lanes_machine.specs.LanesBase.declared.words.sizes.TableSizes.{TableSizes}
 use Rattle.iox_lanes_machine.specs.LanesParties.Parties.{PublisherLaneState, SubscriberLaneState, name_of}
 use Rattle.iox_lanes_machine.specs.LanesParties.declared.call.Call.{Call}
+use Rattle.iox_lanes_machine.specs.LanesParties.declared.call.CallName.{CallName}
 use Rattle.iox_lanes_machine.specs.LanesParties.declared.call.CallName.TheVariants as name
 use Rattle.iox_lanes_machine.specs.LanesParties.declared.call.Party.TheVariants.{Publisher}
 use Rattle.iox_lanes_machine.specs.Borrowing.{borrows}
@@ -27,10 +31,11 @@ use Rattle.iox_lanes_laws.proofs.Ends.{calls_end_in_turn}
 use Rattle.iox_lanes_laws.proofs.Payloads.{payloads_stay_in_turn, publishers_stay_in_turn}
 use Rattle.iox_lanes_laws.proofs.Publishers.{whole}
 use Rattle.iox_lanes_service.specs.Naming.{LaneNaming, LaneLoan, LaneSample, reader_name, slots_lent_at, loan_by_numbers}
-use Rattle.iox_lanes_service.specs.Naming.{sample_by_numbers, lane_mailbox, slot_message}
+use Rattle.iox_lanes_service.specs.Naming.{sample_by_numbers, lane_mailbox, number_held, slot_message, slot_sequence}
 use Rattle.iox_lanes_service.specs.Ports.{LanePublisherIs, LaneSubscriberIs}
-use Rattle.iox_lanes_service.specs.Standing.{LanesStandFor, CameOverOne, JoinsNoneOf}
+use Rattle.iox_lanes_service.specs.Standing.{LanesStandFor, CameOverOne, JoinsNoneOf, NumbersFit}
 use Rattle.iox_lanes_service.proofs.Carrying.{numbers_kept, subscriber_kept, same_reader}
+use Rattle.iox_lanes_service.proofs.Numbers.{last_behind, lasts_in_turn, numbers_stay_in_turn, same_sequence, sent_in_turn, turn_rises}
 use Rattle.iox_lanes_service.proofs.Tables.{entries_same, map_same}
 use Rattle.iox_lanes_service.proofs.Used.{held_borrowed}
 use Rattle.iox_lanes_service.proofs.Holding.{sample_borrowed}
@@ -52,6 +57,13 @@ pub record WriterCall (m n : World) (place : ℕ) (c : Call) (before after : Pub
   pub now : slice_get n.publishers place ≡ Some after
   pub links : n.links ≡ m.links
   pub port : PublisherStays before after
+  pub sizes : n.table.sizes ≡ m.table.sizes
+  pub rises : m.moments < n.moments
+  pub last : after.last ≡ last_behind (name_of c) before.last
+  pub numbers : (slot : ℕ) → slot < m.table.sizes.slots → 1 ≤ m.table.sizes.user_header_words → (name_of c ≡ name.Send slot → ⊥)
+      → number_held n.table slot ≡ number_held m.table slot
+  pub sent : (slot last : ℕ) → name_of c ≡ name.Send slot → 1 ≤ m.table.sizes.user_header_words → before.last ≡ Some last
+      → number_held n.table slot ≡ successor last
   pub payloads : (slot : ℕ) → slot < m.table.sizes.slots → (name_of c ≡ name.Write slot → ⊥)
       → payload_held n.table slot ≡ payload_held m.table slot
 
@@ -73,9 +85,67 @@ writer_call m n place c before t found =
         now = (stays.1).1;
         links = stays.0.links;
         port = (stays.1).2;
+        sizes = stays.0.sizes;
+        rises = turn_rises m n (Publisher place) c t;
+        last = lasts_in_turn m n place c before (stays.1).0 t found (stays.1).1;
+        numbers = λ slot there wide not. numbers_stay_in_turn m n (Publisher place) c t slot there wide not;
+        sent = λ slot last asked wide is. sent_in_turn m n place slot c before t found asked wide last is;
         payloads = λ slot there not. payloads_stay_in_turn m n (Publisher place) c t slot there not;
       },
     )
+
+is_some_after : (called : CallName) (last : Option ℕ) → is_some (last_behind called last) ≡ is_some last
+is_some_after name.LoanUninit last = refl
+is_some_after (name.Write slot) last = refl
+is_some_after (name.Send slot) None = refl
+is_some_after (name.Send slot) (Some last) = refl
+is_some_after (name.DropLoan slot) last = refl
+is_some_after name.Receive last = refl
+is_some_after (name.Read slot) last = refl
+is_some_after (name.Release slot) last = refl
+
+-- a last number grows by one at most
+at_most_next : (called : CallName) (was : Option ℕ) (last : ℕ) → last_behind called was ≡ Some last
+    → (old : ℕ) × (was ≡ Some old) × (last ≤ old + 1)
+at_most_next name.LoanUninit was last is = (last, is, omega arith)
+at_most_next (name.Write slot) was last is = (last, is, omega arith)
+at_most_next (name.Send slot) None last is = absurd (cc is)
+at_most_next (name.Send slot) (Some old) last is =
+    let next : successor old ≡ last = some_is (successor old) last is in
+    (old, refl, omega (arith, next))
+at_most_next (name.DropLoan slot) was last is = (last, is, omega arith)
+at_most_next name.Receive was last is = (last, is, omega arith)
+at_most_next (name.Read slot) was last is = (last, is, omega arith)
+at_most_next (name.Release slot) was last is = (last, is, omega arith)
+
+-- numbers fit behind a call of a publisher
+writers_fit : (numbered : Bool) (m n : World) (place : ℕ) (c : Call) (before after : PublisherLaneState)
+    → WriterCall m n place c before after → OnlyPublisher m place n → NumbersFit numbered m → NumbersFit numbered n
+writers_fit numbered m n place c before after w others h = record {
+  wide = λ is. subst (λ (s : TableSizes). 1 ≤ s.user_header_words) (sym w.sizes) (h.wide is);
+  each = λ who lane found. elim (eqb_tells who place) [
+    | inl same ↦
+        let is : lane ≡ after = some_is lane after (sym found ∙ ap (slice_get n.publishers) same.1 ∙ w.now) in
+        ap (λ (l : PublisherLaneState). is_some l.last) is ∙ ap (λ (o : Option ℕ). is_some o) w.last
+        ∙ is_some_after (name_of c) before.last ∙ h.each place before w.found
+    | inr apart ↦ h.each who lane (sym (others.publishers who apart.1) ∙ found)
+  ];
+  low = λ who lane last found it. elim (eqb_tells who place) [
+    | inl same ↦
+        let is : lane ≡ after = some_is lane after (sym found ∙ ap (slice_get n.publishers) same.1 ∙ w.now) in
+        let old = at_most_next (name_of c) before.last last
+        (sym w.last ∙ sym (ap (λ (l : PublisherLaneState). l.last) is) ∙ it) in
+        omega (arith, old.2, h.low place before old.0 w.found old.1, w.rises)
+    | inr apart ↦ let was = h.low who lane last (sym (others.publishers who apart.1) ∙ found) it in omega (arith, was, w.rises)
+  ];
+}
+
+-- the number in a slot stays, unless the call sends it
+pub sequence_stays : (numbered : Bool) (m n : World) (place : ℕ) (c : Call) (before after : PublisherLaneState)
+    → WriterCall m n place c before after → NumbersFit numbered m → (slot : ℕ) → slot < m.table.sizes.slots
+    → (name_of c ≡ name.Send slot → ⊥) → slot_sequence numbered n.table slot ≡ slot_sequence numbered m.table slot
+sequence_stays numbered m n place c before after w fit slot there not =
+    same_sequence numbered m n slot (λ is. w.numbers slot there (fit.wide is) not)
 
 module _ {T : Type 0} (choices : Choices T) (value : List ℕ → T) (names : LaneNaming) (now : ℕ → ℕ) (lent then_lent : List (ℕ × LaneLoan))
     (held : List (ℕ × LaneSample)) (m n : World) (place : ℕ) (c : Call) (before after : PublisherLaneState) (service : Service T)
@@ -132,6 +202,7 @@ module _ {T : Type 0} (choices : Choices T) (value : List ℕ → T) (names : La
     room = h.room;
     connected = h.connected ∙ sym (ap (λ (ls : List LinkState). map (λ (route : Route). reader_name names ls route.connection)
         lane.port.routes) d.call.links);
+    last = h.last;
     history = h.history ∙ sym (map_same (slot_message value names_then n.table) (slot_message value names m.table) lane.port.book.history
         (λ slot some. d.remembered who lane slot found apart some));
     numbers = numbers_kept names.message now m n lane lane writer.first writer.next (λ slot own. own)
@@ -157,6 +228,7 @@ module _ {T : Type 0} (choices : Choices T) (value : List ℕ → T) (names : La
       → LanesStandFor choices value names_then then_lent held n service_then
   sent_on d s = record {
     between = d.call.between_then;
+    numbers = writers_fit names.numbered m n place c before after d.call d.others s.numbers;
     publishers = λ who lane found. elim (eqb_tells who place) [
       | inl same ↦
           let is : after ≡ lane = some_is after lane (sym (ap (slice_get n.publishers) same.1 ∙ d.call.now) ∙ found) in

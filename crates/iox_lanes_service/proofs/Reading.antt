@@ -1,7 +1,7 @@
 -- A read that no other call overlaps is one of the machine.
-use Rattle.std.proofs.Common.{ℕ, ◌≡◌, ◌+◌, ◌-◌, ◌<◌, List, [], ◌∷◌, ◌++◌, length, drop, map, slice_get, Some, refl}
-use Rattle.std.proofs.Common.{sym}
-use Rattle.std.proofs.Common.{◌∙◌, ap, subst, nat_lt, arith, length-drop}
+use Rattle.std.proofs.Common.{ℕ, ◌≡◌, ◌+◌, ◌-◌, ◌<◌, ◌≤◌, Bool, true, false, if◌then◌else◌, List, [], ◌∷◌, ◌++◌, length, drop, map, get_or}
+use Rattle.std.proofs.Common.{slice_get, Option, Some, refl, sym, ◌∙◌, ap, subst, nat_lt, arith, length-drop}
+use Rattle.std.proofs.lemmas.Bool.{lt-ltb}
 use Rattle.std.specs.Prelude.{option_map}
 use Rattle.std.specs.Global.{Vec}
 use Rattle.std.specs.Vec.{vec_items}
@@ -12,7 +12,7 @@ use Rattle.iox_command.specs.declared.reply.Reply.TheVariants as reply
 use Rattle.iox_lanes_machine.specs.LanesBase.Table.{TableWords, held_by}
 use Rattle.iox_lanes_machine.specs.LanesBase.declared.words.word.SharedWord.TheVariants.{Slot}
 use Rattle.iox_lanes_machine.specs.LanesBase.declared.words.word.SlotWord.{SlotWord}
-use Rattle.iox_lanes_machine.specs.LanesBase.declared.words.word.SlotWord.TheVariants.{Payload}
+use Rattle.iox_lanes_machine.specs.LanesBase.declared.words.word.SlotWord.TheVariants.{Payload, UserHeader}
 use Rattle.iox_lanes_machine.specs.LanesBase.Subscribing.{word_at}
 use Rattle.iox_lanes_machine.specs.LanesParties.Parties.{SubscriberLaneState, name_of}
 use Rattle.iox_lanes_machine.specs.LanesParties.declared.call.Call.TheVariants as call
@@ -30,8 +30,9 @@ use Rattle.iox_lanes_machine.specs.Resting.{mail_at}
 use Rattle.iox_lanes_laws.proofs.Ends.{subscriber_there}
 use Rattle.iox_lanes_laws.proofs.Samples.{reads_in_turn}
 use Rattle.iox_lanes_laws.proofs.Words.{at_payload}
-use Rattle.iox_lanes_service.specs.Laws.{ReadsAreSteps, payload_read}
+use Rattle.iox_lanes_service.specs.Laws.{NumbersAreTold, ReadsAreSteps, payload_read, sequence_read}
 use Rattle.iox_lanes_service.specs.Naming.{LaneNaming, LaneLoan, LaneSample, sample_by_numbers, lane_mailbox, slots_held_over, slot_message}
+use Rattle.iox_lanes_service.specs.Naming.{slot_sequence}
 use Rattle.iox_lanes_service.specs.Standing.{LanesStandFor}
 use Rattle.iox_lanes_service.proofs.Beside.{one_does}
 use Rattle.iox_lanes_service.proofs.Carrying.{SameReader, same_reader}
@@ -77,16 +78,27 @@ payload_behind table slot =
     ∙ ap (λ (w : ℕ). held_by table (Slot slot (Payload w))) (omega arith)
     ∙ sym (listed_get (λ w. held_by table (Slot slot (Payload w))) table.sizes.payload_words i 0 within))
 
+behind : (xs ys : List ℕ) → drop (length xs) (xs ++ ys) ≡ ys
+behind [] ys = refl
+behind (x ∷ xs) ys = behind xs ys
+
 -- so the payload that a read gave is that of its slot
 pub payload_given : (m n : World) (slot : ℕ) → n.read ≡ m.read ++ slot_held m.table slot → payload_read m n ≡ payload_held m.table slot
 payload_given m n slot e =
     ap (λ (words : List ℕ). drop (3 + m.table.sizes.user_header_words) (drop (length m.read) words)) e
     ∙ ap (drop (3 + m.table.sizes.user_header_words)) (behind m.read (slot_held m.table slot))
     ∙ payload_behind m.table slot
-  where
-    behind : (xs ys : List ℕ) → drop (length xs) (xs ++ ys) ≡ ys
-    behind [] ys = refl
-    behind (x ∷ xs) ys = behind xs ys
+
+-- and the number that it gave is the one in the header of its slot, where headers have a word for it
+pub sequence_given : (numbered : Bool) (m n : World) (slot : ℕ) → (numbered ≡ true → 1 ≤ m.table.sizes.user_header_words)
+    → n.read ≡ m.read ++ slot_held m.table slot → sequence_read numbered m n ≡ slot_sequence numbered m.table slot
+sequence_given false m n slot wide e = refl
+sequence_given true m n slot wide e =
+    ap (λ (words : List ℕ). Some (get_or (drop (length m.read) words) 3 0)) e
+    ∙ ap (λ (words : List ℕ). Some (get_or words 3 0)) (behind m.read (slot_held m.table slot))
+    ∙ ap Some (listed_get (word_of m.table slot) (width m.table.sizes) 3 0 (omega (arith, wide refl)))
+    ∙ ap (λ (b : Bool). Some (held_by m.table (Slot slot (if b then UserHeader 0
+    else Payload (3 - 3 - m.table.sizes.user_header_words))))) (lt-ltb 0 m.table.sizes.user_header_words (wide refl))
 
 module _ {T : Type 0} (choices : Choices T) (value : List ℕ → T) (names : LaneNaming) (lent : List (ℕ × LaneLoan))
     (held : List (ℕ × LaneSample)) (m n : World) (place : ℕ) (before after : SubscriberLaneState) (service : Service T)
@@ -159,3 +171,30 @@ reads_are_steps {T} choices value types buffer = λ names lent held m n service 
   where
     differ : (sample slot : ℕ) → name_of (call.Read sample) ≡ name.Write slot → ⊥
     differ sample slot e = cc e
+
+pub numbers_are_told : {T : Type 0} (choices : Choices T) (value : List ℕ → T) (types : MessageTypeDetails) (buffer : ℕ)
+    → NumbersAreTold choices value types buffer
+numbers_are_told {T} choices value types buffer = λ names lent held m n service state sample one s there t.
+    let before = subscriber_there m one.subscriber (call.Read one.slot) (slice_get m.subscribers one.subscriber) refl t.begins.0 in
+    let c = reader_call m n one.subscriber (call.Read one.slot) before.0 t before.1 (λ slot e. absurd (differ one.slot slot e)) in
+    let law = reads_in_turn m n one.subscriber one.slot before.0 c.0 t before.1 c.1.now in
+    let found : at sample service.samples ≡ Some (sample_by_numbers value names m one) =
+    ap (at sample) s.samples ∙ at_mapped (sample_by_numbers value names m) sample held
+    ∙ ap (option_map (sample_by_numbers value names m)) there in (
+      service,
+      one_does (λ (it : Service T). at sample it.samples)
+          (λ (it : Sample T) (old : Service T) (answered : Reply T) (new : Service T).
+          (answered ≡ reply.Sequence it.message.sequence) × (new ≡ old))
+          state service service (reply.Sequence (sequence_read names.numbered m n)) (sample_by_numbers value names m one) found (
+            ap told (sequence_given names.numbered m n one.slot (λ is. s.numbers.wide is) law.1),
+            refl,
+          ),
+      same_service choices value names lent held m n one.subscriber before.0 c.0 service s c.1 service.subscribers law.2 law.3 law.4
+          (λ other reader is. (reader, is, same_reader choices value names reader)),
+    )
+  where
+    differ : (sample slot : ℕ) → name_of (call.Read sample) ≡ name.Write slot → ⊥
+    differ sample slot e = cc e
+
+    told : Option ℕ → Reply T
+    told o = reply.Sequence o

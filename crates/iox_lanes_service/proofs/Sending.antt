@@ -6,15 +6,17 @@ use Rattle.std.proofs.Common.{if◌then◌else◌, inl, inr}
 use Rattle.std.proofs.Common.{arith}
 use Rattle.std.specs.Prelude.{count_by, option_map}
 use Rattle.std.specs.Option.{option_map_or}
-use Rattle.std.proofs.lemmas.Bool.{eq-eqb}
+use Rattle.std.proofs.lemmas.Bool.{eq-eqb, ne_eqb}
 use Rattle.std.proofs.lemmas.Bool.Decides.{eqb_tells}
 use Rattle.std.proofs.lemmas.List.{length-map, map-append, drop-map}
 use Rattle.std.proofs.lemmas.List.Sums.{sum_by-cons}
 use Rattle.iox_command.specs.DomainValues.Actions.{decision_of}
+use Rattle.iox_command.specs.DomainValues.Sequences.{is_used_up, next_sequence}
 use Rattle.iox_command.specs.DomainValues.declared.port_error.SendError.TheVariants as error
 use Rattle.iox_command.specs.NegotiateBase.DescribeBase.declared.message_type.MessageTypeDetails.{MessageTypeDetails}
 use Rattle.iox_command.specs.declared.refusal.Refusal.TheVariants as refusal
 use Rattle.iox_command.specs.declared.reply.Reply.TheVariants as reply
+use Rattle.iox_lanes_machine.specs.QueuesSteps.Access.{successor}
 use Rattle.iox_lanes_machine.specs.QueuesSteps.Order.{after_put}
 use Rattle.iox_lanes_machine.specs.QueuesSteps.Ends.{overflows}
 use Rattle.iox_lanes_machine.specs.LanesBase.Publishing.{publisher_is_idle}
@@ -24,6 +26,7 @@ use Rattle.iox_lanes_machine.specs.LanesBase.declared.calls.route.Route.{Route}
 use Rattle.iox_lanes_machine.specs.LanesParties.PublisherKeeping.{loan_of}
 use Rattle.iox_lanes_machine.specs.LanesParties.Parties.{PublisherLaneState, SubscriberLaneState, name_of, is_out, is_written}
 use Rattle.iox_lanes_machine.specs.LanesParties.SendAnswers.{send_answer}
+use Rattle.iox_lanes_machine.specs.LanesParties.Sequences.{number_after}
 use Rattle.iox_lanes_machine.specs.LanesParties.declared.call.Call.{Call}
 use Rattle.iox_lanes_machine.specs.LanesParties.declared.call.Call.TheVariants as call
 use Rattle.iox_lanes_machine.specs.LanesParties.declared.call.CallName.TheVariants as name
@@ -37,6 +40,7 @@ use Rattle.iox_lanes_machine.specs.Links.{LinkState}
 use Rattle.iox_lanes_machine.specs.Resting.{AllBetween, Rests, mail_at, mail_by}
 use Rattle.iox_lanes_machine.specs.Owned.{IsSlotOf}
 use Rattle.iox_lanes_machine.specs.Sends.{IsAmong}
+use Rattle.iox_lanes_machine.specs.Slots.{IsLoanAt}
 use Rattle.iox_lanes_machine.specs.World.{World, subscriber_stage}
 use Rattle.iox_lanes_machine.proofs.Ends.{some_is}
 use Rattle.iox_lanes_machine.proofs.Entries.{count_append}
@@ -48,24 +52,24 @@ use Rattle.iox_lanes_laws.proofs.Ends.{publisher_there}
 use Rattle.iox_lanes_laws.proofs.PublisherLaws.{sends_in_turn, stage_idle}
 use Rattle.iox_lanes_laws.proofs.Publishers.{fits_is}
 use Rattle.iox_lanes_service.specs.Laws.{SendsAreSteps, send_replied}
-use Rattle.iox_lanes_service.specs.Naming.{LaneNaming, LaneLoan, LaneSample, reader_name, writer_name, slot_message, slot_value}
-use Rattle.iox_lanes_service.specs.Naming.{loan_by_numbers}
+use Rattle.iox_lanes_service.specs.Naming.{LaneNaming, LaneLoan, LaneSample, reader_name, writer_name, slot_message, slot_sequence}
+use Rattle.iox_lanes_service.specs.Naming.{loan_by_numbers, slot_value}
 use Rattle.iox_lanes_service.specs.Naming.{lane_mailbox, slots_held_over, has_written}
 use Rattle.iox_lanes_service.specs.Ports.{LanePublisherIs, passing_over}
 use Rattle.iox_lanes_service.specs.Standing.{LanesStandFor}
 use Rattle.iox_lanes_service.proofs.Shapes.{message_sent}
-use Rattle.iox_lanes_service.proofs.Beside.{one_does, both_hold, match_true, match_some}
+use Rattle.iox_lanes_service.proofs.Beside.{one_does, both_hold, match_true, match_false, match_some}
 use Rattle.iox_lanes_service.proofs.Carrying.{numbers_kept, same_message}
 use Rattle.iox_lanes_service.proofs.Delivering.{Addressee, Ready, Delivered, delivers, started, takes_it, after_box, failed_then}
 use Rattle.iox_lanes_service.proofs.Dropping.{own_back}
 use Rattle.iox_lanes_service.proofs.Holding.{over_borrowed, both_right}
 use Rattle.iox_lanes_service.proofs.Lent.{loan_index, loans_left, same_left, left_there}
-use Rattle.iox_lanes_service.proofs.Publishing.{WriterCall, writer_call, sent_on}
+use Rattle.iox_lanes_service.proofs.Publishing.{WriterCall, sent_on, sequence_stays, writer_call}
 use Rattle.iox_lanes_service.proofs.Subscribing.{one_is, lent_own}
 use Rattle.iox_lanes_service.proofs.Tables.{at_mapped, at_changed, at_changed_other, map_same, counted_stands, once_removed, not_both}
 use Rattle.iox_lanes_service.proofs.Tables.{entry_counted}
 use Rattle.iox_lanes_service.proofs.Used.{held_split, held_waits, held_borrowed, held_there, slot_there, own_is}
-use Rattle.iox_lanes_service.proofs.Used.{own_apart}
+use Rattle.iox_lanes_service.proofs.Used.{loan_forgotten, loan_unheld, own_apart}
 use Rattle.iox_machine.specs.Choices.{Choices}
 use Rattle.iox_machine.specs.Mailbox as boxes
 use Rattle.iox_machine.specs.Message.{Loan, Message}
@@ -167,7 +171,7 @@ module _ {T : Type 0} (choices : Choices T) (value : List ℕ → T) (names : La
   writer = s.publishers place before w.found
 
   abbrev message : ℕ → Message T
-  message = slot_message value names m.table
+  message = slot_message value names n.table
 
   abbrev overflow : Bool
   overflow = service.settings.enable_safe_overflow
@@ -176,7 +180,7 @@ module _ {T : Type 0} (choices : Choices T) (value : List ℕ → T) (names : La
   kept_messages = boxes.newest service.settings.history_size ((writer.0).history ++ message slot ∷ [])
 
   abbrev begun : Writer T
-  begun = record writer.0 { history = kept_messages }
+  begun = record writer.0 { last_sequence = next_sequence (writer.0).last_sequence; history = kept_messages }
 
   -- to whom the message goes
   abbrev to_of : Route → Addressee T
@@ -222,6 +226,82 @@ module _ {T : Type 0} (choices : Choices T) (value : List ℕ → T) (names : La
       ∙ ap (λ (b : Bool). b || nat_lt (length (mail_at m route.connection)) (l.link).limit) (sym (s.kinds route.connection l.link l.found))
       ∙ sym (ap (λ (o : Option LinkState). takes_in o (mail_at m route.connection)) l.found)
 
+  -- slots hold the same payloads
+  stays : (x : ℕ) → x < m.table.sizes.slots → payload_held n.table x ≡ payload_held m.table x
+  stays x below = w.payloads x below (differ x)
+    where
+      differ : (x : ℕ) → name_of (call.Send one.slot) ≡ name.Write x → ⊥
+      differ x e = cc e
+
+  was_loan : is_loan before slot ≡ true
+  was_loan =
+      one_is (is_loan before slot) (omega (
+        arith,
+        s.loans_all place before slot w.found,
+        entry_counted (λ (loan : LaneLoan). loan.slot) (λ (loan : LaneLoan). loan.publisher == place) lent
+            (loan_index choices value names lent held m n service s number one there (call.Send one.slot) before after w others).0
+            (number, one)
+            (loan_index choices value names lent held m n service s number one there (call.Send one.slot) before after w others).1
+            (eq-eqb place place refl),
+      ))
+
+  slot_is_own : IsSlotOf m place slot
+  slot_is_own = lent_own choices value names lent held m service s
+      (loan_index choices value names lent held m n service s number one there (call.Send one.slot) before after w others).0 (number, one)
+      (loan_index choices value names lent held m n service s number one there (call.Send one.slot) before after w others).1
+
+  loan_there : IsLoanAt m place slot
+  loan_there = record { lane = before; found = w.found; out = was_loan }
+
+  -- messages that were sent before stay
+  was_message : (x : ℕ) → x < m.table.sizes.slots → (x ≡ slot → ⊥) → slot_message value names m.table x ≡ message x
+  was_message x below apart =
+      sym (same_message choices value names m n x (
+        stays x below,
+        sequence_stays names.numbered m n place (call.Send one.slot) before after w s.numbers x below (λ e. apart (same x e)),
+      ))
+    where
+      same : (x : ℕ) → name_of (call.Send one.slot) ≡ name.Send x → x ≡ slot
+      same x e = cc e
+
+  was_held : (x : ℕ) → IsHeld m x → slot_message value names m.table x ≡ message x
+  was_held x h = was_message x (held_there m x w.kept w.few h)
+      (λ e. loan_unheld m place slot w.kept w.few loan_there (subst (IsHeld m) e h))
+
+  was_remembered : (who : ℕ) (lane : PublisherLaneState) (x : ℕ) → slice_get m.publishers who ≡ Some lane
+      → 0 < count x lane.port.book.history → slot_message value names m.table x ≡ message x
+  was_remembered who lane x found some =
+      let stands = counted_stands lane.port.book.history x some in
+      was_message x (slot_there m who x w.kept ((histories_are_own m w.kept w.few who lane found).own stands.0 x stands.1))
+      (λ e. loan_forgotten m place slot who lane w.kept w.few loan_there found
+      (subst (λ (y : ℕ). 0 < count y lane.port.book.history) e some))
+
+  -- so do mailboxes
+  was_box : (connection : ℕ) (link : LinkState) → slice_get m.links connection ≡ Some link
+      → Some (lane_mailbox value names m held connection link) ≡ Some (record {
+        limit = link.limit;
+        waiting = map message (mail_at m connection);
+        borrowed = map message (slots_held_over link held);
+      })
+  was_box connection link found =
+      ap (λ waiting. Some (record {
+        limit = link.limit;
+        waiting = waiting;
+        borrowed = map (slot_message value names m.table) (slots_held_over link held);
+      })) (map_same (slot_message value names m.table) message (mail_at m connection)
+      (λ x some. was_held x (held_waits m x w.kept (record { connection = connection; some = some }))))
+      ∙ ap (λ borrowed. Some (record {
+        limit = link.limit;
+        waiting = map message (mail_at m connection);
+        borrowed = borrowed;
+      })) (map_same (slot_message value names m.table) message (slots_held_over link held)
+      (λ x some. was_held x (held_borrowed m x w.kept (record {
+        connection = connection;
+        link = link;
+        found = found;
+        has = over_borrowed choices value names lent held m service s connection link x found some;
+      }))))
+
   ready : Ready choices who slot message overflow before.fails begun base tos
   ready = record {
     kind = refl;
@@ -232,7 +312,7 @@ module _ {T : Type 0} (choices : Choices T) (value : List ℕ → T) (names : La
         subst (λ (x : Addressee T). service.mailboxes who x.reader
         ≡ Some (record { limit = x.limit; waiting = map message x.waiting; borrowed = x.borrowed })) (sym it)
         (ap (λ (p : ℕ). service.mailboxes (names.publisher p) (names.subscriber (l.link).subscriber)) (sym l.own)
-        ∙ s.mailboxes (r.0).connection l.link l.found);
+        ∙ s.mailboxes (r.0).connection l.link l.found ∙ was_box (r.0).connection l.link l.found);
     rooms = λ index to is.
         let r = mapped_at to_of before.port.routes index to is in
         let l = link_of_route index r.0 r.1 in
@@ -282,33 +362,6 @@ module _ {T : Type 0} (choices : Choices T) (value : List ℕ → T) (names : La
 
   abbrev pub sent_service : Service T
   sent_service = with_publisher who writer_then (record base { mailboxes = sent_out.mailboxes })
-
-  -- slots hold the same payloads
-  stays : (x : ℕ) → x < m.table.sizes.slots → payload_held n.table x ≡ payload_held m.table x
-  stays x below = w.payloads x below (differ x)
-    where
-      differ : (x : ℕ) → name_of (call.Send one.slot) ≡ name.Write x → ⊥
-      differ x e = cc e
-
-  message_of : (x : ℕ) → x < m.table.sizes.slots → slot_message value names n.table x ≡ message x
-  message_of x below = same_message choices value names m n x (stays x below)
-
-  was_loan : is_loan before slot ≡ true
-  was_loan =
-      one_is (is_loan before slot) (omega (
-        arith,
-        s.loans_all place before slot w.found,
-        entry_counted (λ (loan : LaneLoan). loan.slot) (λ (loan : LaneLoan). loan.publisher == place) lent
-            (loan_index choices value names lent held m n service s number one there (call.Send one.slot) before after w others).0
-            (number, one)
-            (loan_index choices value names lent held m n service s number one there (call.Send one.slot) before after w others).1
-            (eq-eqb place place refl),
-      ))
-
-  slot_is_own : IsSlotOf m place slot
-  slot_is_own = lent_own choices value names lent held m service s
-      (loan_index choices value names lent held m n service s number one there (call.Send one.slot) before after w others).0 (number, one)
-      (loan_index choices value names lent held m n service s number one there (call.Send one.slot) before after w others).1
 
   -- what waits then did, or is the message
   waits_then : (connection x : ℕ) → 0 < count x (mail_at n connection) → (0 < count x (mail_at m connection)) ⊎ (x ≡ slot)
@@ -367,41 +420,17 @@ module _ {T : Type 0} (choices : Choices T) (value : List ℕ → T) (names : La
     | inr same ↦ inl (ap (is_loan before) same ∙ was_loan)
   ]
 
-  history_there : (x : ℕ) → 0 < count x before.port.book.history → x < m.table.sizes.slots
-  history_there x some =
-      let stands = counted_stands before.port.book.history x some in
-      slot_there m place x w.kept ((histories_are_own m w.kept w.few place before w.found).own stands.0 x stands.1)
-
   history_then : kept_messages ≡ map (slot_message value names n.table) after.port.book.history
   history_then =
       ap (λ (k : ℕ). boxes.newest k ((writer.0).history ++ message slot ∷ [])) (writer.2).kept
-      ∙ ap (λ (xs : List (Message T)). boxes.newest before.port.book.kept (xs ++ message slot ∷ [])) (writer.2).history
+      ∙ ap (λ (xs : List (Message T)). boxes.newest before.port.book.kept (xs ++ message slot ∷ []))
+      ((writer.2).history ∙ map_same (slot_message value names m.table) message before.port.book.history
+      (λ x some. was_remembered place before x w.found some))
       ∙ ap (boxes.newest before.port.book.kept) (sym (map-append message before.port.book.history (slot ∷ [])))
       ∙ ap (λ (k : ℕ). drop (k - before.port.book.kept) (map message (before.port.book.history ++ slot ∷ [])))
       (length-map (before.port.book.history ++ slot ∷ []) message)
       ∙ drop-map message (length (before.port.book.history ++ slot ∷ []) - before.port.book.kept) (before.port.book.history ++ slot ∷ [])
       ∙ ap (map message) (sym law.history)
-      ∙ sym (map_same (slot_message value names n.table) message after.port.book.history (λ x some. elim (remembered_then x some) [
-        | inl was ↦ message_of x (history_there x was)
-        | inr same ↦ message_of x (subst (λ (y : ℕ). y < m.table.sizes.slots) (sym same) (slot_there m place slot w.kept slot_is_own))
-      ]))
-
-  waiting_then : (connection : ℕ) → map message (mail_at n connection) ≡ map (slot_message value names n.table) (mail_at n connection)
-  waiting_then connection = sym (map_same (slot_message value names n.table) message (mail_at n connection)
-      (λ x some. elim (waits_then connection x some) [
-        | inl was ↦ message_of x (held_there m x w.kept w.few (held_waits m x w.kept (record { connection = connection; some = was })))
-        | inr same ↦ message_of x (subst (λ (y : ℕ). y < m.table.sizes.slots) (sym same) (slot_there m place slot w.kept slot_is_own))
-      ]))
-
-  over_then : (connection : ℕ) (link : LinkState) → slice_get m.links connection ≡ Some link
-      → map message (slots_held_over link held) ≡ map (slot_message value names n.table) (slots_held_over link held)
-  over_then connection link found = sym (map_same (slot_message value names n.table) message (slots_held_over link held)
-      (λ x some. message_of x (held_there m x w.kept w.few (held_borrowed m x w.kept (record {
-        connection = connection;
-        link = link;
-        found = found;
-        has = over_borrowed choices value names lent held m service s connection link x found some;
-      })))))
 
   boxes_then : (connection : ℕ) (link : LinkState) → slice_get m.links connection ≡ Some link
       → sent_out.mailboxes (names.publisher link.publisher) (names.subscriber link.subscriber)
@@ -422,19 +451,17 @@ module _ {T : Type 0} (choices : Choices T) (value : List ℕ → T) (names : La
           waiting = map message xs;
           borrowed = map message (slots_held_over link held);
         })) (put_is among link own.1 found)
-        ∙ same_box connection link found
     | inr apart ↦
         sent_out.away (names.publisher link.publisher) (names.subscriber link.subscriber)
         (λ e index to is r.
         let joins = s.joined connection link found in
         apart.1 (s.publishers_apart link.publisher place (joins.0).0 before (joins.0).1 w.found e))
-        ∙ s.mailboxes connection link found
+        ∙ s.mailboxes connection link found ∙ was_box connection link found
         ∙ ap (λ (xs : List ℕ). Some (record {
           limit = link.limit;
           waiting = map message xs;
           borrowed = map message (slots_held_over link held);
         })) (sym (law.elsewhere connection link found apart.1))
-        ∙ same_box connection link found
   ]
     where
       put_is : (among : IsAmong before.port.routes connection) (it : LinkState) → it.publisher ≡ place → slice_get m.links connection
@@ -445,20 +472,29 @@ module _ {T : Type 0} (choices : Choices T) (value : List ℕ → T) (names : La
           ∙ ap (λ (k : ℕ). after_put (overflows it.kind) it.limit (mail_at m k) slot) among.same
           ∙ sym (law.put connection it is own)
 
-      same_box : (k : ℕ) (it : LinkState) → slice_get m.links k ≡ Some it
-          → Some (record { limit = it.limit; waiting = map message (mail_at n k); borrowed = map message (slots_held_over it held) })
-          ≡ Some (lane_mailbox value names n held k it)
-      same_box k it is =
-          ap (λ waiting. Some (record {
-            limit = it.limit;
-            waiting = waiting;
-            borrowed = map message (slots_held_over it held);
-          })) (waiting_then k)
-          ∙ ap (λ borrowed. Some (record {
-            limit = it.limit;
-            waiting = map (slot_message value names n.table) (mail_at n k);
-            borrowed = borrowed;
-          })) (over_then k it is)
+  -- the number behind the last one
+  last_fits : (last : ℕ) → before.last ≡ Some last → last < 2 ^ 64 - 1
+  last_fits last is = omega (arith, s.numbers.low place before last w.found is, w.rises, w.few_then)
+
+  next_is : (o : Option ℕ) → before.last ≡ o → number_after o ≡ next_sequence o
+  next_is None is = refl
+  next_is (Some last) is = ap Some (next last (last_fits last is))
+    where
+      next : (last : ℕ) → last < 2 ^ 64 - 1 → successor last ≡ last + 1
+      next last below = omega (arith, below)
+
+  sequence_is : (o : Option ℕ) → before.last ≡ o → slot_sequence names.numbered n.table slot ≡ next_sequence o
+  sequence_is None is = ap (λ (b : Bool). slot_sequence b n.table slot)
+      (sym (s.numbers.each place before w.found) ∙ ap (λ (o : Option ℕ). is_some o) is)
+  sequence_is (Some last) is =
+      let numbered : names.numbered ≡ true = sym (s.numbers.each place before w.found) ∙ ap (λ (o : Option ℕ). is_some o) is in
+      ap (λ (b : Bool). slot_sequence b n.table slot) numbered
+      ∙ ap Some (w.sent slot last refl (s.numbers.wide numbered) is)
+      ∙ next_is (Some last) is
+
+  left_over : (o : Option ℕ) → before.last ≡ o → is_used_up o ≡ false
+  left_over None is = refl
+  left_over (Some last) is = ne_eqb last (2 ^ 64 - 1) (λ e. absurd (omega (arith, e, last_fits last is)))
 
   own_then : LanePublisherIs choices value names n sent_service place after writer_then
   own_then = record {
@@ -472,6 +508,7 @@ module _ {T : Type 0} (choices : Choices T) (value : List ℕ → T) (names : La
     connected = (writer.2).connected
         ∙ sym (ap (λ (rs : List Route). map (λ (route : Route). reader_name names n.links route.connection) rs) w.port.routes
         ∙ ap (λ (ls : List LinkState). map (λ (route : Route). reader_name names ls route.connection) before.port.routes) w.links);
+    last = ap next_sequence (writer.2).last ∙ sym (next_is before.last refl) ∙ sym w.last;
     history = history_then;
     numbers = numbers_kept names.message names.message m n before after (writer.0).first (writer.0).next
         (own_back m n place (call.Send one.slot) before after w) (λ x own in_use. used_then x in_use) (λ x own in_use. refl)
@@ -498,10 +535,8 @@ module _ {T : Type 0} (choices : Choices T) (value : List ℕ → T) (names : La
           ]
         ];
         numbered = λ p lane x found apart own in_use. refl;
-        remembered = λ p lane x found apart some.
-            let stands = counted_stands lane.port.book.history x some in
-            message_of x (slot_there m p x w.kept ((histories_are_own m w.kept w.few p lane found).own stands.0 x stands.1));
-        messages = λ x h. message_of x (held_there m x w.kept w.few h);
+        remembered = λ p lane x found apart some. sym (was_remembered p lane x found some);
+        messages = λ x h. sym (was_held x h);
         boxes = boxes_then;
         other_boxes = λ p other lane found joins. sent_out.away (names.publisher p) other (λ e index to is r.
             let a = mapped_at to_of before.port.routes index to is in
@@ -561,8 +596,32 @@ module _ {T : Type 0} (choices : Choices T) (value : List ℕ → T) (names : La
         ∙ ap (λ (k : ℕ). if failed_then choices who slot message overflow before.fails begun false tos
         then reply.Refused (refusal.Send error.UnableToDeliver) else reply.Delivered k) taken_is
 
-    begins : Begins choices who (message_sent written_loan) writer.0 base (send_replied (send_answer before.fails delivery)) sent_service
-    begins = (
+    sent_is : sending.numbered writer.0 (message_sent written_loan) ≡ message slot
+    sent_is =
+        ap (λ (sequence : Option ℕ). record {
+          number = names.message slot;
+          sequence = sequence;
+          values = slot_value value names m.table slot ∷ [];
+        }) (ap next_sequence (writer.2).last ∙ sym (sequence_is before.last refl))
+        ∙ ap (λ (words : List ℕ). record {
+          number = names.message slot;
+          sequence = slot_sequence names.numbered n.table slot;
+          values = value words ∷ [];
+        }) (sym (stays slot (slot_there m place slot w.kept slot_is_own)))
+
+    -- what the machine's publisher does with a message
+    abbrev GoesWith : Message T → Type 0
+    GoesWith it =
+        sending.GoesOn choices who
+        (record writer.0 {
+          last_sequence = next_sequence (writer.0).last_sequence;
+          history = boxes.newest service.settings.history_size ((writer.0).history ++ it ∷ []);
+        })
+        (record { message = it; left = those (writer.0).connected; retries = 0; elapsed = 0; delivered = 0; fails = false }) base
+        (send_replied (send_answer before.fails delivery)) sent_service
+
+    goes_on : GoesWith (message slot)
+    goes_on = (
       started choices who slot message overflow before.fails begun []
           (0 + count_by (takes_it choices who slot message overflow before.fails begun) tos)
           (failed_then choices who slot message overflow before.fails begun false tos),
@@ -577,14 +636,18 @@ module _ {T : Type 0} (choices : Choices T) (value : List ℕ → T) (names : La
       refl,
     )
 
+    begins : Begins choices who (message_sent written_loan) writer.0 base (send_replied (send_answer before.fails delivery)) sent_service
+    begins = subst GoesWith (sym sent_is) goes_on
+
     pub sends : SendsLoan choices number written_loan service (send_replied (send_answer before.fails delivery)) sent_service
     sends =
         match_some (at who service.publishers) writer.0 _ _ writer.1
         (match_true (messages.is_written written_loan && not (is_some (writer.0).blocked)) _ _
         (ap (λ (o : Option (Send T)). not (is_some o)) (writer.2).free)
         (match_true (writer.0).stands _ _ (writer.2).stands
+        (match_false (is_used_up (writer.0).last_sequence) _ _ (ap is_used_up (writer.2).last ∙ left_over before.last refl)
         (match_true ((writer.0).seen == service.subscriber_list.changes) _ _
-        (eq-eqb (writer.0).seen service.subscriber_list.changes (writer.2).seen) begins)))
+        (eq-eqb (writer.0).seen service.subscriber_list.changes (writer.2).seen) begins))))
 
 pub sends_are_steps : {T : Type 0} (choices : Choices T) (value : List ℕ → T) (types : MessageTypeDetails) (buffer : ℕ)
     → SendsAreSteps choices value types buffer

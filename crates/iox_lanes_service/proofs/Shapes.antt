@@ -1,5 +1,5 @@
 -- What the machine makes of a mailbox and of a loan, by its steps.
-use Rattle.std.specs.Prelude.{ℕ, ◌==◌, not, ◌++◌, drop, take, filter, filter_map}
+use Rattle.std.specs.Prelude.{ℕ, ◌==◌, not, ◌++◌, drop, take, filter, filter_map, None}
 use Rattle.iox_machine.specs.Mailbox.{Mailbox}
 use Rattle.iox_machine.specs.Message.{Loan, Message}
 
@@ -12,6 +12,6 @@ module _ {T : Type 0} where
   abbrev pub one_back : ℕ → Mailbox T → Mailbox T
   one_back number box = record box { borrowed = filter (λ message. not (message.number == number)) box.borrowed }
 
-  -- the message that a loan becomes
+  -- the message that a loan becomes, before its send numbers it
   abbrev pub message_sent : Loan T → Message T
-  message_sent loan = record { number = loan.number; values = filter_map (λ value. value) loan.values }
+  message_sent loan = record { number = loan.number; sequence = None; values = filter_map (λ value. value) loan.values }

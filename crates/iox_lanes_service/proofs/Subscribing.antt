@@ -1,13 +1,17 @@
 -- What a call of a subscriber leaves of what lanes stand for.
-use Rattle.std.proofs.Common.{ℕ, ◌≡◌, ◌<◌, ◌≤◌, ◌^◌, ◌==◌, Bool, true, false, List, [], map, slice_get, Option, Some, refl, sym, ◌∙◌, ap}
-use Rattle.std.proofs.Common.{subst, inl, inr, arith}
+use Rattle.std.proofs.Common.{ℕ, ◌≡◌, ◌<◌, ◌≤◌, ◌^◌, ◌==◌, ◌&&◌, Bool, true, false, List, [], map, slice_get, Option, Some, None, refl, sym}
+use Rattle.std.proofs.Common.{◌∙◌, ap, subst, inl, inr, arith}
 use Rattle.std.specs.Prelude.{unwrap_or}
 use Rattle.std.proofs.lemmas.Bool.{eq-eqb}
 use Rattle.std.specs.Map.{keys_of}
 use Rattle.std.proofs.lemmas.Bool.Decides.{eqb_tells}
+use Rattle.iox_lanes_machine.specs.LanesBase.Subscribing.{subscriber_is_idle}
+use Rattle.iox_lanes_machine.specs.LanesBase.declared.words.sizes.TableSizes.{TableSizes}
 use Rattle.iox_lanes_machine.specs.LanesParties.Parties.{PublisherLaneState, SubscriberLaneState, name_of}
 use Rattle.iox_lanes_machine.specs.LanesParties.declared.call.Call.{Call}
+use Rattle.iox_lanes_machine.specs.LanesParties.declared.call.Call.TheVariants as call
 use Rattle.iox_lanes_machine.specs.LanesParties.declared.call.CallName.TheVariants as name
+use Rattle.iox_lanes_machine.specs.LanesParties.declared.call.Move.TheVariants.{Begin}
 use Rattle.iox_lanes_machine.specs.LanesParties.declared.call.Party.TheVariants.{Subscriber}
 use Rattle.iox_lanes_machine.specs.Borrowing.{borrows}
 use Rattle.iox_lanes_machine.specs.FullLoans.{IsHeld, IsInUse}
@@ -16,7 +20,7 @@ use Rattle.iox_lanes_machine.specs.LedgerUses.{count, one_if}
 use Rattle.iox_lanes_machine.specs.Links.{LinkState}
 use Rattle.iox_lanes_machine.specs.Owned.{IsSlotOf}
 use Rattle.iox_lanes_machine.specs.Resting.{AllBetween, mail_at}
-use Rattle.iox_lanes_machine.specs.World.{World}
+use Rattle.iox_lanes_machine.specs.World.{World, fits, subscriber_fits_at}
 use Rattle.iox_lanes_machine.proofs.Alone.{loan_within}
 use Rattle.iox_lanes_machine.proofs.Ends.{some_is}
 use Rattle.iox_lanes_machine.proofs.Owned.{histories_are_own}
@@ -29,10 +33,11 @@ use Rattle.iox_lanes_laws.proofs.Ends.{calls_end_in_turn}
 use Rattle.iox_lanes_laws.proofs.Payloads.{payloads_stay_in_turn, subscribers_stay_in_turn}
 use Rattle.iox_lanes_laws.proofs.Subscribers.{few_first}
 use Rattle.iox_lanes_service.specs.Naming.{LaneNaming, LaneLoan, LaneSample, slots_held_over, has_written, loan_by_numbers}
-use Rattle.iox_lanes_service.specs.Naming.{sample_by_numbers, lane_mailbox}
+use Rattle.iox_lanes_service.specs.Naming.{sample_by_numbers, lane_mailbox, number_held}
 use Rattle.iox_lanes_service.specs.Ports.{LaneSubscriberIs}
-use Rattle.iox_lanes_service.specs.Standing.{LanesStandFor, CameOverOne, JoinsNoneOf}
-use Rattle.iox_lanes_service.proofs.Carrying.{publisher_kept, subscriber_kept, loan_kept, same_message, SameReader}
+use Rattle.iox_lanes_service.specs.Standing.{LanesStandFor, CameOverOne, JoinsNoneOf, NumbersFit}
+use Rattle.iox_lanes_service.proofs.Carrying.{HoldsSame, publisher_kept, subscriber_kept, loan_kept, same_message, SameReader}
+use Rattle.iox_lanes_service.proofs.Numbers.{numbers_stay_in_turn, same_sequence, turn_rises}
 use Rattle.iox_lanes_service.proofs.Tables.{counted_stands, entries_same, entry_counted}
 use Rattle.iox_lanes_service.proofs.Used.{IsBorrowedOf, held_split, held_waits, slot_there}
 use Rattle.iox_machine.specs.Choices.{Choices}
@@ -54,7 +59,29 @@ pub record ReaderCall (m n : World) (place : ℕ) (before after : SubscriberLane
   pub links : n.links ≡ m.links
   pub routes : after.port.routes ≡ before.port.routes
   pub most : after.port.most_borrowed ≡ before.port.most_borrowed
+  pub sizes : n.table.sizes ≡ m.table.sizes
+  pub rises : m.moments < n.moments
+  pub numbers : (slot : ℕ) → slot < m.table.sizes.slots → 1 ≤ m.table.sizes.user_header_words
+      → number_held n.table slot ≡ number_held m.table slot
   pub payloads : (slot : ℕ) → slot < m.table.sizes.slots → payload_held n.table slot ≡ payload_held m.table slot
+
+-- a call that a subscriber begins is no send
+reader_unsent : (m : World) (place slot : ℕ) (c : Call) → fits m (Subscriber place) (Begin c) ≡ true → name_of c ≡ name.Send slot → ⊥
+reader_unsent m place slot call.LoanUninit fit e = cc e
+reader_unsent m place slot (call.Write other payload user_header) fit e = cc e
+reader_unsent m place slot (call.Send other) fit e = by_lane (slice_get m.subscribers place) fit
+  where
+    by_idle : (b : Bool) → (b && false) ≡ true → ⊥
+    by_idle true e = cc e
+    by_idle false e = cc e
+
+    by_lane : (o : Option SubscriberLaneState) → subscriber_fits_at o (Begin (call.Send other)) ≡ true → ⊥
+    by_lane None fit = cc fit
+    by_lane (Some lane) fit = by_idle (subscriber_is_idle lane.port.call) fit
+reader_unsent m place slot (call.DropLoan other) fit e = cc e
+reader_unsent m place slot call.Receive fit e = cc e
+reader_unsent m place slot (call.Read other) fit e = cc e
+reader_unsent m place slot (call.Release other) fit e = cc e
 
 pub reader_call : (m n : World) (place : ℕ) (c : Call) (before : SubscriberLaneState) → IsInTurn m (Subscriber place) c n
     → slice_get m.subscribers place ≡ Some before → ((slot : ℕ) → name_of c ≡ name.Write slot → ⊥)
@@ -75,9 +102,19 @@ reader_call m n place c before t found not =
         links = stays.0.links;
         routes = (stays.1).2.routes;
         most = (stays.1).2.most_borrowed;
+        sizes = stays.0.sizes;
+        rises = turn_rises m n (Subscriber place) c t;
+        numbers = λ slot there wide. numbers_stay_in_turn m n (Subscriber place) c t slot there wide
+            (reader_unsent m place slot c t.begins.0);
         payloads = λ slot there. payloads_stay_in_turn m n (Subscriber place) c t slot there (not slot);
       },
     )
+
+-- slots hold the same, and the same numbers
+pub reader_same : (numbered : Bool) (m n : World) (place : ℕ) (before after : SubscriberLaneState) → ReaderCall m n place before after
+    → NumbersFit numbered m → (slot : ℕ) → slot < m.table.sizes.slots → HoldsSame numbered m n slot
+reader_same numbered m n place before after c fit slot there =
+    (c.payloads slot there, same_sequence numbered m n slot (λ is. c.numbers slot there (fit.wide is)))
 
 pub one_is : (b : Bool) → 0 < one_if b → b ≡ true
 one_is true some = refl
@@ -141,13 +178,21 @@ module _ {T : Type 0} (choices : Choices T) (value : List ℕ → T) (names : La
       → LanesStandFor choices value names lent then_held n after_service
   carried c s = record {
     between = c.call.between_then;
+    numbers = record {
+      wide = λ is. subst (λ (sizes : TableSizes). 1 ≤ sizes.user_header_words) (sym c.call.sizes) (s.numbers.wide is);
+      each = λ who lane found. s.numbers.each who lane (sym (ap (λ xs. slice_get xs who) c.others.publishers) ∙ found);
+      low = λ who lane last found is.
+          let was = s.numbers.low who lane last (sym (ap (λ xs. slice_get xs who) c.others.publishers) ∙ found) is in
+          omega (arith, was, c.call.rises);
+    };
     publishers = λ who lane found.
         let was : slice_get m.publishers who ≡ Some lane = sym (ap (λ xs. slice_get xs who) c.others.publishers) ∙ found in
         let one = s.publishers who lane was in (
           one.0,
           one.1,
           publisher_kept choices value names m n service after_service who lane one.0 c.call.links refl refl
-              (λ slot some. same_message choices value names m n slot (c.call.payloads slot (remembered who lane slot was some)))
+              (λ slot some. same_message choices value names m n slot
+              (reader_same names.numbered m n place before after c.call s.numbers slot (remembered who lane slot was some)))
               (λ slot own. used c who lane slot) one.2,
         );
     subscribers = λ who lane found. elim (eqb_tells who place) [

@@ -11,6 +11,7 @@ use Rattle.iox_lanes_machine.specs.LanesParties.PublisherKeeping.{loan_of}
 use Rattle.iox_lanes_machine.specs.LanesParties.Parties.{PublisherLaneState, name_of, is_out, is_written}
 use Rattle.iox_lanes_machine.specs.LanesParties.declared.call.Call.{Call}
 use Rattle.iox_lanes_machine.specs.LanesParties.declared.call.Call.TheVariants as call
+use Rattle.iox_lanes_machine.specs.LanesParties.declared.call.CallName.{CallName}
 use Rattle.iox_lanes_machine.specs.LanesParties.declared.call.CallName.TheVariants as name
 use Rattle.iox_lanes_machine.specs.LanesParties.declared.publisher.slot_book.LoanMark.TheVariants as mark
 use Rattle.iox_lanes_machine.specs.FullLoans.{IsHeld, IsInUse}
@@ -29,9 +30,11 @@ use Rattle.iox_lanes_service.specs.Laws.{WritesAreSteps}
 use Rattle.iox_lanes_service.specs.Naming.{LaneNaming, LaneLoan, LaneSample, loan_by_numbers, has_written, slots_lent_at}
 use Rattle.iox_lanes_service.specs.Standing.{LanesStandFor}
 use Rattle.iox_lanes_service.proofs.Beside.{one_does}
+use Rattle.iox_lanes_service.proofs.Carrying.{HoldsSame}
 use Rattle.iox_lanes_service.proofs.Dropping.{loans_changed}
 use Rattle.iox_lanes_service.proofs.Lent.{held_before, its_number, loan_index, other_loan}
-use Rattle.iox_lanes_service.proofs.Publishing.{WriterCall, writer_call}
+use Rattle.iox_lanes_service.proofs.Numbers.{last_behind}
+use Rattle.iox_lanes_service.proofs.Publishing.{WriterCall, sequence_stays, writer_call}
 use Rattle.iox_lanes_service.proofs.Subscribing.{one_is}
 use Rattle.iox_lanes_service.proofs.Tables.{at_mapped, changed_mapped, counted_stands, entry_counted, named}
 use Rattle.iox_lanes_service.proofs.Used.{held_there, slot_there, loan_unheld, loan_forgotten}
@@ -75,6 +78,17 @@ module _ {T : Type 0} (choices : Choices T) (value : List ℕ → T) (names : La
       same : (a b : ℕ) → name.Write a ≡ name.Write b → b ≡ a
       same a b e = cc e
 
+  -- no number changes
+  slots_stay : (slot : ℕ) → slot < m.table.sizes.slots → (slot ≡ one.slot → ⊥) → HoldsSame names.numbered m n slot
+  slots_stay slot below apart = (
+    others_stay slot below apart,
+    sequence_stays names.numbered m n one.publisher c before after w s.numbers slot below
+        (λ e. differ one.slot slot (sym named_so ∙ e)),
+  )
+    where
+      differ : (a b : ℕ) → name.Write a ≡ name.Send b → ⊥
+      differ a b e = cc e
+
   abbrev loan_then : Loan T
   loan_then = record (loan_by_numbers value names m one) { values = map Some (value items ∷ []) }
 
@@ -103,11 +117,12 @@ module _ {T : Type 0} (choices : Choices T) (value : List ℕ → T) (names : La
   pub written_stands : LanesStandFor choices value names lent held n (record service { loans = changed number loan_then service.loans })
   written_stands =
       loans_changed choices value names lent held m n service s one.publisher c before after w
-      (λ slot h. others_stay slot (held_there m slot w.kept w.few h)
+      (w.last ∙ ap (λ (called : CallName). last_behind called before.last) named_so)
+      (λ slot h. slots_stay slot (held_there m slot w.kept w.few h)
       (λ e. loan_unheld m one.publisher one.slot w.kept w.few loan_there (subst (IsHeld m) e h)))
       (λ who lane slot found some.
       let stands = counted_stands lane.port.book.history slot some in
-      others_stay slot (slot_there m who slot w.kept ((histories_are_own m w.kept w.few who lane found).own stands.0 slot stands.1))
+      slots_stay slot (slot_there m who slot w.kept ((histories_are_own m w.kept w.few who lane found).own stands.0 slot stands.1))
       (λ e. loan_forgotten m one.publisher one.slot who lane w.kept w.few loan_there found
       (subst (λ (x : ℕ). 0 < count x lane.port.book.history) e some)))
       lent (changed number loan_then service.loans) others mail history used same_loans s.loans_once s.loans_there all

@@ -1,5 +1,6 @@
 -- What a call of lanes that no other call overlaps is: a command that the machine's service does.
-use Rattle.std.specs.Prelude.{ℕ, ◌+◌, ◌<◌, ◌≡◌, ◌^◌, true, List, [], ◌∷◌, ◌++◌, length, drop, slice_get, Option, None, Some}
+use Rattle.std.specs.Prelude.{ℕ, ◌+◌, ◌<◌, ◌≡◌, ◌^◌, Bool, true, false, List, [], ◌∷◌, ◌++◌, length, drop, get_or, slice_get, Option, None}
+use Rattle.std.specs.Prelude.{Some}
 use Rattle.std.specs.Global.{Vec}
 use Rattle.std.specs.Option.{option_map_or}
 use Rattle.std.specs.Vec.{vec_items}
@@ -81,6 +82,11 @@ send_replied (sent.UnableToDeliver delivery) = reply.Refused (refusal.Send error
 abbrev pub payload_read : World → World → List ℕ
 payload_read m n = drop (3 + m.table.sizes.user_header_words) (drop (length m.read) n.read)
 
+-- the number of a message, among the words that a read gave: the fourth one, if sends number their messages
+abbrev pub sequence_read : Bool → World → World → Option ℕ
+sequence_read true m n = Some (get_or (drop (length m.read) n.read) 3 0)
+sequence_read false m n = None
+
 -- A machine is made for messages of certain types, with what others may choose; its messages have one value, which is read of words.
 module _ {T : Type 0} (choices : Choices T) (value : List ℕ → T) (types : MessageTypeDetails) (buffer : ℕ) where
   -- A machine that has this service alone answers a command so, and has one then for which these lanes stand.
@@ -112,6 +118,14 @@ module _ {T : Type 0} (choices : Choices T) (value : List ℕ → T) (types : Me
       → IsAnswered m (Subscriber one.subscriber) (call.Read one.slot) (answer.Read (length m.read)) n
       × ((values : Vec T) → vec_items values ≡ value (payload_read m n) ∷ []
       → IsLaneStep (command.Read sample) (reply.Values values) state service names lent held n)
+
+  -- A read is also the command that tells the number that its send gave the message.
+  abbrev pub NumbersAreTold : Type 0
+  NumbersAreTold = (names : LaneNaming) (lent : List (ℕ × LaneLoan)) (held : List (ℕ × LaneSample)) (m n : World) (service : Service T)
+      (state : State T) (sample : ℕ) (one : LaneSample)
+      → LanesStandFor choices value names lent held m service → at sample held ≡ Some one
+      → IsInTurn m (Subscriber one.subscriber) (call.Read one.slot) n
+      → IsLaneStep (command.Sequence sample) (reply.Sequence (sequence_read names.numbered m n)) state service names lent held n
 
   -- A release is one of the sample that goes by a number, and nothing goes by that number then.
   abbrev pub ReleasesAreSteps : Type 0

@@ -4,3 +4,4 @@ pub mod Ports
 pub mod Standing
 pub mod Laws
 pub mod NewLanes
+pub mod TurnLaws

@@ -1,7 +1,9 @@
 -- Under which numbers the machine has what lanes have.
-use Rattle.std.specs.Prelude.{ℕ, ◌==◌, ◌&&◌, Bool, false, List, [], ◌∷◌, filter, map, slice_get, Option, None, Some, if◌then◌else◌}
+use Rattle.std.specs.Prelude.{ℕ, ◌==◌, ◌&&◌, Bool, true, false, List, [], ◌∷◌, filter, map, slice_get, Option, None, Some, if◌then◌else◌}
 use Rattle.std.specs.Option.{option_map_or}
-use Rattle.iox_lanes_machine.specs.LanesBase.Table.{TableWords}
+use Rattle.iox_lanes_machine.specs.LanesBase.Table.{TableWords, held_by}
+use Rattle.iox_lanes_machine.specs.LanesBase.declared.words.word.SharedWord.TheVariants.{Slot}
+use Rattle.iox_lanes_machine.specs.LanesBase.declared.words.word.SlotWord.TheVariants.{UserHeader}
 use Rattle.iox_lanes_machine.specs.LanesParties.PublisherKeeping.{loan_of}
 use Rattle.iox_lanes_machine.specs.LanesParties.Parties.{PublisherLaneState, is_written}
 use Rattle.iox_lanes_machine.specs.Links.{LinkState}
@@ -12,11 +14,12 @@ use Rattle.iox_machine.specs.Mailbox.{Mailbox}
 use Rattle.iox_machine.specs.Message.{Loan, Message, Sample}
 
 -- The numbers that the machine has: for a publisher and for a subscriber, by its place among those of its kind; and for the message in a
--- slot.
+-- slot. And whether sends number their messages.
 pub record LaneNaming : Type 0 where
   pub publisher : ℕ → ℕ
   pub subscriber : ℕ → ℕ
   pub message : ℕ → ℕ
+  pub numbered : Bool
 
 -- a loan that goes by a number: of the publisher at which place, and in which slot
 pub record LaneLoan : Type 0 where
@@ -56,6 +59,15 @@ abbrev pub has_written : ℕ → Option PublisherLaneState → Bool
 has_written slot None = false
 has_written slot (Some lane) = is_written (loan_of slot lane.port.book)
 
+-- the number that the header of a slot has, as its fourth word
+abbrev pub number_held : TableWords → ℕ → ℕ
+number_held table slot = held_by table (Slot slot (UserHeader 0))
+
+-- the number of the message in a slot, if sends number their messages
+abbrev pub slot_sequence : Bool → TableWords → ℕ → Option ℕ
+slot_sequence true table slot = Some (number_held table slot)
+slot_sequence false table slot = None
+
 -- Messages have one value, which is read of the words of a payload.
 module _ {T : Type 0} (value : List ℕ → T) (names : LaneNaming) where
   -- the value that a slot holds
@@ -64,7 +76,11 @@ module _ {T : Type 0} (value : List ℕ → T) (names : LaneNaming) where
 
   -- the message in a slot
   abbrev pub slot_message : TableWords → ℕ → Message T
-  slot_message table slot = record { number = names.message slot; values = slot_value table slot ∷ [] }
+  slot_message table slot = record {
+    number = names.message slot;
+    sequence = slot_sequence names.numbered table slot;
+    values = slot_value table slot ∷ [];
+  }
 
   -- the value of a loan, once it is written
   abbrev pub written_value : World → LaneLoan → Option T

@@ -13,8 +13,8 @@ use Rattle.iox_machine.specs.Service.{Publisher, Service, Subscriber, mailbox}
 use Rattle.iox_machine.specs.Table.{at}
 
 module _ {T : Type 0} (choices : Choices T) (names : LaneNaming) (sizes : LaneSizes) (service : Service T) where
-  -- A publisher that came and is connected to each subscriber, as it is before it lends and sends; where mailboxes may be full it may
-  -- pass them over.
+  -- A publisher that came and is connected to each subscriber, as it is before it lends and sends; it doesn't number messages, and where
+  -- mailboxes may be full it may pass them over.
   pub record IsUnusedPublisher (place : ℕ) (publisher : Publisher T) : Type 0 where
     pub stands : publisher.stands ≡ true
     pub free : publisher.blocked ≡ None
@@ -23,6 +23,7 @@ module _ {T : Type 0} (choices : Choices T) (names : LaneNaming) (sizes : LaneSi
     pub slots : publisher.slots ≡ sizes.slots
     pub room : 1 ≤ publisher.room
     pub connected : those publisher.connected ≡ listed names.subscriber sizes.subscribers
+    pub last : publisher.last_sequence ≡ None
     pub history : publisher.history ≡ []
     pub ahead : publisher.first ≤ publisher.next
     pub decides : service.settings.enable_safe_overflow ≡ false
@@ -36,9 +37,10 @@ module _ {T : Type 0} (choices : Choices T) (names : LaneNaming) (sizes : LaneSi
     pub expired : length subscriber.expired ≡ 0
     pub connected : those subscriber.connected ≡ listed names.publisher sizes.publishers
 
-  -- A service at which at least as many ports came as lanes have, each with its own name. They are connected, sizes are the same, and
-  -- nothing was lent or sent yet.
+  -- A service whose sends don't number their messages, at which at least as many ports came as lanes have, each with its own name. They
+  -- are connected, sizes are the same, and nothing was lent or sent yet.
   pub record IsUnusedFor : Type 0 where
+    pub unnumbered : names.numbered ≡ false
     pub publishers : (place : ℕ) → place < sizes.publishers
         → (publisher : Publisher T) × (at (names.publisher place) service.publishers ≡ Some publisher) × IsUnusedPublisher place publisher
     pub subscribers : (place : ℕ) → place < sizes.subscribers

@@ -43,7 +43,8 @@ module _ {T : Type 0} (choices : Choices T) (value : List ℕ → T) (names : La
     pub room : 1 ≤ publisher.room
     -- it is connected to the subscribers of its connections, in their order
     pub connected : those publisher.connected ≡ map (λ (route : Route). reader_name names m.links route.connection) lane.port.routes
-    -- it remembers the same messages
+    -- it gave the same number last, and remembers the same
+    pub last : publisher.last_sequence ≡ lane.last
     pub history : publisher.history ≡ map (slot_message value names m.table) lane.port.book.history
     pub numbers : NumbersOwn names.message m lane publisher.first publisher.next
     -- and where mailboxes may be full it may pass them over, as the lane does

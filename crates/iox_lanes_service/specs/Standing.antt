@@ -1,5 +1,5 @@
 -- Which service of the machine lanes are.
-use Rattle.std.specs.Prelude.{ℕ, ◌≤◌, ◌≡◌, true, List, [], map, slice_get, Some}
+use Rattle.std.specs.Prelude.{ℕ, ◌+◌, ◌<◌, ◌≤◌, ◌≡◌, ◌^◌, Bool, true, List, [], map, is_some, slice_get, Some}
 use Rattle.std.specs.Map.{keys_of}
 use Rattle.iox_lanes_machine.specs.LanesParties.Parties.{PublisherLaneState, SubscriberLaneState}
 use Rattle.iox_lanes_machine.specs.QueuesSteps.Ends.{overflows}
@@ -28,12 +28,21 @@ pub record CameOverOne (links : List LinkState) (sample : LaneSample) : Type 0 w
   pub found : slice_get links connection ≡ Some link
   pub over : came_over link sample ≡ true
 
+-- Where sends number their messages, each header has a word for the number, and every publisher has a last one. This is far from the
+-- largest: it was below 2^63 before the first step.
+pub record NumbersFit (numbered : Bool) (m : World) : Type 0 where
+  pub wide : numbered ≡ true → 1 ≤ m.table.sizes.user_header_words
+  pub each : (place : ℕ) (lane : PublisherLaneState) → slice_get m.publishers place ≡ Some lane → is_some lane.last ≡ numbered
+  pub low : (place : ℕ) (lane : PublisherLaneState) (last : ℕ) → slice_get m.publishers place ≡ Some lane → lane.last ≡ Some last
+      → last < 2 ^ 63 + m.moments
+
 -- Lanes between calls, with the loans and samples that go by numbers, stand for this service of the machine, by these names. The machine
 -- may choose so, and messages have one value, which is read of the words of a payload.
 pub record LanesStandFor {T : Type 0} (choices : Choices T) (value : List ℕ → T) (names : LaneNaming) (lent : List (ℕ × LaneLoan))
     (held : List (ℕ × LaneSample)) (m : World) (service : Service T) : Type 0 where
   -- nobody is inside a call
   pub between : AllBetween m
+  pub numbers : NumbersFit names.numbered m
   -- each publisher and each subscriber is one of the machine, and no two are the same
   pub publishers : (place : ℕ) (lane : PublisherLaneState) → slice_get m.publishers place ≡ Some lane
       → (publisher : Publisher T) × (at (names.publisher place) service.publishers ≡ Some publisher)

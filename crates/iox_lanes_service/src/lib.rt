@@ -16,9 +16,11 @@
 ghost use Rattle.std.specs.Prelude.{ℕ, List};
 ghost use Rattle.iox_command.specs.NegotiateBase.DescribeBase.declared.message_type.MessageTypeDetails.{MessageTypeDetails};
 ghost use Rattle.iox_machine.specs.Choices.{Handed, chosen_by};
-ghost use Rattle.iox_lanes_service.specs.Laws.{ReceivesAreSteps, ReadsAreSteps, ReleasesAreSteps, WritesAreSteps, DropsAreSteps};
+ghost use Rattle.iox_lanes_service.specs.Laws.{NumbersAreTold, ReceivesAreSteps, ReadsAreSteps, ReleasesAreSteps, WritesAreSteps};
+ghost use Rattle.iox_lanes_service.specs.Laws.{DropsAreSteps};
 ghost use Rattle.iox_lanes_service.specs.NewLanes.{NewLanesStand};
 ghost use Rattle.iox_lanes_service.specs.Laws.{LoansAreSteps, SendsAreSteps};
+ghost use Rattle.iox_lanes_service.specs.TurnLaws.{TurnsAreRuns};
 
 use iox_domain_values::{Decides, Degrades};
 
@@ -30,14 +32,18 @@ pub fn new_lanes_stand<T: Default, B: Decides + Degrades, D: Degrades>()
 {}
 
 /// A receive, a read and a release that no other call overlaps are steps of the machine's service for which the lanes stand. A sample
-/// that is taken gets the next number, which no sample has yet. A read gives the value that the machine answers, one a message. From
-/// which place a receive took isn't in its step. So it is as long as at most 2^63 steps were made.
+/// that is taken gets the next number, which no sample has yet. A read gives the value that the machine answers, one a message, and
+/// the number that the machine tells, if sends number their messages. From which place a receive took isn't in its step. So it is as long
+/// as at most 2^63 steps were made.
 pub fn subscribers_take_steps<T: Default, B: Decides + Degrades, D: Degrades>()
     ensures receives { (handed : Handed B D) (value : List ℕ → T) (types : MessageTypeDetails) (buffer : ℕ)
         → ReceivesAreSteps (chosen_by T.is_default (λ who. B.decides who) (λ who. B.degrades who)
         (λ who. D.degrades who) handed) value types buffer }
     ensures reads { (handed : Handed B D) (value : List ℕ → T) (types : MessageTypeDetails) (buffer : ℕ)
         → ReadsAreSteps (chosen_by T.is_default (λ who. B.decides who) (λ who. B.degrades who)
+        (λ who. D.degrades who) handed) value types buffer }
+    ensures numbers { (handed : Handed B D) (value : List ℕ → T) (types : MessageTypeDetails) (buffer : ℕ)
+        → NumbersAreTold (chosen_by T.is_default (λ who. B.decides who) (λ who. B.degrades who)
         (λ who. D.degrades who) handed) value types buffer }
     ensures releases { (handed : Handed B D) (value : List ℕ → T) (types : MessageTypeDetails) (buffer : ℕ)
         → ReleasesAreSteps (chosen_by T.is_default (λ who. B.decides who) (λ who. B.degrades who)
@@ -47,8 +53,9 @@ pub fn subscribers_take_steps<T: Default, B: Decides + Degrades, D: Degrades>()
 /// A loan, a write, a send, and the giving up of a loan that no other call overlaps are steps of the machine's service for which the
 /// lanes stand. A loan gets the next number, which no loan has yet, for slots that have numbers below 2^64. A write fills its loan with
 /// the value of its words. A send finds nothing new in the list of subscribers, and passes over each full mailbox, to fail or not: the
-/// machine's publisher may decide so, where mailboxes don't let their oldest go. Headers and user headers are in no step, nor is how
-/// many mailboxes refused a message. So it is as long as at most 2^63 steps were made.
+/// machine's publisher may decide so, where mailboxes don't let their oldest go. It numbers its message as the machine's publisher does,
+/// if sends number their messages. What else is in headers and user headers is in no step, nor is how many mailboxes refused a message.
+/// So it is as long as at most 2^63 steps were made.
 pub fn publishers_take_steps<T: Default, B: Decides + Degrades, D: Degrades>()
     ensures loans { (handed : Handed B D) (value : List ℕ → T) (types : MessageTypeDetails) (buffer : ℕ)
         → LoansAreSteps (chosen_by T.is_default (λ who. B.decides who) (λ who. B.degrades who)
@@ -61,5 +68,14 @@ pub fn publishers_take_steps<T: Default, B: Decides + Degrades, D: Degrades>()
         (λ who. D.degrades who) handed) value types buffer }
     ensures drops { (handed : Handed B D) (value : List ℕ → T) (types : MessageTypeDetails) (buffer : ℕ)
         → DropsAreSteps (chosen_by T.is_default (λ who. B.decides who) (λ who. B.degrades who)
+        (λ who. D.degrades who) handed) value types buffer }
+{}
+
+/// Whole calls of lanes that go in turn, of which none overlaps another, are a run of the machine: each is a command, with its reply, and
+/// the lanes stand then for the service that the machine has. They stand for its one service before, no number of a loan or of a sample is
+/// above the number of those that were made, and there are fewer than 2^64 slots. So it is as long as at most 2^63 steps were made.
+pub fn turns_are_a_run<T: Default, B: Decides + Degrades, D: Degrades>()
+    ensures { (handed : Handed B D) (value : List ℕ → T) (types : MessageTypeDetails) (buffer : ℕ)
+        → TurnsAreRuns (chosen_by T.is_default (λ who. B.decides who) (λ who. B.degrades who)
         (λ who. D.degrades who) handed) value types buffer }
 {}

@@ -11,6 +11,7 @@ use Rattle.std.proofs.lemmas.List.Elements.{All-head, All-tail}
 use Rattle.std.proofs.lemmas.List.Sums.{sum_by-append, sum_by-cons}
 use Rattle.std.proofs.lemmas.Option.{get_or_from_slice_get}
 use Rattle.std.specs.BTreeMap.{is_at}
+use Rattle.std.specs.Bool.{beq}
 use Rattle.std.specs.List.{All, list_any}
 use Rattle.std.specs.Map.{keys_of, lookup}
 use Rattle.std.specs.Cmp.{nat_cmp_is}
@@ -38,7 +39,7 @@ use Rattle.iox_domain_machine.specs.Standing.{PublisherIs, StandsFor}
 use Rattle.iox_domain_machine.specs.Tables.{LentSlot}
 use Rattle.iox_lanes_opening.specs.Lingering.{is_lingering, publisher_lingers, subscriber_lingers}
 use Rattle.iox_lanes_opening.specs.Listed.{holds_at, of_each_listed}
-use Rattle.iox_lanes_opening.specs.Soundness.{any_below, are_placed, attaches_twice, comes_again, has_twice, is_misfit}
+use Rattle.iox_lanes_opening.specs.Soundness.{any_below, are_placed, attaches_twice, comes_again, has_twice, is_misfit, is_misnumbered}
 use Rattle.iox_lanes_opening.specs.Soundness.{is_publisher_place, is_publisher_placed, is_subscriber_place, is_subscriber_placed}
 use Rattle.iox_lanes_opening.specs.Soundness.{is_unsound, remembers_ill, share_publisher, share_slot, stands_again, waits_ill}
 use Rattle.iox_machine.specs.Service.{Service}
@@ -50,6 +51,10 @@ some_is x y h = cc h
 neither : (a b : Bool) → a || b ≡ false → (a ≡ false) × (b ≡ false)
 neither true b h = absurd (cc h)
 neither false b h = (refl, h)
+
+switch_same : (b : Bool) → beq b b ≡ true
+switch_same true = refl
+switch_same false = refl
 
 not_false : (b : Bool) → not b ≡ false → b ≡ true
 not_false true h = refl
@@ -233,6 +238,11 @@ module _ {T U : Type 0} (names : Naming) (lent : List (ℕ × LentSlot)) (held :
     as_agreed : port.sender.uses.kept ≡ ports.sizes.history_size
     as_agreed = ap (λ (m : MadeFor). m.history) made.0
 
+    numbered : is_misnumbered ports.sizes port ≡ false
+    numbered =
+        ap (λ (b : Bool). not (beq b ports.sizes.sequence_numbers)) (ap (λ (m : MadeFor). m.numbered) made.0)
+        ∙ ap not (switch_same ports.sizes.sequence_numbers)
+
     remembers : remembers_ill ports.sizes port ≡ false
     remembers = ap₂ (λ (b c : Bool). b || c)
         (le-ltb ports.sizes.history_size (length port.sender.uses.history) (omega (arith, kept.few, as_agreed)))
@@ -292,7 +302,9 @@ module _ {T U : Type 0} (names : Naming) (lent : List (ℕ × LentSlot)) (held :
         let one : nat_lt 0 port.sender.uses.first ≡ false = ap (nat_lt 0) kept.first in
         let two : not (port.sender.uses.kept == ports.sizes.history_size) ≡ false
         = ap not (eq-eqb port.sender.uses.kept ports.sizes.history_size as_agreed) in
-        ap (λ (b : Bool). b || (not (port.sender.uses.kept == ports.sizes.history_size)
+        ap (λ (b : Bool). b || (nat_lt 0 port.sender.uses.first || (not (port.sender.uses.kept == ports.sizes.history_size)
+        || (remembers_ill ports.sizes port || list_any (waits_ill ports.sizes) port.sender.uses.connections)))) numbered
+        ∙ ap (λ (b : Bool). b || (not (port.sender.uses.kept == ports.sizes.history_size)
         || (remembers_ill ports.sizes port || list_any (waits_ill ports.sizes) port.sender.uses.connections))) one
         ∙ all_false (not (port.sender.uses.kept == ports.sizes.history_size)) (remembers_ill ports.sizes port)
         (list_any (waits_ill ports.sizes) port.sender.uses.connections) two remembers

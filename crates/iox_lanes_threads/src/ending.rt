@@ -80,8 +80,8 @@ fn at_each_subscriber(board: &Board, ports: &[LaneSubscriber]) -> bool
     true
 }
 
-// Whether these are all ports of the board.
-fn are_all(board: &Board, publishers: &[LanePublisher], subscribers: &[LaneSubscriber]) -> bool
+/// Whether these are all ports of the board.
+pub fn are_all(board: &Board, publishers: &[LanePublisher], subscribers: &[LaneSubscriber]) -> bool
     ensures all { result ≡ true → AreAll board.now publishers.now subscribers.now }
     ensures lacks { result ≡ false → AreAll board.now publishers.now subscribers.now → ⊥ }
 {

@@ -1,6 +1,6 @@
 //! A publisher with its share of the words.
 ghost use Rattle.std.specs.Prelude.{◌≡◌, true, is_some, IfSome};
-ghost use Rattle.iox_lanes_machine.specs.LanesParties.Parties.{head_of, with_user_header};
+ghost use Rattle.iox_lanes_machine.specs.LanesParties.Parties.{head_of, kept_head, with_user_header};
 ghost use Rattle.iox_lanes_threads_ports.specs.LanesThreadsRule.Acts.{single};
 ghost use Rattle.iox_lanes_threads_ports.specs.Known.{KeepsPayload, KnowsHead, KnowsPayload, KnowsSent};
 ghost use Rattle.iox_lanes_threads_ports.specs.Values.{Loans, Sends, Writes};
@@ -79,8 +79,8 @@ impl LanePublisher {
         ensures same { StaysPublisher self.old self.new }
         ensures call { Writes self.old.own loan payload.now user_header.now self.new.own result }
         ensures payload { result ≡ true → KnowsPayload self.new.own.port loan payload.now }
-        ensures header { result ≡ true → head_of loan self.new.own.lane
-            ≡ with_user_header (head_of loan self.old.own.lane) user_header.now }
+        ensures header { result ≡ true → kept_head loan self.new.own.lane
+            ≡ with_user_header (kept_head loan self.old.own.lane) user_header.now }
     {
         self.port
             .write(self.words.words(), loan, payload, user_header)
@@ -97,8 +97,8 @@ impl LanePublisher {
         ensures same { StaysPublisher self.old self.new }
         ensures call { Writes self.old.own loan (T.parts value.now) (U.parts user_header.now) self.new.own result }
         ensures payload { result ≡ true → KnowsPayload self.new.own.port loan (T.parts value.now) }
-        ensures header { result ≡ true → head_of loan self.new.own.lane
-            ≡ with_user_header (head_of loan self.old.own.lane) (U.parts user_header.now) }
+        ensures header { result ≡ true → kept_head loan self.new.own.lane
+            ≡ with_user_header (kept_head loan self.old.own.lane) (U.parts user_header.now) }
     {
         self.port
             .write_values(self.words.words(), loan, value, user_header)
@@ -115,6 +115,13 @@ impl LanePublisher {
             self.old.own.lane.port.routes loan told) }
     {
         self.port.send(self.words.words(), loan)
+    }
+
+    /// The number that it gave last, or the one before the first; None where messages have no numbers.
+    pub fn last_sequence(&self) -> Option<u64>
+        ensures { result ≡ self.now.own.lane.last }
+    {
+        self.port.last_sequence()
     }
 
     /// The lane, which stands still from now on.

@@ -17,7 +17,7 @@ use Rattle.iox_lanes_machine.specs.LanesParties.PublisherKeeping.{loan_of}
 use Rattle.iox_lanes_machine.specs.LanesParties.Publishers.{words_of as call_words}
 use Rattle.iox_lanes_machine.specs.LanesParties.declared.publisher.slot_book.LoanAnswer.{LoanAnswer}
 use Rattle.iox_lanes_machine.specs.LanesParties.Parties.{PublisherLaneState, is_out, publisher_fits, publisher_after, publisher_answer}
-use Rattle.iox_lanes_machine.specs.LanesParties.Parties.{head_of, with_user_header}
+use Rattle.iox_lanes_machine.specs.LanesParties.Parties.{kept_head, with_user_header}
 use Rattle.iox_lanes_machine.specs.LanesParties.Within.{IsPublishing}
 use Rattle.iox_lanes_machine.specs.LanesParties.declared.call.Answer.{Answer}
 use Rattle.iox_lanes_machine.specs.LanesParties.declared.call.Answer.TheVariants as answer
@@ -329,15 +329,15 @@ heads_stay lane now n h
 
 head_there : (lane now : PublisherLaneState) (loan : ℕ) (payload user_header : List ℕ) → loan - lane.port.book.first < length lane.heads
     → KeepsHeads (write_begins lane loan payload user_header) now
-    → head_of loan now ≡ with_user_header (head_of loan lane) user_header
+    → kept_head loan now ≡ with_user_header (kept_head loan lane) user_header
 head_there lane now loan payload user_header less h =
     (λ i. get_or (h.heads i) (loan - h.first i) []) ∙ get_or-set_same lane.heads (loan - lane.port.book.first)
-    (with_user_header (head_of loan lane) user_header) [] less
+    (with_user_header (kept_head loan lane) user_header) [] less
 
 -- a write that was made keeps its user header for the send
 pub write_keeps : (old new : PublisherPort) (loan : ℕ) (payload user_header : List ℕ) (done : Bool) → PublisherStands old.port old.lane
     → Writes old loan payload user_header new done → done ≡ true
-    → head_of loan new.lane ≡ with_user_header (head_of loan old.lane) user_header
+    → kept_head loan new.lane ≡ with_user_header (kept_head loan old.lane) user_header
 write_keeps old new loan payload user_header false stands h e = absurd (cc e)
 write_keeps old new loan payload user_header true stands h e =
     let run = h.1 in

@@ -2,7 +2,7 @@
 ghost use Rattle.std.specs.Prelude.{◌≡◌, true, false, length, is_some, IfOk, IfSome};
 ghost use Rattle.iox_lanes_machine.specs.LanesBase.Numbers.{IsSmall};
 ghost use Rattle.std.specs.List.{All};
-ghost use Rattle.iox_lanes_machine.specs.LanesParties.Parties.{head_of, with_user_header, publisher_fits};
+ghost use Rattle.iox_lanes_machine.specs.LanesParties.Parties.{head_of, kept_head, with_user_header, publisher_fits};
 ghost use Rattle.iox_lanes_threads_rule.specs.Acts.{single, port_of};
 ghost use Rattle.iox_lanes_threads_ports.specs.Known.{KeepsPayload, KnowsHead, KnowsPayload, KnowsSent};
 ghost use Rattle.iox_lanes_threads_ports.specs.Ports.{PublisherStands};
@@ -251,7 +251,7 @@ impl ThreadedPublisher {
         ensures same { SamePublisher self.old self.new }
         ensures call { Writes self.old loan payload.now user_header.now self.new result }
         ensures payload { result ≡ true → KnowsPayload self.new.port loan payload.now }
-        ensures header { result ≡ true → head_of loan self.new.lane ≡ with_user_header (head_of loan self.old.lane) user_header.now }
+        ensures header { result ≡ true → kept_head loan self.new.lane ≡ with_user_header (kept_head loan self.old.lane) user_header.now }
     {
         if !fill(&mut self.asked, loan, payload, user_header) {
             return false;
@@ -280,8 +280,8 @@ impl ThreadedPublisher {
         ensures same { SamePublisher self.old self.new }
         ensures call { Writes self.old loan (T.parts value.now) (U.parts user_header.now) self.new result }
         ensures payload { result ≡ true → KnowsPayload self.new.port loan (T.parts value.now) }
-        ensures header { result ≡ true → head_of loan self.new.lane
-            ≡ with_user_header (head_of loan self.old.lane) (U.parts user_header.now) }
+        ensures header { result ≡ true → kept_head loan self.new.lane
+            ≡ with_user_header (kept_head loan self.old.lane) (U.parts user_header.now) }
     {
         if !fill_values(&mut self.asked, loan, value, user_header) {
             return false;
@@ -320,6 +320,13 @@ impl ThreadedPublisher {
             most,
         );
         sent(answer)
+    }
+
+    /// The number that it gave last, or the one before the first; None where messages have no numbers.
+    pub fn last_sequence(&self) -> Option<u64>
+        ensures { result ≡ self.now.lane.last }
+    {
+        self.lane.last_sequence()
     }
 
     /// The seat and the lane.

@@ -154,6 +154,7 @@ step_unbarred : (s : ForeignStep) (w : List ℕ) → WritesStep s w → after (1
 step_unbarred (step.Lock n) w e = ap (after (124 ∷ [])) e
 step_unbarred (step.GiveUp n) w e = ap (after (124 ∷ [])) e
 step_unbarred (step.Publish n o) w e = ap (after (124 ∷ [])) e.2
+step_unbarred (step.PublishV1 n o) w e = ap (after (124 ∷ [])) e.2
 step_unbarred (step.Register n) w e = ap (after (124 ∷ [])) e
 step_unbarred (step.Leave n) w e = ap (after (124 ∷ [])) e
 step_unbarred (step.Remove n) w e = ap (after (124 ∷ [])) e

@@ -107,7 +107,13 @@ publish_subscribe_lack byte o p f = (
         number_lacks byte o.subscriber_max_buffer_size p.0 f.3,
         (
           number_lacks byte o.subscriber_max_borrowed_samples p.0 f.4,
-          (number_lacks byte o.history_size p.0 f.5, (text_lacks byte switch_word (switch_lacks byte p) o.enable_safe_overflow, tt)),
+          (
+            number_lacks byte o.history_size p.0 f.5,
+            (
+              text_lacks byte switch_word (switch_lacks byte p) o.enable_safe_overflow,
+              (text_lacks byte switch_word (switch_lacks byte p) o.sequence_numbers, tt),
+            ),
+          ),
         ),
       ),
     ),

@@ -338,6 +338,7 @@ verb_sound verb.Retry ws c h = one_number (λ n m. command.Retry n m) 112 (codes
 verb_sound verb.GiveUp ws c h = one_made (λ n. command.GiveUp n) 112 (codes "giveup") ws c (λ n f. f) (λ n. refl) h
 verb_sound verb.Receive ws c h = one_made (λ n. command.Receive n) 115 (codes "receive") ws c (λ n f. f) (λ n. refl) h
 verb_sound verb.Read ws c h = one_made (λ n. command.Read n) 109 (codes "read") ws c (λ n f. f) (λ n. refl) h
+verb_sound verb.Sequence ws c h = one_made (λ n. command.Sequence n) 109 (codes "sequence") ws c (λ n f. f) (λ n. refl) h
 verb_sound verb.Release ws c h = one_made (λ n. command.Release n) 109 (codes "release") ws c (λ n f. f) (λ n. refl) h
 verb_sound verb.Update ws c h =
     one_port (λ p. command.Update p) (codes "update") ws c (elim [ port.Publisher n ↦ λ f. f | port.Subscriber n ↦ λ f. f ])
@@ -358,7 +359,7 @@ verbs_written = (
         refl,
         (
           refl,
-          (refl, (refl, (refl, (refl, (refl, (refl, (refl, (refl, (refl, (refl, (refl, (refl, (refl, (refl, tt)))))))))))))),
+          (refl, (refl, (refl, (refl, (refl, (refl, (refl, (refl, (refl, (refl, (refl, (refl, (refl, (refl, (refl, tt))))))))))))))),
         ),
       ),
     ),
@@ -406,6 +407,7 @@ words_complete (command.Retry n m) ws f w = ap of_words w ∙ ap (option_map (λ
 words_complete (command.GiveUp n) ws f w = ap of_words w ∙ ap (option_map (λ n. command.GiveUp n)) (tagged_own 112 n f)
 words_complete (command.Receive n) ws f w = ap of_words w ∙ ap (option_map (λ n. command.Receive n)) (tagged_own 115 n f)
 words_complete (command.Read n) ws f w = ap of_words w ∙ ap (option_map (λ n. command.Read n)) (tagged_own 109 n f)
+words_complete (command.Sequence n) ws f w = ap of_words w ∙ ap (option_map (λ n. command.Sequence n)) (tagged_own 109 n f)
 words_complete (command.Release n) ws f w = ap of_words w ∙ ap (option_map (λ n. command.Release n)) (tagged_own 109 n f)
 words_complete (command.Update (port.Publisher n)) ws f w =
     ap of_words w ∙ ap (option_map (λ p. command.Update p)) (port_own (port.Publisher n) f)

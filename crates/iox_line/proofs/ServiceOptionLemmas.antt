@@ -202,17 +202,18 @@ both x y = record { first = x; second = y }
 
 abbrev PublishSubscribeParts : Type 0
 PublishSubscribeParts = Pair (Option ℕ) (Pair (Option ℕ) (Pair (Option ℕ) (Pair (Option ℕ) (Pair (Option ℕ)
-    (Pair (Option ℕ) (Option Bool))))))
+    (Pair (Option ℕ) (Pair (Option Bool) (Option Bool)))))))
 
 abbrev PublishSubscribeFit : PublishSubscribeParts → Type 0
 PublishSubscribeFit p = IfSome p.first IsNumber × (IfSome p.second.first IsNumber × (IfSome p.second.second.first IsNumber
     × (IfSome p.second.second.second.first IsNumber × (IfSome p.second.second.second.second.first IsNumber
-    × (IfSome p.second.second.second.second.second.first IsNumber × Any p.second.second.second.second.second.second)))))
+    × (IfSome p.second.second.second.second.second.first IsNumber
+    × (Any p.second.second.second.second.second.second.first × Any p.second.second.second.second.second.second.second))))))
 
 abbrev publish_subscribe_sum : PublishSubscribeParts → ℕ
 publish_subscribe_sum p = one p.first + (one p.second.first + (one p.second.second.first + (one p.second.second.second.first
     + (one p.second.second.second.second.first + (one p.second.second.second.second.second.first
-    + one p.second.second.second.second.second.second)))))
+    + (one p.second.second.second.second.second.second.first + one p.second.second.second.second.second.second.second))))))
 
 publish_subscribe_same_sum : (p : PublishSubscribeParts) → publish_subscribe_count (publish_subscribe_options p) ≡ publish_subscribe_sum p
 publish_subscribe_same_sum p = omega arith
@@ -221,7 +222,7 @@ publish_subscribe_reads : Reads publish_subscribe_keys publish_subscribe_parts
     (λ p. publish_subscribe_values (publish_subscribe_options p)) PublishSubscribeFit publish_subscribe_sum
 publish_subscribe_reads = next number (codes "subscribers=") (next number (codes "publishers=") (next number (codes "nodes=")
     (next number (codes "buffer=") (next number (codes "borrowed=") (next number (codes "history=")
-    (last switch (codes "overflow=")))))))
+    (next switch (codes "overflow=") (last switch (codes "sequence="))))))))
 
 -- words that are read as the options of a publish-subscribe service write them
 pub publish_subscribe_some : (ws : List (List ℕ)) (o : PublishSubscribeOptions) → publish_subscribe_of ws ≡ Some o
@@ -238,8 +239,9 @@ publish_subscribe_own ws o f w =
     options_own publish_subscribe_keys publish_subscribe_parts publish_subscribe_values PublishSubscribeFit publish_subscribe_sum
     publish_subscribe_options publish_subscribe_count publish_subscribe_reads publish_subscribe_same_sum refl ws
     (both o.max_subscribers (both o.max_publishers (both o.max_nodes (both o.subscriber_max_buffer_size
-    (both o.subscriber_max_borrowed_samples (both o.history_size o.enable_safe_overflow))))))
-    refl (f.0, (f.1, (f.2, (f.3, (f.4, (f.5, tt)))))) w
+    (both o.subscriber_max_borrowed_samples (both o.history_size
+    (both o.enable_safe_overflow o.sequence_numbers)))))))
+    refl (f.0, (f.1, (f.2, (f.3, (f.4, (f.5, (tt, tt))))))) w
 
 -- ---- an event service
 

@@ -59,14 +59,14 @@ WritesSteps steps words = AllZip WritesStep steps words
 -- the keys of a publish-subscribe service's options
 abbrev pub publish_subscribe_keys : List (List ℕ)
 publish_subscribe_keys = codes "subscribers=" ∷ codes "publishers=" ∷ codes "nodes=" ∷ codes "buffer=" ∷ codes "borrowed="
-    ∷ codes "history=" ∷ codes "overflow=" ∷ []
+    ∷ codes "history=" ∷ codes "overflow=" ∷ codes "sequence=" ∷ []
 
 -- their values
 abbrev pub publish_subscribe_values : PublishSubscribeOptions → List (Option (List ℕ))
 publish_subscribe_values o = option_map decimal o.max_subscribers ∷ option_map decimal o.max_publishers ∷ option_map decimal o.max_nodes
     ∷ option_map decimal o.subscriber_max_buffer_size ∷ option_map decimal o.subscriber_max_borrowed_samples
     ∷ option_map decimal o.history_size
-    ∷ option_map switch_word o.enable_safe_overflow ∷ []
+    ∷ option_map switch_word o.enable_safe_overflow ∷ option_map switch_word o.sequence_numbers ∷ []
 
 -- the keys of an event service's options
 abbrev pub event_keys : List (List ℕ)

@@ -23,8 +23,8 @@ use Rattle.iox_line.proofs.NoSpaceLemmas.{service_lack_commas}
 use Rattle.iox_line.specs.declared.steps.step.StepVerb.{StepVerb}
 use Rattle.iox_line.specs.declared.steps.step.StepVerb.TheVariants as verb
 use Rattle.iox_line.specs.Steps.{WritesStep, StepFits}
-use Rattle.iox_line.specs.StepsReading.{step_verb_word, step_verbs, step_verb_of, published, step_at, step_with, step_of, each_step}
-use Rattle.iox_line.specs.StepsReading.{steps_of}
+use Rattle.iox_line.specs.StepsReading.{step_verb_word, step_verbs, step_verb_of, node_and_options, published, step_at, step_with, step_of}
+use Rattle.iox_line.specs.StepsReading.{each_step, steps_of}
 use Rattle.iox_line.proofs.Shorthands.{AllLack, AllOf, WritesSteps, option_tail}
 
 -- a step without options
@@ -40,11 +40,11 @@ one_node pattern make front text s fits writes h =
 
 -- publishing
 
-published_some : (x : Option ℕ) (y : Option ServiceOptions) (s : ForeignStep) → published x y ≡ Some s → (n : ℕ) × (o : ServiceOptions)
-    × (x ≡ Some n) × (y ≡ Some o) × (step.Publish n o ≡ s)
-published_some None y s h = cc
-published_some (Some n) None s h = cc
-published_some (Some n) (Some o) s h = (n, o, refl, refl, cc)
+parts_some : (x : Option ℕ) (y : Option ServiceOptions) (p : ℕ × ServiceOptions) → node_and_options x y ≡ Some p
+    → (x ≡ Some p.0) × (y ≡ Some p.1)
+parts_some None y p h = cc
+parts_some (Some n) None p h = cc
+parts_some (Some n) (Some o) p h = let e : (n, o) ≡ p = cc in (ap (λ q. Some q.0) e, ap (λ q. Some q.1) e)
 
 tail_at : (ws : List (List ℕ)) (w : List ℕ) (vs : List (List ℕ)) → ws ≡ w ∷ vs → option_tail ws ≡ 58 ∷ joined 44 ws
 tail_at ws w vs h = ap option_tail h ∙ ap (λ l. 58 ∷ joined 44 l) (sym h)
@@ -55,18 +55,35 @@ tail_text front (Some text) = let p
     = pieces_some 44 text in ap (λ l. front ++ l)
     (ap (λ l. 58 ∷ l) (sym (joined-pieces_of 44 text)) ∙ sym (tail_at (pieces_of 44 text) p.0 p.1 p.2))
 
+published_some : (pattern : MessagingPattern) (text : List ℕ) (p : ℕ × ServiceOptions) → published pattern text ≡ Some p
+    → (IsNumber p.0 × ServiceFits p.1 × (pattern ≡ pattern_of p.1))
+    × ((chosen : List (List ℕ)) × AnyOrder chosen (service_words p.1) × (text ≡ tag 120 p.0 ++ option_tail chosen))
+published_some pattern text p h =
+    let m = parts_some (tagged 120 (before 58 text)) (options_of pattern (pieces_left 44 (beyond 58 text))) p h in
+    let n = tagged_some 120 (before 58 text) p.0 m.0 in
+    let o = options_some pattern (pieces_left 44 (beyond 58 text)) p.1 m.1 in
+    let chosen = pieces_left 44 (beyond 58 text) in
+    let written : text ≡ tag 120 p.0 ++ option_tail chosen
+    = whole_text 58 text ∙ tail_text (before 58 text) (beyond 58 text) ∙ ap (λ l. l ++ option_tail chosen) n.1 in
+    ((n.0, o.0, o.2), (chosen, o.1, written))
+
 publish_some : (pattern : MessagingPattern) (text : List ℕ) (s : ForeignStep)
-    → published (tagged 120 (before 58 text)) (options_of pattern (pieces_left 44 (beyond 58 text))) ≡ Some s
+    → option_map (λ p. step.Publish p.0 p.1) (published pattern text) ≡ Some s
     → StepFits pattern s × WritesStep s (codes "publish:" ++ text)
 publish_some pattern text s h =
-    let m = published_some (tagged 120 (before 58 text)) (options_of pattern (pieces_left 44 (beyond 58 text))) s h in
-    let n = tagged_some 120 (before 58 text) m.0 m.2 in
-    let o = options_some pattern (pieces_left 44 (beyond 58 text)) m.1 m.3 in
-    let chosen = pieces_left 44 (beyond 58 text) in
-    let written : text ≡ tag 120 m.0 ++ option_tail chosen
-    = whole_text 58 text ∙ tail_text (before 58 text) (beyond 58 text) ∙ ap (λ l. l ++ option_tail chosen) n.1 in
-    subst (λ q. StepFits pattern q × WritesStep q (codes "publish:" ++ text)) m.4
-    ((n.0, o.0, o.2), (chosen, o.1, ap (λ l. codes "publish:" ++ l) written))
+    let m = map_some (λ p. step.Publish p.0 p.1) (published pattern text) s h in
+    let r = published_some pattern text m.0 m.1 in
+    subst (λ q. StepFits pattern q × WritesStep q (codes "publish:" ++ text)) m.2
+    (r.0, (r.1.0, r.1.1, ap (λ l. codes "publish:" ++ l) r.1.2))
+
+publish_v1_some : (pattern : MessagingPattern) (text : List ℕ) (s : ForeignStep)
+    → option_map (λ p. step.PublishV1 p.0 p.1) (published pattern text) ≡ Some s
+    → StepFits pattern s × WritesStep s (codes "publish1:" ++ text)
+publish_v1_some pattern text s h =
+    let m = map_some (λ p. step.PublishV1 p.0 p.1) (published pattern text) s h in
+    let r = published_some pattern text m.0 m.1 in
+    subst (λ q. StepFits pattern q × WritesStep q (codes "publish1:" ++ text)) m.2
+    (r.0, (r.1.0, r.1.1, ap (λ l. codes "publish1:" ++ l) r.1.2))
 
 tag_lacks : (n : ℕ) → IsNumber n → lacks 58 (tag 120 n) ≡ true
 tag_lacks n f = decimal_lacks 58 n refl f
@@ -83,14 +100,14 @@ tail_own n (w ∷ ws) f l = (
   ap (λ o. pieces_left 44 o) (beyond-separated 58 (tag 120 n) (joined 44 (w ∷ ws)) (tag_lacks n f)) ∙ pieces_of-joined 44 w ws l,
 )
 
-publish_own : (n : ℕ) (o : ServiceOptions) (chosen : List (List ℕ)) → IsNumber n → ServiceFits o → AnyOrder chosen (service_words o)
-    → published (tagged 120 (before 58 (tag 120 n ++ option_tail chosen)))
-    (options_of (pattern_of o) (pieces_left 44 (beyond 58 (tag 120 n ++ option_tail chosen)))) ≡ Some (step.Publish n o)
-publish_own n o chosen f g a =
+published_own : (n : ℕ) (o : ServiceOptions) (chosen : List (List ℕ)) → IsNumber n → ServiceFits o → AnyOrder chosen (service_words o)
+    → published (pattern_of o) (tag 120 n ++ option_tail chosen) ≡ Some (n, o)
+published_own n o chosen f g a =
     let t = tail_own n chosen f (all_anyhow (λ w. lacks 44 w ≡ true) chosen (service_words o) a (service_lack_commas o g)) in
-    ap (λ x. published (tagged 120 x) (options_of (pattern_of o) (pieces_left 44 (beyond 58 (tag 120 n ++ option_tail chosen))))) t.0
-    ∙ ap (λ x. published (tagged 120 (tag 120 n)) (options_of (pattern_of o) x)) t.1
-    ∙ ap (λ x. published x (options_of (pattern_of o) chosen)) (tagged_own 120 n f) ∙ ap (λ x. published (Some n) x)
+    ap (λ x. node_and_options (tagged 120 x)
+    (options_of (pattern_of o) (pieces_left 44 (beyond 58 (tag 120 n ++ option_tail chosen))))) t.0
+    ∙ ap (λ x. node_and_options (tagged 120 (tag 120 n)) (options_of (pattern_of o) x)) t.1
+    ∙ ap (λ x. node_and_options x (options_of (pattern_of o) chosen)) (tagged_own 120 n f) ∙ ap (λ x. node_and_options (Some n) x)
     (options_own chosen o g a)
 
 -- one step
@@ -100,12 +117,13 @@ at_some : (pattern : MessagingPattern) (v : StepVerb) (text : List ℕ) (s : For
 at_some pattern verb.Lock text s h = one_node pattern (λ n. step.Lock n) (codes "lock:") text s (λ n f. f) (λ n. refl) h
 at_some pattern verb.GiveUp text s h = one_node pattern (λ n. step.GiveUp n) (codes "giveup:") text s (λ n f. f) (λ n. refl) h
 at_some pattern verb.Publish text s h = publish_some pattern text s h
+at_some pattern verb.PublishV1 text s h = publish_v1_some pattern text s h
 at_some pattern verb.Register text s h = one_node pattern (λ n. step.Register n) (codes "register:") text s (λ n f. f) (λ n. refl) h
 at_some pattern verb.Leave text s h = one_node pattern (λ n. step.Leave n) (codes "leave:") text s (λ n f. f) (λ n. refl) h
 at_some pattern verb.Remove text s h = one_node pattern (λ n. step.Remove n) (codes "remove:") text s (λ n f. f) (λ n. refl) h
 
 verbs_written : AreWritten step_verb_word step_verbs
-verbs_written = (refl, (refl, (refl, (refl, (refl, (refl, tt))))))
+verbs_written = (refl, (refl, (refl, (refl, (refl, (refl, (refl, tt)))))))
 
 with_some : (pattern : MessagingPattern) (w front : List ℕ) (v : Option StepVerb) (text : Option (List ℕ)) (s : ForeignStep)
     → step_verb_of front ≡ v → w ≡ whole 58 front text
@@ -130,7 +148,11 @@ pub step_own : (pattern : MessagingPattern) (s : ForeignStep) (w : List ℕ) →
 step_own pattern (step.Lock n) w f e = ap (step_of pattern) e ∙ ap (option_map (λ m. step.Lock m)) (tagged_own 120 n f)
 step_own pattern (step.GiveUp n) w f e = ap (step_of pattern) e ∙ ap (option_map (λ m. step.GiveUp m)) (tagged_own 120 n f)
 step_own pattern (step.Publish n o) w f e =
-    ap (λ p. step_of p w) f.2 ∙ ap (step_of (pattern_of o)) e.2 ∙ publish_own n o e.0 f.0 f.1 e.1
+    ap (λ p. step_of p w) f.2 ∙ ap (step_of (pattern_of o)) e.2 ∙ ap (option_map (λ p. step.Publish p.0 p.1))
+    (published_own n o e.0 f.0 f.1 e.1)
+step_own pattern (step.PublishV1 n o) w f e =
+    ap (λ p. step_of p w) f.2 ∙ ap (step_of (pattern_of o)) e.2 ∙ ap (option_map (λ p. step.PublishV1 p.0 p.1))
+    (published_own n o e.0 f.0 f.1 e.1)
 step_own pattern (step.Register n) w f e = ap (step_of pattern) e ∙ ap (option_map (λ m. step.Register m)) (tagged_own 120 n f)
 step_own pattern (step.Leave n) w f e = ap (step_of pattern) e ∙ ap (option_map (λ m. step.Leave m)) (tagged_own 120 n f)
 step_own pattern (step.Remove n) w f e = ap (step_of pattern) e ∙ ap (option_map (λ m. step.Remove m)) (tagged_own 120 n f)

@@ -17,6 +17,7 @@ abbrev pub step_word : ForeignStep → List ℕ
 step_word (step.Lock n) = codes "lock:" ++ tag 120 n
 step_word (step.GiveUp n) = codes "giveup:" ++ tag 120 n
 step_word (step.Publish n o) = codes "publish:" ++ (tag 120 n ++ option_tail (service_words o))
+step_word (step.PublishV1 n o) = codes "publish1:" ++ (tag 120 n ++ option_tail (service_words o))
 step_word (step.Register n) = codes "register:" ++ tag 120 n
 step_word (step.Leave n) = codes "leave:" ++ tag 120 n
 step_word (step.Remove n) = codes "remove:" ++ tag 120 n
@@ -25,6 +26,7 @@ word_so : (s : ForeignStep) → WritesStep s (step_word s)
 word_so (step.Lock n) = refl
 word_so (step.GiveUp n) = refl
 word_so (step.Publish n o) = (service_words o, any_own (service_words o), refl)
+word_so (step.PublishV1 n o) = (service_words o, any_own (service_words o), refl)
 word_so (step.Register n) = refl
 word_so (step.Leave n) = refl
 word_so (step.Remove n) = refl
@@ -42,6 +44,9 @@ word_no_space : (pattern : MessagingPattern) (s : ForeignStep) → StepFits patt
 word_no_space pattern (step.Lock n) f = decimal_no_space n f
 word_no_space pattern (step.GiveUp n) f = decimal_no_space n f
 word_no_space pattern (step.Publish n o) f
+    = both_parts 32 (tag 120 n) (option_tail (service_words o)) (decimal_no_space n f.0)
+    (tail_no_space (service_words o) (service_are_words o f.1))
+word_no_space pattern (step.PublishV1 n o) f
     = both_parts 32 (tag 120 n) (option_tail (service_words o)) (decimal_no_space n f.0)
     (tail_no_space (service_words o) (service_are_words o f.1))
 word_no_space pattern (step.Register n) f = decimal_no_space n f

@@ -172,6 +172,7 @@ of_verb verb.Retry words = option_map (λ p. command.Retry p.0 p.1) (with_number
 of_verb verb.GiveUp words = option_map (λ n. command.GiveUp n) (only publisher_letter words)
 of_verb verb.Receive words = option_map (λ n. command.Receive n) (only subscriber_letter words)
 of_verb verb.Read words = option_map (λ n. command.Read n) (only sample_letter words)
+of_verb verb.Sequence words = option_map (λ n. command.Sequence n) (only sample_letter words)
 of_verb verb.Release words = option_map (λ n. command.Release n) (only sample_letter words)
 of_verb verb.Update words = option_map (λ p. command.Update p) (port_of words)
 of_verb verb.Leave words = option_map (λ p. command.Leave p) (port_of words)

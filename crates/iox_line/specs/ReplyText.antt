@@ -1,5 +1,5 @@
 -- The bytes of each reply, without its newline.
-use Rattle.std.specs.Prelude.{ℕ, true, false, List, ◌++◌, flat_map, codes, decimal}
+use Rattle.std.specs.Prelude.{ℕ, true, false, List, Option, None, Some, ◌++◌, flat_map, codes, decimal}
 use Rattle.std.specs.Vec.{vec_items}
 use Rattle.iox_command.specs.RefusalText.{refusal_text}
 use Rattle.iox_command.specs.declared.reply.Reply.{Reply}
@@ -19,6 +19,8 @@ reply_text (reply.Received sample values) =
     (codes "ok m" ++ decimal sample) ++ flat_map (λ value. codes " " ++ decimal value) (vec_items values)
 reply_text reply.NothingWaits = codes "none"
 reply_text (reply.Values values) = codes "ok" ++ flat_map (λ value. codes " " ++ decimal value) (vec_items values)
+reply_text (reply.Sequence None) = codes "ok none"
+reply_text (reply.Sequence (Some number)) = codes "ok " ++ decimal number
 reply_text (reply.Has true) = codes "ok true"
 reply_text (reply.Has false) = codes "ok false"
 reply_text reply.Skipped = codes "skip"

@@ -36,11 +36,11 @@ IsNumberOrOff value.Off = Unit {0}
 abbrev pub service_words : ServiceOptions → List (List ℕ)
 service_words (options.PublishSubscribe o) = option_words
     (codes "subscribers=" ∷ codes "publishers=" ∷ codes "nodes=" ∷ codes "buffer=" ∷ codes "borrowed="
-    ∷ codes "history=" ∷ codes "overflow=" ∷ [])
+    ∷ codes "history=" ∷ codes "overflow=" ∷ codes "sequence=" ∷ [])
     (option_map decimal o.max_subscribers ∷ option_map decimal o.max_publishers ∷ option_map decimal o.max_nodes
     ∷ option_map decimal o.subscriber_max_buffer_size ∷ option_map decimal o.subscriber_max_borrowed_samples
     ∷ option_map decimal o.history_size
-    ∷ option_map switch_word o.enable_safe_overflow ∷ [])
+    ∷ option_map switch_word o.enable_safe_overflow ∷ option_map switch_word o.sequence_numbers ∷ [])
 service_words (options.Event o) = option_words
     (codes "notifiers=" ∷ codes "listeners=" ∷ codes "nodes=" ∷ codes "maxid=" ∷ codes "deadline=" ∷ codes "created="
     ∷ codes "dropped=" ∷ codes "dead="

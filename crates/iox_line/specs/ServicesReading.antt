@@ -59,7 +59,8 @@ name_of word = if is_visible_text 1 255 word then Some word else None
 
 -- the options of a publish-subscribe service, by their parts
 abbrev pub publish_subscribe_options : Pair (Option ℕ)
-    (Pair (Option ℕ) (Pair (Option ℕ) (Pair (Option ℕ) (Pair (Option ℕ) (Pair (Option ℕ) (Option Bool)))))) → PublishSubscribeOptions
+    (Pair (Option ℕ) (Pair (Option ℕ) (Pair (Option ℕ) (Pair (Option ℕ) (Pair (Option ℕ) (Pair (Option Bool) (Option Bool)))))))
+    → PublishSubscribeOptions
 publish_subscribe_options p = record {
   max_subscribers = p.first;
   max_publishers = p.second.first;
@@ -67,25 +68,28 @@ publish_subscribe_options p = record {
   subscriber_max_buffer_size = p.second.second.second.first;
   subscriber_max_borrowed_samples = p.second.second.second.second.first;
   history_size = p.second.second.second.second.second.first;
-  enable_safe_overflow = p.second.second.second.second.second.second;
+  enable_safe_overflow = p.second.second.second.second.second.second.first;
+  sequence_numbers = p.second.second.second.second.second.second.second;
 }
 
 -- what is named of a publish-subscribe service, part by part
 abbrev pub publish_subscribe_parts : List (List ℕ)
-    → Option (Pair (Option ℕ) (Pair (Option ℕ) (Pair (Option ℕ) (Pair (Option ℕ) (Pair (Option ℕ) (Pair (Option ℕ) (Option Bool)))))))
+    → Option (Pair (Option ℕ) (Pair (Option ℕ) (Pair (Option ℕ) (Pair (Option ℕ)
+    (Pair (Option ℕ) (Pair (Option ℕ) (Pair (Option Bool) (Option Bool))))))))
 publish_subscribe_parts ws = pair (named number_of (find (codes "subscribers=") ws))
     (pair (named number_of (find (codes "publishers=") ws))
     (pair (named number_of (find (codes "nodes=") ws))
     (pair (named number_of (find (codes "buffer=") ws))
     (pair (named number_of (find (codes "borrowed=") ws))
     (pair (named number_of (find (codes "history=") ws))
-    (named switch_of (find (codes "overflow=") ws)))))))
+    (pair (named switch_of (find (codes "overflow=") ws))
+    (named switch_of (find (codes "sequence=") ws))))))))
 
 -- how many options of a publish-subscribe service are named
 abbrev pub publish_subscribe_count : PublishSubscribeOptions → ℕ
 publish_subscribe_count o = one o.max_subscribers + one o.max_publishers + one o.max_nodes + one o.subscriber_max_buffer_size + one
     o.subscriber_max_borrowed_samples
-    + one o.history_size + one o.enable_safe_overflow
+    + one o.history_size + one o.enable_safe_overflow + one o.sequence_numbers
 
 -- the options of a publish-subscribe service, but the words have to be as many as they
 abbrev pub publish_subscribe_of : List (List ℕ) → Option PublishSubscribeOptions

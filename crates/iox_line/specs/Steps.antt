@@ -11,13 +11,15 @@ use Rattle.iox_line.specs.Options.{AnyOrder}
 use Rattle.iox_line.specs.Letters.{comma}
 use Rattle.iox_line.specs.Services.{service_words, ServiceFits}
 
--- the word writes the step: its verb, a colon, an x and the number of its node; to publish also options, if there are any, in any order,
--- after a colon and with a comma between each two
+-- the word writes the step: its verb, a colon, an x and the number of its node; to publish, in either version, also options, if there are
+-- any, in any order, after a colon and with a comma between each two
 abbrev pub WritesStep : ForeignStep → List ℕ → Type 0
 WritesStep (step.Lock node) word = word ≡ codes "lock:x" ++ decimal node
 WritesStep (step.GiveUp node) word = word ≡ codes "giveup:x" ++ decimal node
 WritesStep (step.Publish node options) word = (chosen : List (List ℕ)) × AnyOrder chosen (service_words options)
     × (word ≡ codes "publish:x" ++ (decimal node ++ elim chosen [ [] ↦ [] | one ∷ more ↦ codes ":" ++ joined comma (one ∷ more) ]))
+WritesStep (step.PublishV1 node options) word = (chosen : List (List ℕ)) × AnyOrder chosen (service_words options)
+    × (word ≡ codes "publish1:x" ++ (decimal node ++ elim chosen [ [] ↦ [] | one ∷ more ↦ codes ":" ++ joined comma (one ∷ more) ]))
 WritesStep (step.Register node) word = word ≡ codes "register:x" ++ decimal node
 WritesStep (step.Leave node) word = word ≡ codes "leave:x" ++ decimal node
 WritesStep (step.Remove node) word = word ≡ codes "remove:x" ++ decimal node
@@ -27,6 +29,7 @@ abbrev pub StepFits : MessagingPattern → ForeignStep → Type 0
 StepFits pattern (step.Lock node) = IsNumber node
 StepFits pattern (step.GiveUp node) = IsNumber node
 StepFits pattern (step.Publish node options) = IsNumber node × ServiceFits options × (pattern ≡ pattern_of options)
+StepFits pattern (step.PublishV1 node options) = IsNumber node × ServiceFits options × (pattern ≡ pattern_of options)
 StepFits pattern (step.Register node) = IsNumber node
 StepFits pattern (step.Leave node) = IsNumber node
 StepFits pattern (step.Remove node) = IsNumber node

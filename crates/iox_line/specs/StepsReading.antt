@@ -20,6 +20,7 @@ abbrev pub step_verb_word : StepVerb → List ℕ
 step_verb_word verb.Lock = codes "lock"
 step_verb_word verb.GiveUp = codes "giveup"
 step_verb_word verb.Publish = codes "publish"
+step_verb_word verb.PublishV1 = codes "publish1"
 step_verb_word verb.Register = codes "register"
 step_verb_word verb.Leave = codes "leave"
 step_verb_word verb.Remove = codes "remove"
@@ -27,24 +28,29 @@ step_verb_word verb.Remove = codes "remove"
 -- each verb beside its text
 abbrev pub step_verbs : List (List ℕ × StepVerb)
 step_verbs = (codes "lock", verb.Lock) ∷ (codes "publish", verb.Publish) ∷ (codes "register", verb.Register) ∷ (codes "leave", verb.Leave)
-    ∷ (codes "remove", verb.Remove) ∷ (codes "giveup", verb.GiveUp) ∷ []
+    ∷ (codes "remove", verb.Remove) ∷ (codes "giveup", verb.GiveUp) ∷ (codes "publish1", verb.PublishV1) ∷ []
 
 -- the verb that a text is
 abbrev pub step_verb_of : List ℕ → Option StepVerb
 step_verb_of text = choice step_verbs text
 
--- a node publishes, if it and the options are read
-abbrev pub published : Option ℕ → Option ServiceOptions → Option ForeignStep
-published None options = None
-published (Some node) None = None
-published (Some node) (Some options) = Some (step.Publish node options)
+-- a node and options, if both are read
+abbrev pub node_and_options : Option ℕ → Option ServiceOptions → Option (ℕ × ServiceOptions)
+node_and_options None options = None
+node_and_options (Some node) None = None
+node_and_options (Some node) (Some options) = Some (node, options)
+
+-- who publishes and with what options, after the colon of the verb: a node, and options after one more colon, if there is one
+abbrev pub published : MessagingPattern → List ℕ → Option (ℕ × ServiceOptions)
+published pattern text = node_and_options (tagged foreign_letter (before colon text))
+    (options_of pattern (pieces_left comma (beyond colon text)))
 
 -- the step of a verb and what stands after its colon
 abbrev pub step_at : MessagingPattern → StepVerb → List ℕ → Option ForeignStep
 step_at pattern verb.Lock text = option_map (λ n. step.Lock n) (tagged foreign_letter text)
 step_at pattern verb.GiveUp text = option_map (λ n. step.GiveUp n) (tagged foreign_letter text)
-step_at pattern verb.Publish text = published (tagged foreign_letter (before colon text))
-    (options_of pattern (pieces_left comma (beyond colon text)))
+step_at pattern verb.Publish text = option_map (λ p. step.Publish p.0 p.1) (published pattern text)
+step_at pattern verb.PublishV1 text = option_map (λ p. step.PublishV1 p.0 p.1) (published pattern text)
 step_at pattern verb.Register text = option_map (λ n. step.Register n) (tagged foreign_letter text)
 step_at pattern verb.Leave text = option_map (λ n. step.Leave n) (tagged foreign_letter text)
 step_at pattern verb.Remove text = option_map (λ n. step.Remove n) (tagged foreign_letter text)

@@ -23,6 +23,7 @@ verb_word verb.Retry = codes "retry"
 verb_word verb.GiveUp = codes "giveup"
 verb_word verb.Receive = codes "receive"
 verb_word verb.Read = codes "read"
+verb_word verb.Sequence = codes "sequence"
 verb_word verb.Release = codes "release"
 verb_word verb.Update = codes "update"
 verb_word verb.Leave = codes "leave"
@@ -33,7 +34,7 @@ abbrev pub seldom_verbs : List (List ℕ × Verb)
 seldom_verbs = (codes "node", verb.Node) ∷ (codes "close", verb.Close) ∷ (codes "publisher", verb.Publisher)
     ∷ (codes "subscriber", verb.Subscriber)
     ∷ (codes "loan_uninit", verb.LoanUninit) ∷ (codes "drop", verb.Drop) ∷ (codes "retry", verb.Retry) ∷ (codes "giveup", verb.GiveUp)
-    ∷ (codes "leave", verb.Leave) ∷ []
+    ∷ (codes "leave", verb.Leave) ∷ (codes "sequence", verb.Sequence) ∷ []
 
 -- all verbs but those that name a service, each beside its text
 abbrev pub verbs : List (List ℕ × Verb)

@@ -35,6 +35,8 @@ fn append_reply(reply: &Reply<u64>, out: &mut Vec<u8>) -> Result<(), AllocError>
         Reply::Received { sample, values } => append_sample(*sample, values.as_slice(), out),
         Reply::NothingWaits => append(b"none", out),
         Reply::Values(values) => append_read(values.as_slice(), out),
+        Reply::Sequence(None) => append(b"ok none", out),
+        Reply::Sequence(Some(number)) => append_made(b"ok ", *number, out),
         Reply::Has(true) => append(b"ok true", out),
         Reply::Has(false) => append(b"ok false", out),
         Reply::Skipped => append(b"skip", out),

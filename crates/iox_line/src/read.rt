@@ -159,6 +159,10 @@ fn of_port_verb<'a>(
             let sample = only(b'm', words)?;
             Some(PortCommand::Read { sample })
         }
+        Verb::Sequence => {
+            let sample = only(b'm', words)?;
+            Some(PortCommand::Sequence { sample })
+        }
         Verb::Release => {
             let sample = only(b'm', words)?;
             Some(PortCommand::Release { sample })

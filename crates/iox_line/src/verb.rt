@@ -36,6 +36,8 @@ pub enum Verb {
     Receive,
     /// `read`
     Read,
+    /// `sequence`
+    Sequence,
     /// `release`
     Release,
     /// `update`
@@ -126,6 +128,8 @@ fn seldom_verb(word: &[u8]) -> Option<Verb>
         Some(Verb::GiveUp)
     } else if is(word, b"leave") {
         Some(Verb::Leave)
+    } else if is(word, b"sequence") {
+        Some(Verb::Sequence)
     } else {
         None
     }

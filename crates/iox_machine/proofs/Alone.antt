@@ -630,8 +630,7 @@ module _ {T : Type 0} (pattern : MessagingPattern) (name : List ℕ) where
         (λ (service : Service T). PublisherArrives (old.made.publishers + 1)
         (new_publisher factory options service.settings) service) old answer new on
         (λ service after did. publisher-arrives old.made service answer (old.made.publishers + 1)
-        (new_publisher factory options service.settings)
-        service after (itself old.made service) refl did) h
+        (new_publisher factory options service.settings) service after (itself old.made service) refl did) h
     own-step (command.Subscriber factory options) old answer new stands h on =
         own-factory types choices buffer factory
         (λ (service : Service T). SubscriberArrives buffer (old.made.subscribers + 1)
@@ -661,8 +660,7 @@ module _ {T : Type 0} (pattern : MessagingPattern) (name : List ℕ) where
         (λ (one : Loan T). Writes loan one (length values == length one.values) (map Some values)) old answer new
         (by-asked (λ (other : Service T). is_some ((λ (service : Service T). at loan service.loans) other)) old on)
         (λ one service after did. writes old.made service answer loan one (length values == length one.values)
-        (map Some values) service after
-        (itself old.made service) did) h
+        (map Some values) service after (itself old.made service) did) h
     own-step (command.Drop loan) old answer new stands h on =
         own-one (λ (service : Service T). at loan service.loans)
         (λ (one : Loan T) (service : Service T) (answered : Reply T) (after : Service T). (answered ≡ reply.Done)
@@ -677,16 +675,15 @@ module _ {T : Type 0} (pattern : MessagingPattern) (name : List ℕ) where
         own-free publisher (Puts choices publisher values) old answer new on
         (λ one service after did. puts old.made service answer choices publisher values one service after (itself old.made service) did) h
     own-step (command.Retry publisher nanoseconds) old answer new stands h on =
-        own-blocked publisher
-        (λ (one : Publisher T) (send : Send T). GoesOn choices publisher one
+        own-blocked publisher (λ (one : Publisher T) (send : Send T). GoesOn choices publisher one
         (record send { retries = send.retries + 1; elapsed = nanoseconds })) old answer new on
         (λ one send service after did. goes-on old.made service answer choices publisher one
         (record send { retries = send.retries + 1; elapsed = nanoseconds }) service after (itself old.made service) did) h
     own-step (command.GiveUp publisher) old answer new stands h on =
         own-blocked publisher
         (λ (one : Publisher T) (send : Send T) (service : Service T) (answered : Reply T) (after : Service T).
-        (answered ≡ reply.Delivered send.delivered)
-        × (after ≡ with_publisher publisher (record one { blocked = None }) service)) old answer new on
+        (answered ≡ reply.Delivered send.delivered) × (after ≡ with_publisher publisher (record one { blocked = None }) service))
+        old answer new on
         (λ one send service after did. ends old.made service answer (reply.Delivered send.delivered)
         (with_publisher publisher (record one { blocked = None }) service) after
         (publisher-turned old.made service answer publisher (record one { blocked = None }) service (itself old.made service)) did tt) h
@@ -702,10 +699,15 @@ module _ {T : Type 0} (pattern : MessagingPattern) (name : List ℕ) where
     own-step (command.Read sample) old answer new stands h on =
         own-one (λ (service : Service T). at sample service.samples)
         (λ (one : Sample T) (service : Service T) (answered : Reply T) (after : Service T). (values : Vec T) ×
-        (vec_items values ≡ one.message.values)
-        × (answered ≡ reply.Values values) × (after ≡ service)) old answer new
+        (vec_items values ≡ one.message.values) × (answered ≡ reply.Values values) × (after ≡ service)) old answer new
         (by-asked (λ (other : Service T). is_some ((λ (service : Service T). at sample service.samples) other)) old on)
         (λ one service after did. stays old.made service after answer (reply.Values did.0) (did.2, did.3) tt) h
+    own-step (command.Sequence sample) old answer new stands h on =
+        own-one (λ (service : Service T). at sample service.samples)
+        (λ (one : Sample T) (service : Service T) (answered : Reply T) (after : Service T).
+        (answered ≡ reply.Sequence one.message.sequence) × (after ≡ service)) old answer new
+        (by-asked (λ (other : Service T). is_some ((λ (service : Service T). at sample service.samples) other)) old on)
+        (λ one service after did. stays old.made service after answer (reply.Sequence one.message.sequence) did tt) h
     own-step (command.Release sample) old answer new stands h on =
         own-one (λ (service : Service T). at sample service.samples) (Releases sample) old answer new
         (by-asked (λ (other : Service T). is_some ((λ (service : Service T). at sample service.samples) other)) old on)
@@ -717,8 +719,7 @@ module _ {T : Type 0} (pattern : MessagingPattern) (name : List ℕ) where
         old answer new on
         (λ one service after did. updates-first old.made service answer choices number refusal.Connection
         (λ (it : Publisher T) (mid : Service T) (answered : Reply T) (end : Service T). (answered ≡ reply.Done) × (end ≡ mid)) one service
-        after (itself old.made service)
-        (λ it mid k done. ends old.made service answer reply.Done mid after k done tt) did) h
+        after (itself old.made service) (λ it mid k done. ends old.made service answer reply.Done mid after k done tt) did) h
     own-step (command.Update (port.Subscriber number)) old answer new stands h on =
         own-one (subscriber_in number)
         (subscribing.UpdatesFirst choices buffer number refusal.Connection
@@ -726,8 +727,7 @@ module _ {T : Type 0} (pattern : MessagingPattern) (name : List ℕ) where
         old answer new (by-asked (λ (other : Service T). is_some ((subscriber_in number) other)) old on)
         (λ one service after did. subscriber-updates old.made service answer choices buffer number refusal.Connection
         (λ (it : Subscriber) (mid : Service T) (answered : Reply T) (end : Service T). (answered ≡ reply.Done) × (end ≡ mid)) one service
-        after (itself old.made service)
-        (λ it mid k done. ends old.made service answer reply.Done mid after k done tt) did) h
+        after (itself old.made service) (λ it mid k done. ends old.made service answer reply.Done mid after k done tt) did) h
     own-step (command.Leave (port.Publisher number)) old answer new stands h on =
         own-free number
         (λ (one : Publisher T) (service : Service T) (answered : Reply T) (after : Service T). (answered ≡ reply.Done)

@@ -248,6 +248,9 @@ module _ {T : Type 0} (types : MessageTypeDetails) (choices : Choices T) (buffer
       one (Sample T) (λ (other : Service T). at sample other.samples)
       (λ made it old answer new. (values : Vec T) × (vec_items values ≡ it.message.values) × (answer ≡ reply.Values values)
       × (new ≡ old)) its
+  each-step (command.Sequence sample) on its =
+      one (Sample T) (λ (other : Service T). at sample other.samples)
+      (λ made it old answer new. (answer ≡ reply.Sequence it.message.sequence) × (new ≡ old)) its
   each-step (command.Release sample) on its = one (Sample T) (λ (other : Service T). at sample other.samples) (λ made. Releases sample) its
   each-step (command.Update (port.Publisher number)) on its =
       free number

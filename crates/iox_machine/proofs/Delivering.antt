@@ -1,15 +1,22 @@
 -- What an update and a send come to, by what was answered and decided.
-use Rattle.std.proofs.Common.{◌≡◌, ◌+◌, ◌⊎◌, ℕ, true, List, [], ◌∷◌, Option, None, Some, Result, Ok, Err, refl, sym, subst, inl, inr, cond}
-use Rattle.std.specs.Prelude.{drop, is_some, slice_get, MatchOption, MatchResult}
+use Rattle.std.proofs.Common.{◌≡◌, ◌+◌, ◌⊎◌, ℕ, true, List, [], ◌∷◌, Option, None, Some, Result, Ok, Err, refl, sym, subst, inl, inr}
+use Rattle.std.proofs.Common.{cond, Bool, false}
+use Rattle.std.specs.Prelude.{◌++◌, drop, is_some, slice_get, MatchBool, MatchOption, MatchResult}
 use Rattle.iox_machine.specs.Choices.{Choices}
-use Rattle.iox_machine.specs.Mailbox.{Mailbox, put}
-use Rattle.iox_machine.specs.PublisherUpdate.{UpdateAnswers}
-use Rattle.iox_machine.specs.Sending.{Delivers, GoesOn, MayDecide}
+use Rattle.iox_machine.specs.Mailbox.{Mailbox, newest, put}
+use Rattle.iox_machine.specs.Message.{Message}
+use Rattle.iox_machine.specs.PortList.{those}
+use Rattle.iox_machine.specs.PublisherUpdate.{UpdateAnswers, UpdatesFirst}
+use Rattle.iox_machine.specs.Replies.{IsRefused}
+use Rattle.iox_machine.specs.RunLaws.{has_begun}
+use Rattle.iox_machine.specs.Sending.{Begins, Delivers, GoesOn, MayDecide, Sends, numbered}
 use Rattle.iox_machine.specs.Service.{Service, Publisher, Send, with_publisher, mailbox, with_mailbox}
+use Rattle.iox_command.specs.DomainValues.Sequences.{is_used_up, next_sequence}
 use Rattle.iox_command.specs.DomainValues.declared.backpressure.BackpressureDecision.{BackpressureDecision}
 use Rattle.iox_command.specs.DomainValues.declared.backpressure.BackpressureDecision.TheVariants.{Retry, DiscardData, DiscardDataAndFail}
 use Rattle.iox_command.specs.DomainValues.declared.connection_failure.ConnectionFailure.{ConnectionFailure}
 use Rattle.iox_command.specs.DomainValues.declared.degradation.DegradationAction.{DegradationAction}
+use Rattle.iox_command.specs.DomainValues.declared.port_error.SendError.{SendError}
 use Rattle.iox_command.specs.DomainValues.declared.port_error.SendError.TheVariants as error
 use Rattle.iox_command.specs.declared.refusal.Refusal.TheVariants as refusal
 use Rattle.iox_command.specs.declared.reply.Reply.{Reply}
@@ -112,3 +119,53 @@ module _ {T : Type 0} (choices : Choices T) (number : ℕ) where
               blocked = cond (is_some (slice_get pair.0.left 0)) (Some pair.0) None;
             }) pair.1)) (sym on.1) (told, came),
       )
+
+-- ---- a send begins, or is refused at once
+
+-- why a send is refused before it brings its connections up to date: no number is left, or its publisher left
+abbrev pub at_once : Bool → SendError
+at_once used_up = cond used_up error.InternalError error.ConnectionBrokenSinceSenderNoLongerExists
+
+pub at-once-silent : (T : Type 0) (used_up : Bool) → has_begun {T = T} (reply.Refused (refusal.Send (at_once used_up))) ≡ false
+at-once-silent T true = refl
+at-once-silent T false = refl
+
+module _ {T : Type 0} where
+  -- a publisher whose send of a message begins
+  abbrev pub keeping : Message T → Publisher T → Service T → Publisher T
+  keeping message publisher service = record publisher {
+    last_sequence = next_sequence publisher.last_sequence;
+    history = newest service.settings.history_size (publisher.history ++ numbered publisher message ∷ []);
+  }
+
+  -- that send
+  abbrev pub sending : Message T → Publisher T → Send T
+  sending message publisher = record {
+    message = numbered publisher message;
+    left = those publisher.connected;
+    retries = 0;
+    elapsed = 0;
+    delivered = 0;
+    fails = false;
+  }
+
+  pub by-send : (choices : Choices T) (number : ℕ) (message : Message T) (publisher : Publisher T) (old : Service T) (answer : Reply T)
+      (new : Service T)
+      → Sends choices number message publisher old answer new
+      → UpdatesFirst choices number (λ failure. refusal.Send (error.ConnectionError failure)) (Begins choices number message) publisher old
+      answer new
+      ⊎ ((used_up : Bool) × IsRefused (refusal.Send (at_once used_up)) old answer new)
+  by-send choices number message publisher old answer new h =
+      stood publisher.stands (is_used_up publisher.last_sequence) h
+    where
+      stood : (stands used_up : Bool)
+          → MatchBool stands (MatchBool used_up (IsRefused (refusal.Send error.InternalError) old answer new)
+          (UpdatesFirst choices number (λ failure. refusal.Send (error.ConnectionError failure)) (Begins choices number message)
+          publisher old answer new))
+          (IsRefused (refusal.Send error.ConnectionBrokenSinceSenderNoLongerExists) old answer new)
+          → UpdatesFirst choices number (λ failure. refusal.Send (error.ConnectionError failure)) (Begins choices number message) publisher
+          old answer new
+          ⊎ ((used_up : Bool) × IsRefused (refusal.Send (at_once used_up)) old answer new)
+      stood true true refused = inr (true, refused)
+      stood true false updates = inl updates
+      stood false used_up refused = inr (false, refused)

@@ -9,7 +9,7 @@ use Rattle.std.specs.Option.{option_map_or}
 use Rattle.iox_machine.specs.RunLaws.{sent_as}
 use Rattle.iox_machine.proofs.Shorthands.{given_back, registered}
 use Rattle.iox_machine.specs.Choices.{Choices}
-use Rattle.iox_machine.proofs.Delivering.{Outcomes, by-outcome, first_of, offered, deliver, goes-on-so}
+use Rattle.iox_machine.proofs.Delivering.{Outcomes, by-outcome, first_of, offered, deliver, goes-on-so, keeping, at_once, by-send, sending}
 use Rattle.iox_machine.specs.Arriving.{worst_case, PublisherArrives, SubscriberArrives}
 use Rattle.iox_machine.specs.Mailbox.{Mailbox, put, newest}
 use Rattle.iox_machine.specs.Message.{Message, Loan, is_written}
@@ -429,15 +429,8 @@ module _ {T : Type 0} where
       (new : Service T)
       → Begins choices number message publisher old answer new → ByPublisher number old new
   by-begins choices number message publisher old answer new h =
-      by-goes-on choices number (record publisher { history = newest old.settings.history_size (publisher.history ++ message ∷ []) })
-      (record {
-        message = message;
-        left = those publisher.connected;
-        retries = 0;
-        elapsed = 0;
-        delivered = 0;
-        fails = false;
-      }) old answer new h
+      by-goes-on choices number (keeping message publisher old)
+      (sending message publisher) old answer new h
 
   by-refused : (number : ℕ) (why : Refusal) (old mid : Service T) (answer : Reply T) (new : Service T) → ByPublisher number old mid
       → IsRefused why mid answer new → ByPublisher number old new
@@ -447,15 +440,12 @@ module _ {T : Type 0} where
       (new : Service T)
       → Sends choices number message publisher old answer new → ByPublisher number old new
   by-sends choices number message publisher old answer new h =
-      elim (by-bool publisher.stands
-      (publishing.UpdatesFirst choices number (λ failure. refusal.Send (error.ConnectionError failure))
-      (Begins choices number message) publisher old answer new)
-      (IsRefused (refusal.Send error.ConnectionBrokenSinceSenderNoLongerExists) old answer new) h) [
+      elim (by-send choices number message publisher old answer new h) [
         | inl w ↦ by-updates choices (ByPublisher number old new) number (λ failure. refusal.Send (error.ConnectionError failure))
             (Begins choices number message) publisher old answer new
             (λ after mid on begun. by-both number old mid new on (by-begins choices number message after mid answer new begun))
-            (λ why mid on refused. by-refused number why old mid answer new on refused) w.1
-        | inr w ↦ by-refused number (refusal.Send error.ConnectionBrokenSinceSenderNoLongerExists) old old answer new
+            (λ why mid on refused. by-refused number why old mid answer new on refused) w
+        | inr w ↦ by-refused number (refusal.Send (at_once w.0)) old old answer new
             (by-none number old) w.1
       ]
 
@@ -471,8 +461,8 @@ module _ {T : Type 0} where
       → Puts choices number values publisher old answer new → ByPublisher number old new
   by-puts choices number values publisher old answer new (None, after, lent, sent) =
       by-both number old (with_publisher number after old) new (by-set number after old)
-      (by-sends choices number (record { number = publisher.next; values = values }) after (with_publisher number after old) answer new
-      sent)
+      (by-sends choices number (record { number = publisher.next; sequence = None; values = values }) after
+      (with_publisher number after old) answer new sent)
   by-puts choices number values publisher old answer new (Some why, after, lent, (told, same)) =
       subst (λ (s : Service T). ByPublisher number old s) (sym same) (by-none number old)
 

@@ -10,7 +10,7 @@ use Rattle.std.specs.Vec.{vec_items}
 use Rattle.iox_machine.proofs.Shorthands.{RefusesNode, factory_of, given_back, left, now_at, parting, registered, taken}
 use Rattle.iox_machine.specs.Choices.{Choices}
 use Rattle.iox_machine.proofs.AlwaysChosen.{answers-go, delivers-goes}
-use Rattle.iox_machine.proofs.Delivering.{Outcomes}
+use Rattle.iox_machine.proofs.Delivering.{Outcomes, keeping, sending}
 use Rattle.iox_machine.specs.PublisherUpdate.{UpdateAnswers}
 use Rattle.iox_machine.specs.Agreement.{unfit, event_verdict, publish_subscribe_verdict, request_response_verdict}
 use Rattle.iox_machine.specs.Arriving.{PublisherArrives, SubscriberArrives, new_publisher, new_subscriber, worst_case}
@@ -20,7 +20,7 @@ use Rattle.iox_machine.specs.Factories.{Negotiates, Enters, CreatesService, Open
 use Rattle.iox_machine.specs.Factories.{either_lacking}
 use Rattle.iox_machine.specs.GoingLaws.{EachIsAnswered, AlwaysChoose}
 use Rattle.iox_machine.specs.Lending.{Lends, LendsLonger, loan_refusal}
-use Rattle.iox_machine.specs.Mailbox.{Mailbox, has_data, newest}
+use Rattle.iox_machine.specs.Mailbox.{Mailbox, has_data}
 use Rattle.iox_machine.specs.Message.{Message, Loan, Sample, is_written}
 use Rattle.iox_machine.specs.Negotiation.{Call, Answer, Creates, Opens, OpensOrCreates}
 use Rattle.iox_machine.specs.Phase.{Own, acted, closed_by, same_pattern}
@@ -70,6 +70,7 @@ use Rattle.iox_command.specs.declared.service.ServiceOptions.{ServiceOptions}
 use Rattle.iox_command.specs.declared.service.ServiceOptions.TheVariants as options
 use Rattle.iox_command.specs.declared.step.StepBefore.{StepBefore}
 use Rattle.iox_command.specs.DomainValues.declared.degradation.DegradationAction.{DegradationAction}
+use Rattle.iox_command.specs.DomainValues.Sequences.{is_used_up}
 
 -- ---- cases
 
@@ -254,14 +255,19 @@ module _ {T : Type 0} (choices : Choices T) (always : AlwaysChoose choices) wher
       → Answered (Sends choices number message publisher old)
   sends-go number message publisher old =
       if-bool publisher.stands
+      (λ answer new. MatchBool (is_used_up publisher.last_sequence) (IsRefused (refusal.Send error.InternalError) old answer new)
+      (publishing.UpdatesFirst choices number (λ failure. refusal.Send (error.ConnectionError failure)) (Begins choices number message)
+      publisher old answer new))
+      (IsRefused (refusal.Send error.ConnectionBrokenSinceSenderNoLongerExists) old)
+      (λ stands. if-bool (is_used_up publisher.last_sequence) (IsRefused (refusal.Send error.InternalError) old)
       (publishing.UpdatesFirst choices number (λ failure. refusal.Send (error.ConnectionError failure)) (Begins choices number message)
       publisher old)
-      (IsRefused (refusal.Send error.ConnectionBrokenSinceSenderNoLongerExists) old)
+      (λ is. refuse (refusal.Send error.InternalError) old)
       (λ is. publisher-updates number (λ failure. refusal.Send (error.ConnectionError failure)) (Begins choices number message) publisher
       old
       (λ one mid. goes-on-goes number
-      (record one { history = newest mid.settings.history_size (one.history ++ message ∷ []) })
-      (record { message = message; left = those one.connected; retries = 0; elapsed = 0; delivered = 0; fails = false }) mid))
+      (keeping message one mid)
+      (sending message one) mid)))
       (λ is. refuse (refusal.Send error.ConnectionBrokenSinceSenderNoLongerExists) old)
 
   lends-goes : (number values : ℕ) (publisher : Publisher T) (service : Service T)
@@ -304,9 +310,9 @@ module _ {T : Type 0} (choices : Choices T) (always : AlwaysChoose choices) wher
       here : (refused : Option LoanError) × (after : Publisher T) × Lends number (length values) publisher old refused after
           → Answered (Puts choices number values publisher old)
       here (None, after, lent) =
-          let did : Answered (Sends choices number (record { number = publisher.next; values = values }) after
+          let did : Answered (Sends choices number (record { number = publisher.next; sequence = None; values = values }) after
           (with_publisher number after old)) =
-          sends-go number (record { number = publisher.next; values = values }) after (with_publisher number after old) in
+          sends-go number (record { number = publisher.next; sequence = None; values = values }) after (with_publisher number after old) in
           (did.0, did.1, (None, after, lent, did.2))
       here (Some why, after, lent) = (
         reply.Refused (refusal.Send (error.LoanError why)),
@@ -693,6 +699,11 @@ module _ {T : Type 0} (choices : Choices T) (always : AlwaysChoose choices) wher
         (all-found (AllMessages (λ publisher message. Fits message))
         (λ (it : Service T). is_some (at sample it.samples)) old.services service first told).2 in
         (reply.Values fits.0, service, (fits.0, fits.1, refl, refl)))
+    goes old told (command.Sequence sample) =
+        at-one-goes (λ (service : Service T). at sample service.samples)
+        (λ (one : Sample T) (service : Service T) (answered : Reply T) (after : Service T).
+        (answered ≡ reply.Sequence one.message.sequence) × (after ≡ service)) old
+        (λ one service first found. (reply.Sequence one.message.sequence, service, (refl, refl)))
     goes old told (command.Release sample) =
         at-one-goes (λ (service : Service T). at sample service.samples) (Releases sample) old
         (λ one service first found. (

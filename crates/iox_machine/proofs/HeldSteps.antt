@@ -71,7 +71,7 @@ module _ {T : Type 0} (sample : ℕ) where
   abbrev test : Service T → Bool
   test service = is_some (at sample service.samples)
 
-  abbrev IsThere : State T → Type 0
+  abbrev pub IsThere : State T → Type 0
   IsThere state = list_any (λ (service : Service T). is_some (at sample service.samples)) state.services ≡ true
 
   abbrev pub AreOwned : State T → Type 0
@@ -435,7 +435,7 @@ module _ {T : Type 0} (sample : ℕ) where
   -- ---- each command
 
   module _ (types : MessageTypeDetails) (choices : Choices T) (buffer : ℕ) where
-    step-stays : (asked : Command T) (old : State T) (answer : Reply T) (new : State T)
+    pub step-stays : (asked : Command T) (old : State T) (answer : Reply T) (new : State T)
         → Step types choices buffer asked old answer new → AreOwned old → Stays (is_release_of sample asked) old new
     step-stays command.Node old answer new (inl (told, came)) all =
         stays-none false old new (ap (λ (s : State T). s.services) came) (ap (λ (s : State T). s.factories) came) all
@@ -527,6 +527,12 @@ module _ {T : Type 0} (sample : ℕ) where
         (vec_items values ≡ one.message.values) × (answered ≡ reply.Values values) × (after ≡ service)) old answer new
         (λ one service after is own did. subst (λ (s : Service T). Keeps sample false old.factories service s) (sym did.3)
         (keeps-none sample false old.factories service)) h all
+    step-stays (command.Sequence number) old answer new h all =
+        stays-at-one false (λ (service : Service T). at number service.samples)
+        (λ (one : Sample T) (service : Service T) (answered : Reply T) (after : Service T).
+        (answered ≡ reply.Sequence one.message.sequence) × (after ≡ service)) old answer new
+        (λ one service after is own did. subst (λ (s : Service T). Keeps sample false old.factories service s) (sym did.1)
+        (keeps-none sample false old.factories service)) h all
     step-stays (command.Release number) old answer new h all =
         stays-at-one (number == sample) (λ (service : Service T). at number service.samples) (Releases number) old answer new
         (λ one service after is own did. keeps-releases sample old.factories number one service answer after did) h all
@@ -575,7 +581,7 @@ module _ {T : Type 0} (sample : ℕ) where
     run-owned (one ∷ more) old answers new run all =
         run-owned more run.1 run.2 new run.4 (step-stays one old run.0 run.1 run.3 all).0
 
-    run-there : (asked : List (Command T)) (old : State T) (answers : List (Reply T)) (new : State T)
+    pub run-there : (asked : List (Command T)) (old : State T) (answers : List (Reply T)) (new : State T)
         → Runs types choices buffer asked old answers new → list_any (is_release_of sample) asked ≡ false → AreOwned old → IsThere old
         → IsThere new
     run-there [] old answers new run held all there = subst IsThere (sym run.1) there
@@ -587,7 +593,7 @@ module _ {T : Type 0} (sample : ℕ) where
 
 module _ {T : Type 0} (choices : Choices T) (types : MessageTypeDetails) (buffer : ℕ) where
   -- the sample that a receive makes is there
-  received-there : (subscriber sample : ℕ) (old : State T) (values : Vec T) (new : State T)
+  pub received-there : (subscriber sample : ℕ) (old : State T) (values : Vec T) (new : State T)
       → Step types choices buffer (command.Receive subscriber) old (reply.Received sample values) new → sample ≡ old.made.samples + 1
       → IsThere sample new
   received-there subscriber sample old values new h is =

@@ -8,7 +8,7 @@ use Rattle.std.specs.Prelude.{◌==◌, ⊤, nat_lt, nat_le, is_some, filter, sl
 use Rattle.iox_machine.specs.RunLaws.{sent_as}
 use Rattle.iox_machine.proofs.Shorthands.{given_back, left, registered}
 use Rattle.iox_machine.specs.Choices.{Choices}
-use Rattle.iox_machine.proofs.Delivering.{Outcomes, by-outcome, first_of, offered, deliver, goes-on-so}
+use Rattle.iox_machine.proofs.Delivering.{Outcomes, by-outcome, first_of, offered, deliver, goes-on-so, keeping, at_once, by-send, sending}
 use Rattle.iox_machine.specs.Arriving.{worst_case, PublisherArrives, SubscriberArrives}
 use Rattle.iox_machine.specs.Mailbox.{Mailbox, newest, put}
 use Rattle.iox_machine.specs.Message.{Message, Loan, Sample, is_written}
@@ -259,22 +259,18 @@ module _ {T : Type 0} (counts : Made) (origin : Service T) (answer : Reply T) wh
   begins : (choices : Choices T) (number : ℕ) (message : Message T) (publisher : Publisher T) (old new : Service T) → K old
       → Begins choices number message publisher old answer new → R new
   begins choices number message publisher old new k h =
-      goes-on choices number (record publisher { history = newest old.settings.history_size (publisher.history ++ message ∷ []) })
-      (record { message = message; left = those publisher.connected; retries = 0; elapsed = 0; delivered = 0; fails = false })
+      goes-on choices number (keeping message publisher old)
+      (sending message publisher)
       old new k h
 
   pub sends : (choices : Choices T) (number : ℕ) (message : Message T) (publisher : Publisher T) (old new : Service T) → K old
       → Sends choices number message publisher old answer new → R new
   sends choices number message publisher old new k h =
-      elim (by-bool publisher.stands
-      (publishing.UpdatesFirst choices number (λ failure. refusal.Send (error.ConnectionError failure)) (Begins choices number message)
-      publisher old answer
-      new)
-      (IsRefused (refusal.Send error.ConnectionBrokenSinceSenderNoLongerExists) old answer new) h) [
+      elim (by-send choices number message publisher old answer new h) [
         | inl w ↦ updates-first choices number (λ failure. refusal.Send (error.ConnectionError failure)) (Begins choices number message)
             publisher old new k
-            (λ one mid on begun. begins choices number message one mid new on begun) w.1
-        | inr w ↦ ends (reply.Refused (refusal.Send error.ConnectionBrokenSinceSenderNoLongerExists)) old new k w.1 tt
+            (λ one mid on begun. begins choices number message one mid new on begun) w
+        | inr w ↦ ends (reply.Refused (refusal.Send (at_once w.0))) old new k w.1 tt
       ]
 
   -- ---- loans
@@ -301,8 +297,8 @@ module _ {T : Type 0} (counts : Made) (origin : Service T) (answer : Reply T) wh
   pub puts : (choices : Choices T) (number : ℕ) (values : List T) (publisher : Publisher T) (old new : Service T) → K old
       → Puts choices number values publisher old answer new → R new
   puts choices number values publisher old new k (None, after, lent, sent) =
-      sends choices number (record { number = publisher.next; values = values }) after (with_publisher number after old) new
-      (publisher-turned number after old k) sent
+      sends choices number (record { number = publisher.next; sequence = None; values = values }) after
+      (with_publisher number after old) new (publisher-turned number after old k) sent
   puts choices number values publisher old new k (Some why, after, lent, refused) =
       ends (reply.Refused (refusal.Send (error.LoanError why))) old new k refused tt
 

@@ -421,6 +421,11 @@ module _ {T : Type 0} where
         (λ (one : Sample T) (service : Service T) (answered : Reply T) (after : Service T). (values : Vec T) ×
         (vec_items values ≡ one.message.values) × (answered ≡ reply.Values values) × (after ≡ service)) old answer new
         (λ one service after is did. lenders-alike old.factories service after did.3) h all
+    step-lenders (command.Sequence number) old answer new h all =
+        all-at-one (λ (service : Service T). at number service.samples)
+        (λ (one : Sample T) (service : Service T) (answered : Reply T) (after : Service T).
+        (answered ≡ reply.Sequence one.message.sequence) × (after ≡ service)) old answer new
+        (λ one service after is did. lenders-alike old.factories service after did.1) h all
     step-lenders (command.Release number) old answer new h all =
         all-at-one (λ (service : Service T). at number service.samples) (Releases number) old answer new
         (λ one service after is did. subst (λ (s : Service T). KeepsLenders old.factories service s) (sym did.1)

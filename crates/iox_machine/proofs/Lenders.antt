@@ -8,7 +8,7 @@ use Rattle.std.specs.Prelude.{◌==◌, nat_lt, is_some, filter, fold, slice_get
 use Rattle.iox_machine.proofs.Shorthands.{registered}
 use Rattle.iox_machine.specs.RunLaws.{sent_as}
 use Rattle.iox_machine.specs.Choices.{Choices}
-use Rattle.iox_machine.proofs.Delivering.{Outcomes, by-outcome, first_of, offered, deliver, goes-on-so}
+use Rattle.iox_machine.proofs.Delivering.{Outcomes, by-outcome, first_of, offered, deliver, goes-on-so, keeping, at_once, by-send, sending}
 use Rattle.iox_machine.specs.Arriving.{PublisherArrives}
 use Rattle.iox_machine.specs.Lending.{Lends, LendsLonger, loan_refusal}
 use Rattle.iox_machine.specs.Mailbox.{Mailbox, newest, put}
@@ -293,23 +293,19 @@ module _ {T : Type 0} (factories : List (ℕ × Factory)) where
       (new : Service T)
       → at number old.publishers ≡ Some publisher → Sends choices number message publisher old answer new → KeepsLenders old new
   lenders-send choices number message publisher old answer new found h =
-      elim (by-bool publisher.stands
-      (publishing.UpdatesFirst choices number (λ failure. refusal.Send (error.ConnectionError failure)) (Begins choices number message)
-      publisher old answer
-      new)
-      (IsRefused (refusal.Send error.ConnectionBrokenSinceSenderNoLongerExists) old answer new) h) [
+      elim (by-send choices number message publisher old answer new h) [
         | inl w ↦ lenders-update choices (KeepsLenders old new) number (λ failure. refusal.Send (error.ConnectionError failure))
             (Begins choices number message) publisher old answer new found
             (λ after mid on there begun own. begins after mid there begun (on own))
-            (λ why mid on refused. lenders-refused why old mid answer new on refused) w.1
-        | inr w ↦ lenders-refused (refusal.Send error.ConnectionBrokenSinceSenderNoLongerExists) old old answer new (λ own. own) w.1
+            (λ why mid on refused. lenders-refused why old mid answer new on refused) w
+        | inr w ↦ lenders-refused (refusal.Send (at_once w.0)) old old answer new (λ own. own) w.1
       ]
     where
       begins : (after : Publisher T) (mid : Service T) → at number mid.publishers ≡ Some after
           → Begins choices number message after mid answer new → KeepsLenders mid new
       begins after mid there begun =
-          lenders-go-on choices number after (record after { history = newest mid.settings.history_size (after.history ++ message ∷ []) })
-          (record { message = message; left = those after.connected; retries = 0; elapsed = 0; delivered = 0; fails = false })
+          lenders-go-on choices number after (keeping message after mid)
+          (sending message after)
           mid answer new there refl refl begun
 
   -- who lends is of the same factory, and stands as before
@@ -355,7 +351,7 @@ module _ {T : Type 0} (factories : List (ℕ × Factory)) where
   lenders-put choices number values publisher old answer new found (None, after, lent, sent) =
       let kept : Stays publisher after = lends-stays number (length values) publisher old None after lent in
       let mid : Service T = with_publisher number after old in
-      (λ own. lenders-send choices number (record { number = publisher.next; values = values }) after mid answer new
+      (λ own. lenders-send choices number (record { number = publisher.next; sequence = None; values = values }) after mid answer new
       (at-changed number after publisher old.publishers found) sent
       (lenders-turned number publisher after old found kept.0 (λ up. sym kept.1 ∙ up) own))
 

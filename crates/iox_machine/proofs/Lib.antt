@@ -56,6 +56,10 @@ mod Spent
 mod Nexts
 mod StillSent
 mod Once
+mod Gaps
+mod Losses
+mod Sequences
+mod Told
 mod Nodes
 mod Places
 mod Taken

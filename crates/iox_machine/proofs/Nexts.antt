@@ -1,11 +1,11 @@
 -- What a port does leaves the loans of its service, and the number that each publisher's next message has.
-use Rattle.std.proofs.Common.{◌≡◌, ◌+◌, ℕ, Bool, true, false, cond, not, ◌&&◌, List, [], ◌∷◌, ◌++◌, Option, None, Some, refl, sym, ap}
-use Rattle.std.proofs.Common.{subst, inl, inr, ◌∙◌}
+use Rattle.std.proofs.Common.{◌≡◌, ◌+◌, ℕ, Bool, true, false, cond, not, ◌&&◌, List, [], ◌∷◌, Option, None, Some, refl, sym, ap, subst}
+use Rattle.std.proofs.Common.{inl, inr, ◌∙◌}
 use Rattle.std.proofs.lemmas.Bool.{eqb-true, eqb-false, cases_Bool}
 use Rattle.std.specs.Option.{option_map_or}
 use Rattle.std.specs.Prelude.{◌==◌, is_some, option_map, fold, filter, slice_get, drop, zip}
 use Rattle.iox_machine.specs.Choices.{Choices}
-use Rattle.iox_machine.proofs.Delivering.{Outcomes, by-outcome, first_of, offered, deliver, goes-on-so}
+use Rattle.iox_machine.proofs.Delivering.{Outcomes, by-outcome, first_of, offered, deliver, goes-on-so, keeping, at_once, by-send, sending}
 use Rattle.iox_machine.specs.Mailbox.{Mailbox, put, newest}
 use Rattle.iox_machine.specs.Message.{Message}
 use Rattle.iox_machine.specs.PortList.{those}
@@ -176,8 +176,8 @@ module _ {T : Type 0} where
       (new : Service T)
       → next_at number old ≡ Some publisher.next → Begins choices number message publisher old answer new → Same old new
   same-begins choices number message publisher old answer new is h =
-      same-goes-on choices number (record publisher { history = newest old.settings.history_size (publisher.history ++ message ∷ []) })
-      (record { message = message; left = those publisher.connected; retries = 0; elapsed = 0; delivered = 0; fails = false })
+      same-goes-on choices number (keeping message publisher old)
+      (sending message publisher)
       old answer new is h
 
   pub same-refused : (why : Refusal) (old mid : Service T) (answer : Reply T) (new : Service T) → Same old mid
@@ -188,17 +188,13 @@ module _ {T : Type 0} where
       (new : Service T)
       → next_at number old ≡ Some publisher.next → Sends choices number message publisher old answer new → Same old new
   same-sends choices number message publisher old answer new is h =
-      elim (by-bool publisher.stands
-      (publishing.UpdatesFirst choices number (λ failure. refusal.Send (error.ConnectionError failure)) (Begins choices number message)
-      publisher old answer
-      new)
-      (IsRefused (refusal.Send error.ConnectionBrokenSinceSenderNoLongerExists) old answer new) h) [
+      elim (by-send choices number message publisher old answer new h) [
         | inl w ↦ same-updates choices (Same old new) number (λ failure. refusal.Send (error.ConnectionError failure))
             (Begins choices number message)
             publisher old answer new is
             (λ after mid on known begun. same-both old mid new on (same-begins choices number message after mid answer new known begun))
-            (λ why mid on refused. same-refused why old mid answer new on refused) w.1
-        | inr w ↦ same-refused (refusal.Send error.ConnectionBrokenSinceSenderNoLongerExists) old old answer new (same-itself old) w.1
+            (λ why mid on refused. same-refused why old mid answer new on refused) w
+        | inr w ↦ same-refused (refusal.Send (at_once w.0)) old old answer new (same-itself old) w.1
       ]
 
   -- ---- a subscriber

@@ -9,7 +9,7 @@ use Rattle.iox_machine.specs.Agreement.{Agreement, are_within_limits}
 use Rattle.iox_machine.specs.AgreementLaws.{NodesAreAgreed}
 use Rattle.iox_machine.specs.Asked.{settings_of}
 use Rattle.iox_machine.specs.Phase.{Absent, BeingMade, Emptied, Foreign, Node, Own, Phase, Published, acted, closed_by, entered, is_in}
-use Rattle.iox_machine.specs.Phase.{left, left_by, removed_by, same_node, same_pattern}
+use Rattle.iox_machine.specs.Phase.{left, left_by, removed_by, same_node, same_pattern, published_by, has_numbers}
 use Rattle.iox_machine.specs.Run.{Runs}
 use Rattle.iox_machine.specs.State.{State, new_state}
 use Rattle.iox_machine.proofs.Calls.{HasRoom}
@@ -112,16 +112,23 @@ removed-few node (Emptied life agreed by) few =
 closed-few : (node : ℕ) (phase : Phase) → Few phase → Few (closed_by node phase)
 closed-few node phase few = removed-few (Own node) (left_by (Own node) phase) (left-by-few (Own node) phase few)
 
+published-few : (types : MessageTypeDetails) (pattern : MessagingPattern) (life : ℕ) (by : Node) (node : ℕ) (named : ServiceOptions)
+    → Few (published_by types pattern life by node named)
+published-few types pattern life by node named =
+    chosen-phase Few
+    (same_node by (Foreign node) && (same_pattern (pattern_of named) pattern && are_within_limits (settings_of types named)))
+    (Published life (record { settings = settings_of types named; attributes = [] }) ((Foreign node, 1) ∷ [])) (BeingMade life by)
+    (one-may types named) tt
+
 acted-few : (types : MessageTypeDetails) (pattern : MessagingPattern) (phase : Phase) (one : ForeignStep) → Few phase
     → Few (acted types pattern phase one)
 acted-few types pattern (Absent lives) (step.Lock node) few = tt
 acted-few types pattern (BeingMade life by) (step.GiveUp node) few =
     chosen-phase Few (same_node by (Foreign node)) (Absent life) (BeingMade life by) tt tt
-acted-few types pattern (BeingMade life by) (step.Publish node named) few =
-    chosen-phase Few
-    (same_node by (Foreign node) && (same_pattern (pattern_of named) pattern && are_within_limits (settings_of types named)))
-    (Published life (record { settings = settings_of types named; attributes = [] }) ((Foreign node, 1) ∷ [])) (BeingMade life by)
-    (one-may types named) tt
+acted-few types pattern (BeingMade life by) (step.Publish node named) few = published-few types pattern life by node named
+acted-few types pattern (BeingMade life by) (step.PublishV1 node named) few =
+    chosen-phase Few (has_numbers (settings_of types named)) (BeingMade life by) (published_by types pattern life by node named) tt
+    (published-few types pattern life by node named)
 acted-few types pattern (Published life agreed nodes) (step.Register node) few =
     here (not (is_in (Foreign node) nodes)) (nat_lt (length nodes) (max_nodes_of agreed.settings)) refl
   where

@@ -3,7 +3,7 @@ use Rattle.std.proofs.Common.{◌≡◌, ◌≤◌, ◌+◌, ℕ, Bool, true, fa
 use Rattle.std.proofs.Common.{Some, refl, sym, ap, subst, inl, inr, arith}
 use Rattle.std.specs.Global.{Vec}
 use Rattle.std.specs.List.{cons_option, list_any}
-use Rattle.std.specs.Prelude.{◌==◌, nat_lt, find, is_some, filter, filter_map, fold, option_and_then, option_map, take, MatchOption}
+use Rattle.std.specs.Prelude.{◌==◌, nat_lt, find, is_some, filter, filter_map, fold, option_map, take, MatchOption}
 use Rattle.std.specs.Vec.{vec_items}
 use Rattle.iox_machine.proofs.Shorthands.{factory_of, left}
 use Rattle.iox_machine.specs.Choices.{Choices}
@@ -19,7 +19,7 @@ use Rattle.iox_machine.specs.PublisherUpdate as publishing
 use Rattle.iox_machine.specs.Receiving.{Receives, has_samples}
 use Rattle.iox_machine.specs.Replies.{IsSkipped}
 use Rattle.iox_machine.specs.Run.{AtFactory, Runs, Step}
-use Rattle.iox_machine.specs.RunLaws.{has_begun, sent_as}
+use Rattle.iox_machine.specs.RunLaws.{has_begun}
 use Rattle.iox_machine.specs.Sending.{GoesOn}
 use Rattle.iox_machine.specs.Service.{Publisher, Send, Service, Subscriber, with_publisher, with_subscriber}
 use Rattle.iox_machine.specs.State.{AtOne, Factory, State, counted, is_service_of, new_state, same_name, with_phase}
@@ -33,7 +33,7 @@ use Rattle.iox_machine.proofs.Moving.{IsClosed, IsNegotiated, at-one, closed, cr
 use Rattle.iox_machine.proofs.Nexts.{Same, next_at, next_of, same-both, same-goes-on, same-itself, same-receives, same-refused, same-set}
 use Rattle.iox_machine.proofs.Nexts.{same-subscriber-follows, same-subscriber-updates, same-updates}
 use Rattle.iox_machine.proofs.OrderLaws.{received-in-order}
-use Rattle.iox_machine.proofs.OrderRuns.{first-is}
+use Rattle.iox_machine.proofs.OrderRuns.{begun-loan, first-is, unbegun-loan}
 use Rattle.iox_machine.proofs.Spent.{lent, lent-total}
 use Rattle.iox_machine.proofs.Totals.{total, total-filtered, total-open, total-part, total-replaced}
 use Rattle.iox_command.specs.DomainValues.declared.connection_failure.ConnectionFailure.{ConnectionFailure}
@@ -290,17 +290,11 @@ module _ {T : Type 0} (p n : ℕ) where
     step-goes (command.Send loan) old answer new once h =
         at-one-goes (λ (service : Service T). at loan service.loans) (SendsLoan choices loan) old answer new
         (if_sent p n (begun_by p (command.Send loan) old answer))
-        (λ told. silent (first_in (λ (service : Service T). at loan service.loans) old) (ap has_begun told))
-        (λ one service after first found did. subst
-        (λ (o : Option (Loan T)). Sent p n answer (if_sent p n (option_and_then
-        (λ (it : Loan T). cond ((it.publisher == p) && has_begun answer) (Some (sent_as it)) None) o)) service after)
-        (sym (first-is (λ (it : Service T). at loan it.loans) old service one first found))
+        (λ told. subst (λ (o : Option (Message T)). if_sent p n o ≤ 0) (sym (unbegun-loan p loan old answer (ap has_begun told)))
+        (omega arith))
+        (λ one service after first found did. subst (λ (o : Option (Message T)). Sent p n answer (if_sent p n o) service after)
+        (sym (begun-loan p loan old answer service one first found))
         (sends-sent p n choices loan one service after answer found did)) h
-      where
-        silent : (o : Option (Loan T)) → has_begun answer ≡ false → if_sent p n (option_and_then
-            (λ (it : Loan T). cond ((it.publisher == p) && has_begun answer) (Some (sent_as it)) None) o) ≤ 0
-        silent None is = omega arith
-        silent (Some it) is = begun-silent p n (it.publisher == p) (has_begun answer) (Some (sent_as it)) is
     step-goes (command.Put publisher values) old answer new once h =
         at-free-goes publisher (Puts choices publisher values) old answer new
         (if_sent p n (begun_by p (command.Put publisher values) old answer))
@@ -332,6 +326,11 @@ module _ {T : Type 0} (p n : ℕ) where
         (λ (one : Sample T) (service : Service T) (answered : Reply T) (after : Service T). (values : Vec T)
         × (vec_items values ≡ one.message.values) × (answered ≡ reply.Values values) × (after ≡ service)) old answer new
         (λ one service after found did. subst (λ (s : Service T). Same service s) (sym did.3) (same-itself service)) h
+    step-goes (command.Sequence sample) old answer new once h =
+        quiet-goes (λ (service : Service T). at sample service.samples)
+        (λ (one : Sample T) (service : Service T) (answered : Reply T) (after : Service T).
+        (answered ≡ reply.Sequence one.message.sequence) × (after ≡ service)) old answer new
+        (λ one service after found did. subst (λ (s : Service T). Same service s) (sym did.1) (same-itself service)) h
     step-goes (command.Release sample) old answer new once h =
         quiet-goes (λ (service : Service T). at sample service.samples) (Releases sample) old answer new
         (λ one service after found did. subst (λ (s : Service T). Same service s) (sym did.1) (refl, λ other. refl)) h

@@ -8,17 +8,19 @@ use Rattle.std.specs.Option.{option_map_or}
 use Rattle.std.specs.Prelude.{⊤, ◌==◌, nat_le, nat_lt, is_some, option_map, filter, fold, length, slice_get, MatchBool, MatchOption}
 use Rattle.std.specs.Prelude.{drop, zip}
 use Rattle.iox_machine.specs.Choices.{Choices}
-use Rattle.iox_machine.proofs.Delivering.{Outcomes, by-outcome, first_of, offered, deliver, goes-on-so}
+use Rattle.iox_machine.proofs.Delivering.{Outcomes, by-outcome, first_of, offered, deliver, goes-on-so, keeping, at_once, at-once-silent}
+use Rattle.iox_machine.proofs.Delivering.{by-send, sending}
 use Rattle.iox_machine.specs.Lending.{Lends, LendsLonger, loan_refusal}
 use Rattle.iox_machine.specs.Mailbox.{Mailbox, newest, put}
 use Rattle.iox_machine.specs.Message.{Message}
-use Rattle.iox_machine.specs.MessageLaws.{IsPartOf}
+use Rattle.iox_machine.specs.MessageLaws.{IsPartOf, next_message}
 use Rattle.iox_machine.specs.PortList.{those, unless}
 use Rattle.iox_machine.specs.Ports.{LendsLoan, Puts}
 use Rattle.iox_machine.specs.PublisherUpdate as publishing
 use Rattle.iox_machine.specs.Replies.{IsRefused}
 use Rattle.iox_machine.specs.RunLaws.{has_begun}
-use Rattle.iox_machine.specs.Sending.{GoesOn, Begins, Sends}
+use Rattle.iox_machine.specs.Sending.{GoesOn, Begins, Sends, numbered}
+use Rattle.iox_machine.specs.SequenceLaws.{GoOnBehind, last_behind}
 use Rattle.iox_machine.specs.Service.{Service, Publisher, Subscriber, Send, with_publisher, mailbox, with_mailbox, connect}
 use Rattle.iox_machine.specs.Table.{at, contains}
 use Rattle.iox_machine.proofs.Cases.{by-bool, by-option, same-some, never-some, chosen, both-true}
@@ -32,10 +34,12 @@ use Rattle.iox_command.specs.DomainValues.declared.backpressure.BackpressureDeci
 use Rattle.iox_command.specs.DomainValues.declared.connection_failure.ConnectionFailure.{ConnectionFailure}
 use Rattle.iox_command.specs.DomainValues.declared.port_error.LoanError.{LoanError}
 use Rattle.iox_command.specs.DomainValues.declared.port_error.SendError.TheVariants as error
+use Rattle.iox_command.specs.NegotiateBase.DescribeSettings.declared.static_config.publish_subscribe.StaticConfig.{StaticConfig}
 use Rattle.iox_command.specs.declared.refusal.Refusal.{Refusal}
 use Rattle.iox_command.specs.declared.refusal.Refusal.TheVariants as refusal
 use Rattle.iox_command.specs.declared.reply.Reply.{Reply}
 use Rattle.iox_command.specs.declared.reply.Reply.TheVariants as reply
+use Rattle.iox_command.specs.DomainValues.Sequences.{before_first, next_sequence}
 
 pub absurd-both : {A : Type 0} (b : Bool) → b ≡ true → b ≡ false → A
 absurd-both b is_so not_so = absurd (true≢false (sym is_so ∙ not_so))
@@ -63,10 +67,28 @@ IsUnder T s May sent received connected box send =
     (before : List (Message T)) × (sent ≡ before ++ send.message ∷ [])
     × Under T s May received before send.message connected send.left box
 
--- What stands between a publisher and a subscriber: what it sent and what that received, how many subscribers came so far, the
--- publisher's history, connections and blocked send, the mailbox of both, and the places of the subscribers.
-pub record Between (T : Type 0) (s : ℕ) (sent received : List (Message T)) (born : ℕ) (history : List (Message T))
+-- The sequence numbers of what was sent go on from the first, if there are such numbers, up to a last one.
+abbrev pub NumberedUpTo : (T : Type 0) → Bool → Option ℕ → List (Message T) → Type 0
+NumberedUpTo T switch last sent = GoOnBehind (before_first switch 1) sent × (last ≡ last_behind (before_first switch 1) sent)
+
+-- one more message is numbered behind the others
+pub behind-more : {T : Type 0} (start last : Option ℕ) (sent : List (Message T)) (message : Message T)
+    → message.sequence ≡ next_sequence last → GoOnBehind start sent × (last ≡ last_behind start sent)
+    → GoOnBehind start (sent ++ message ∷ []) × (message.sequence ≡ last_behind start (sent ++ message ∷ []))
+behind-more start last [] message is (on, same) = ((is ∙ ap next_sequence same, tt), refl)
+behind-more start last (first ∷ more) message is (on, same) =
+    let next : GoOnBehind first.sequence (more ++ message ∷ [])
+    × (message.sequence ≡ last_behind first.sequence (more ++ message ∷ [])) =
+    behind-more first.sequence last more message is (on.1, same) in
+    ((on.0, next.0), next.1)
+
+-- What stands between a publisher and a subscriber: whether messages have sequence numbers, and the publisher's last one; what it sent and
+-- what that received, how many subscribers came so far, the publisher's history, connections and blocked send, the mailbox of both, and the
+-- places of the subscribers.
+pub record Between (T : Type 0) (s : ℕ) (switch : Bool) (last : Option ℕ) (sent received : List (Message T)) (born : ℕ)
+    (history : List (Message T))
     (connected : List (Option ℕ)) (blocked : Option (Send T)) (box : Option (Mailbox T)) (places : List (Option ℕ)) : Type 0 where
+  pub numbered_so : NumberedUpTo T switch last sent
   pub kept : IsPartOf history sent
   pub waits : IsPartOf (received ++ waiting_in box) sent
   pub listed_once : Once s (those places)
@@ -80,7 +102,8 @@ pub record Between (T : Type 0) (s : ℕ) (sent received : List (Message T)) (bo
 module _ {T : Type 0} (p s : ℕ) where
   abbrev pub BetweenOf : List (Message T) → List (Message T) → ℕ → Publisher T → Service T → Type 0
   BetweenOf sent received born one service =
-      Between T s sent received born one.history one.connected one.blocked (service.mailboxes p s) service.subscriber_list.places
+      Between T s service.settings.sequence_numbers one.last_sequence sent received born one.history one.connected one.blocked
+      (service.mailboxes p s) service.subscriber_list.places
 
   -- ---- what the subscriber's side does to the mailbox
 
@@ -99,14 +122,16 @@ module _ {T : Type 0} (p s : ℕ) where
   }
 
   -- more is received, and less waits
-  pub between-waits : (sent received later : List (Message T)) (born : ℕ) (history : List (Message T)) (connected : List (Option ℕ))
+  pub between-waits : (switch : Bool) (last : Option ℕ) (sent received later : List (Message T)) (born : ℕ) (history : List (Message T))
+      (connected : List (Option ℕ))
       (blocked : Option (Send T)) (box now : Option (Mailbox T)) (places : List (Option ℕ))
       → later ++ waiting_in now ≡ received ++ waiting_in box
       → (is_some box ≡ true → is_some now ≡ true)
       → ((received ≡ []) × (waiting_in box ≡ []) → (later ≡ []) × (waiting_in now ≡ []))
-      → Between T s sent received born history connected blocked box places
-      → Between T s sent later born history connected blocked now places
-  between-waits sent received later born history connected blocked box now places same some none b = record {
+      → Between T s switch last sent received born history connected blocked box places
+      → Between T s switch last sent later born history connected blocked now places
+  between-waits switch last sent received later born history connected blocked box now places same some none b = record {
+    numbered_so = b.numbered_so;
     kept = b.kept;
     waits = subst (λ (l : List (Message T)). IsPartOf l sent) (sym same) b.waits;
     listed_once = b.listed_once;
@@ -123,12 +148,13 @@ module _ {T : Type 0} (p s : ℕ) where
       blocked-so (Some send) u =
           (u.0, u.1, under-waits (MayCome s born places) u.0 received later send.message connected send.left box now same some none u.2)
 
-  pub between-soft : (sent received : List (Message T)) (born : ℕ) (history : List (Message T)) (connected : List (Option ℕ))
+  pub between-soft : (switch : Bool) (last : Option ℕ) (sent received : List (Message T)) (born : ℕ) (history : List (Message T))
+      (connected : List (Option ℕ))
       (blocked : Option (Send T)) (box now : Option (Mailbox T)) (places : List (Option ℕ)) → Softer box now
-      → Between T s sent received born history connected blocked box places
-      → Between T s sent received born history connected blocked now places
-  between-soft sent received born history connected blocked box now places soft b =
-      between-waits sent received received born history connected blocked box now places
+      → Between T s switch last sent received born history connected blocked box places
+      → Between T s switch last sent received born history connected blocked now places
+  between-soft switch last sent received born history connected blocked box now places soft b =
+      between-waits switch last sent received received born history connected blocked box now places
       (ap (λ (l : List (Message T)). received ++ l) soft.0) soft.1 (λ none. (none.0, soft.0 ∙ none.1)) b
 
   -- ---- subscribers come and leave
@@ -145,14 +171,16 @@ module _ {T : Type 0} (p s : ℕ) where
     unmet = λ may is. u.unmet (on may) is;
   }
 
-  pub between-places : (sent received : List (Message T)) (born : ℕ) (history : List (Message T)) (connected : List (Option ℕ))
+  pub between-places : (switch : Bool) (last : Option ℕ) (sent received : List (Message T)) (born : ℕ) (history : List (Message T))
+      (connected : List (Option ℕ))
       (blocked : Option (Send T)) (box : Option (Mailbox T)) (places : List (Option ℕ)) (later : ℕ) (now : List (Option ℕ))
       → Once s (those now)
       → (MayCome s later now → MayCome s born places)
       → (later < s → (born < s) × (contains (those now) s ≡ false))
-      → Between T s sent received born history connected blocked box places
-      → Between T s sent received later history connected blocked box now
-  between-places sent received born history connected blocked box places later now once may off b = record {
+      → Between T s switch last sent received born history connected blocked box places
+      → Between T s switch last sent received later history connected blocked box now
+  between-places switch last sent received born history connected blocked box places later now once may off b = record {
+    numbered_so = b.numbered_so;
     kept = b.kept;
     waits = b.waits;
     listed_once = once;
@@ -172,9 +200,9 @@ module _ {T : Type 0} (p s : ℕ) where
   -- ---- a publisher lends
 
   pub lends-between : (number values : ℕ) (one : Publisher T) (service : Service T) (refused : Option LoanError) (after : Publisher T)
-      (P : List (Message T) → List (Option ℕ) → Option (Send T) → Type 0)
-      → Lends number values one service refused after → P one.history one.connected one.blocked
-      → P after.history after.connected after.blocked
+      (P : List (Message T) → List (Option ℕ) → Option (Send T) → Option ℕ → Type 0)
+      → Lends number values one service refused after → P one.history one.connected one.blocked one.last_sequence
+      → P after.history after.connected after.blocked after.last_sequence
   lends-between number values one service refused after P h it =
       elim (by-option (loan_refusal number values one service)
       (MatchBool (nat_lt one.room values) (LendsLonger number values one refused after)
@@ -183,14 +211,15 @@ module _ {T : Type 0} (p s : ℕ) where
         | inl w ↦ elim (by-bool (nat_lt one.room values) (LendsLonger number values one refused after)
             ((refused ≡ None) × (after ≡ record one { next = one.next + 1 })) w.1) [
               | inl k ↦ longer k.1
-              | inr k ↦ subst (λ (q : Publisher T). P q.history q.connected q.blocked) (sym k.1.1) it
+              | inr k ↦ subst (λ (q : Publisher T). P q.history q.connected q.blocked q.last_sequence) (sym k.1.1) it
             ]
-        | inr w ↦ subst (λ (q : Publisher T). P q.history q.connected q.blocked) (sym w.2.1) it
+        | inr w ↦ subst (λ (q : Publisher T). P q.history q.connected q.blocked q.last_sequence) (sym w.2.1) it
       ]
     where
-      longer : LendsLonger number values one refused after → P after.history after.connected after.blocked
-      longer (inl (told, same)) = subst (λ (q : Publisher T). P q.history q.connected q.blocked) (sym same) it
-      longer (inr (room, allowed, few, told, same)) = subst (λ (q : Publisher T). P q.history q.connected q.blocked) (sym same) it
+      longer : LendsLonger number values one refused after → P after.history after.connected after.blocked after.last_sequence
+      longer (inl (told, same)) = subst (λ (q : Publisher T). P q.history q.connected q.blocked q.last_sequence) (sym same) it
+      longer (inr (room, allowed, few, told, same)) =
+          subst (λ (q : Publisher T). P q.history q.connected q.blocked q.last_sequence) (sym same) it
 
   -- ---- a publisher follows the list of subscribers
 
@@ -293,14 +322,14 @@ module _ {T : Type 0} (p s : ℕ) where
   emptier-none box now (inr none, some) h = none
 
   -- what was between both before a publisher followed, and the mailbox then, make up what is between them after it
-  followed : (sent received : List (Message T)) (born : ℕ) (one : Publisher T) (box now : Option (Mailbox T))
+  followed : (switch : Bool) (sent received : List (Message T)) (born : ℕ) (one : Publisher T) (box now : Option (Mailbox T))
       (places : List (Option ℕ)) (refused : List ℕ) → one.blocked ≡ None
       → (contains refused s ≡ true → (contains (those places) s && not (is_some box)) ≡ true)
       → ((contains (those (map (unless refused) places)) s && not (contains (those one.connected) s)) ≡ false → Emptier box now)
       → ((contains (those (map (unless refused) places)) s && not (contains (those one.connected) s)) ≡ true → Given one.history now)
-      → Between T s sent received born one.history one.connected one.blocked box places
-      → Between T s sent received born one.history (map (unless refused) places) one.blocked now places
-  followed sent received born one box now places refused free refuses old_one new_one b =
+      → Between T s switch one.last_sequence sent received born one.history one.connected one.blocked box places
+      → Between T s switch one.last_sequence sent received born one.history (map (unless refused) places) one.blocked now places
+  followed switch sent received born one box now places refused free refuses old_one new_one b =
       by-met (contains (those one.connected) s) refl (contains (those (map (unless refused) places)) s) refl
     where
       hit : contains (those (map (unless refused) places)) s ≡ (contains (those places) s && not (contains refused s))
@@ -312,8 +341,9 @@ module _ {T : Type 0} (p s : ℕ) where
       built : IsPartOf (received ++ waiting_in now) sent → (contains (those (map (unless refused) places)) s ≡ true → is_some now ≡ true)
           → (MayCome s born places → contains (those (map (unless refused) places)) s ≡ false
           → (received ≡ []) × (waiting_in now ≡ []))
-          → Between T s sent received born one.history (map (unless refused) places) one.blocked now places
+          → Between T s switch one.last_sequence sent received born one.history (map (unless refused) places) one.blocked now places
       built waits has_box unmet = record {
+        numbered_so = b.numbered_so;
         kept = b.kept;
         waits = waits;
         listed_once = b.listed_once;
@@ -329,7 +359,7 @@ module _ {T : Type 0} (p s : ℕ) where
       }
 
       by-met : (c : Bool) → contains (those one.connected) s ≡ c → (d : Bool) → contains (those (map (unless refused) places)) s ≡ d
-          → Between T s sent received born one.history (map (unless refused) places) one.blocked now places
+          → Between T s switch one.last_sequence sent received born one.history (map (unless refused) places) one.blocked now places
       by-met true met d is =
           let e : Emptier box now =
           old_one (and_right (contains (those (map (unless refused) places)) s) (not (contains (those one.connected) s)) (ap not met)) in
@@ -374,15 +404,18 @@ module _ {T : Type 0} (p s : ℕ) where
       let new_ones : contains news s ≡ (contains (those (map (unless refused) places)) s && not (contains (those one.connected) s)) =
       contains-filter s (λ (t : ℕ). not (contains (those one.connected) t)) (those after.connected)
       ∙ ap (λ (q : Publisher T). contains (those q.connected) s && not (contains (those one.connected) s)) is in (
-        subst (λ (q : Publisher T). Between T s sent received born q.history q.connected q.blocked (new.mailboxes p s)
-            new.subscriber_list.places) (sym is)
-            (subst (λ (l : List (Option ℕ)). Between T s sent received born one.history (map (unless refused) places) one.blocked
-            (new.mailboxes p s) l)
+        subst (λ (q : Publisher T). Between T s new.settings.sequence_numbers q.last_sequence sent received born q.history q.connected
+            q.blocked (new.mailboxes p s) new.subscriber_list.places) (sym is)
+            (subst (λ (l : List (Option ℕ)). Between T s new.settings.sequence_numbers one.last_sequence sent received born one.history
+            (map (unless refused) places) one.blocked (new.mailboxes p s) l)
             (sym (ap (λ l. l.places) (by-follows p one old after new (refused, allowed, is, came)).2))
-            (followed sent received born one (old.mailboxes p s) (new.mailboxes p s) places refused free
+            (subst (λ (c : StaticConfig). Between T s c.sequence_numbers one.last_sequence sent received born one.history
+            (map (unless refused) places) one.blocked (new.mailboxes p s) places)
+            (sym (by-follows p one old after new (refused, allowed, is, came)).1)
+            (followed old.settings.sequence_numbers sent received born one (old.mailboxes p s) (new.mailboxes p s) places refused free
             (λ out. all-contained s (λ (t : ℕ). contains (those places) t && not (is_some (old.mailboxes p t))) refused allowed out)
             (λ not_so. subst (Emptier (old.mailboxes p s)) (sym (now ∙ boxes.0 (new_ones ∙ not_so))) (ended-box old))
-            (λ is_so. subst (Given one.history) (sym now) (boxes.1 (new_ones ∙ is_so))) b)),
+            (λ is_so. subst (Given one.history) (sym now) (boxes.1 (new_ones ∙ is_so))) b))),
         ap (λ (q : Publisher T). q.blocked) is ∙ free,
       )
 
@@ -489,12 +522,13 @@ module _ {T : Type 0} (p s : ℕ) where
   goes-between : (choices : Choices T) (sent received before : List (Message T)) (born : ℕ) (one was : Publisher T) (send : Send T)
       (old : Service T)
       (answer : Reply T) (new : Service T) → sent ≡ before ++ send.message ∷ [] → at p old.publishers ≡ Some was
+      → NumberedUpTo T old.settings.sequence_numbers one.last_sequence sent
       → IsPartOf one.history sent → Once s (those old.subscriber_list.places) → Once s (those one.connected)
       → (born < s → (contains (those old.subscriber_list.places) s ≡ false) × (contains (those one.connected) s ≡ false))
       → Under T s (MayCome s born old.subscriber_list.places) received before send.message one.connected send.left
       (old.mailboxes p s)
       → GoesOn choices p one send old answer new → Stands sent received born new
-  goes-between choices sent received before born one was send old answer new is found kept listed connected unlisted u h =
+  goes-between choices sent received before born one was send old answer new is found counts kept listed connected unlisted u h =
       let places : List (Option ℕ) = old.subscriber_list.places in
       let (decisions, (told, came)) = goes-on-so choices p one send old answer new h in
       let after : Send T × Service T = deliver p decisions send.left send old in
@@ -507,9 +541,12 @@ module _ {T : Type 0} (p s : ℕ) where
         ap (λ (service : Service T). at p service.publishers) came
             ∙ at-changed p now was after.1.publishers (ap (at p) went.2 ∙ found),
         subst (λ (service : Service T). BetweenOf sent received born now service) (sym came)
-            (subst (λ (l : List (Option ℕ)). Between T s sent received born one.history one.connected now.blocked (after.1.mailboxes p s) l)
+            (subst (λ (l : List (Option ℕ)). Between T s after.1.settings.sequence_numbers one.last_sequence sent received born one.history
+            one.connected now.blocked (after.1.mailboxes p s) l)
             (sym (ap (λ l. l.places) (by-deliver p decisions send.left send old).2))
             (record {
+              numbered_so = subst (λ (c : StaticConfig). NumberedUpTo T c.sequence_numbers one.last_sequence sent)
+                  (sym (by-deliver p decisions send.left send old).1) counts;
               kept = kept;
               waits = subst (λ (l : List (Message T)). IsPartOf (received ++ waiting_in (after.1.mailboxes p s)) l) (sym is) went.0.waits;
               listed_once = listed;
@@ -538,26 +575,19 @@ module _ {T : Type 0} (p s : ℕ) where
   begins-between : (choices : Choices T) (sent received : List (Message T)) (born : ℕ) (message : Message T) (one : Publisher T)
       (old : Service T)
       (answer : Reply T) (new : Service T) → at p old.publishers ≡ Some one → BetweenOf sent received born one old
-      → Begins choices p message one old answer new → Stands (sent ++ message ∷ []) received born new
+      → Begins choices p message one old answer new → Stands (sent ++ numbered one message ∷ []) received born new
   begins-between choices sent received born message one old answer new found b h =
-      goes-between choices (sent ++ message ∷ []) received sent born
-      (record one { history = newest old.settings.history_size (one.history ++ message ∷ []) }) one
-      (record {
-        message = message;
-        left = those one.connected;
-        retries = 0;
-        elapsed = 0;
-        delivered = 0;
-        fails = false;
-      }) old answer new refl found
-      (part-newest old.settings.history_size [] (one.history ++ message ∷ []) (sent ++ message ∷ [])
-      (part-last message one.history sent b.kept))
+      goes-between choices (sent ++ numbered one message ∷ []) received sent born (keeping message one old) one (sending message one)
+      old answer new refl found
+      (behind-more (before_first old.settings.sequence_numbers 1) one.last_sequence sent (numbered one message) refl b.numbered_so)
+      (part-newest old.settings.history_size [] (one.history ++ numbered one message ∷ []) (sent ++ numbered one message ∷ [])
+      (part-last (numbered one message) one.history sent b.kept))
       b.listed_once b.connected_once b.unlisted
       (record {
         once = b.connected_once;
         is_connected = λ is. is;
         from_before = λ is. b.waits;
-        waits = part-more (received ++ waiting_in (old.mailboxes p s)) sent (message ∷ []) b.waits;
+        waits = part-more (received ++ waiting_in (old.mailboxes p s)) sent (numbered one message ∷ []) b.waits;
         has_box = b.has_box;
         unmet = b.unmet;
       }) h
@@ -574,12 +604,13 @@ module _ {T : Type 0} (p s : ℕ) where
       subst (λ (o : Option (Send T)). MatchOption o ⊤ (IsUnder T s
       (MayCome s born old.subscriber_list.places) sent received one.connected (old.mailboxes p s))) waits b.under in
       goes-between choices sent received u.0 born one one (record send { retries = retries; elapsed = elapsed }) old answer new u.1 found
-      b.kept
+      b.numbered_so b.kept
       b.listed_once b.connected_once b.unlisted u.2 h
 
   pub free-between : (sent received : List (Message T)) (born : ℕ) (one : Publisher T) (service : Service T)
       → BetweenOf sent received born one service → BetweenOf sent received born (record one { blocked = None }) service
   free-between sent received born one service b = record {
+    numbered_so = b.numbered_so;
     kept = b.kept;
     waits = b.waits;
     listed_once = b.listed_once;
@@ -596,7 +627,7 @@ module _ {T : Type 0} (p s : ℕ) where
       (Does : Publisher T → Service T → Reply T → Service T → Type 0) (one : Publisher T) (old : Service T) (answer : Reply T)
       (new : Service T) → at p old.publishers ≡ Some one → one.blocked ≡ None → BetweenOf sent received born one old
       → ((after : Publisher T) (mid : Service T) → at p mid.publishers ≡ Some after → BetweenOf sent received born after mid
-      → Does after mid answer new → R)
+      → after.last_sequence ≡ one.last_sequence → Does after mid answer new → R)
       → ((failure : ConnectionFailure) (mid : Service T) → Stands sent received born mid → IsRefused (told failure) mid answer new → R)
       → publishing.UpdatesFirst choices p told Does one old answer new → R
   updates-between choices R sent received born told Does one old answer new found free b does refused h =
@@ -604,7 +635,7 @@ module _ {T : Type 0} (p s : ℕ) where
       ((after : Publisher T) × (mid : Service T) × publishing.Follows p one old after mid
       × Outcomes (choices.publisher_acts p one.degradation) (zip old.subscriber_list.places after.connected)
       (λ done. Does after mid answer new) (λ failure. IsRefused (told failure) mid answer new)) h) [
-        | inl w ↦ does one old found b w.1
+        | inl w ↦ does one old found b refl w.1
         | inr w ↦ next w.1.0 w.1.1 w.1.2 w.1.3
       ]
     where
@@ -616,7 +647,7 @@ module _ {T : Type 0} (p s : ℕ) where
           let now : BetweenOf sent received born after mid = (follows-between sent received born one old after mid free came b).0 in
           elim (by-outcome (choices.publisher_acts p one.degradation) (zip old.subscriber_list.places after.connected)
           (λ done. Does after mid answer new) (λ failure. IsRefused (told failure) mid answer new) told_so) [
-            | inl r ↦ does after mid there now r.2
+            | inl r ↦ does after mid there now (ap (λ (it : Publisher T). it.last_sequence) came.2) r.2
             | inr r ↦ refused r.0 mid (after, there, now) r.2
           ]
 
@@ -637,21 +668,19 @@ module _ {T : Type 0} (p s : ℕ) where
   pub sends-between : (choices : Choices T) (sent received : List (Message T)) (born : ℕ) (message : Message T) (one : Publisher T)
       (old : Service T)
       (answer : Reply T) (new : Service T) → at p old.publishers ≡ Some one → one.blocked ≡ None → BetweenOf sent received born one old
-      → Sends choices p message one old answer new → CameTo sent received born message answer new
+      → Sends choices p message one old answer new → CameTo sent received born (numbered one message) answer new
   sends-between choices sent received born message one old answer new found free b h =
-      elim (by-bool one.stands
-      (publishing.UpdatesFirst choices p (λ failure. refusal.Send (error.ConnectionError failure)) (Begins choices p message) one old
-      answer new)
-      (IsRefused (refusal.Send error.ConnectionBrokenSinceSenderNoLongerExists) old answer new) h) [
-        | inl w ↦ updates-between choices (CameTo sent received born message answer new) sent received born
+      elim (by-send choices p message one old answer new h) [
+        | inl w ↦ updates-between choices (CameTo sent received born (numbered one message) answer new) sent received born
             (λ failure. refusal.Send (error.ConnectionError failure)) (Begins choices p message) one old answer new found free b
-            (λ after mid there now begun. inl (
+            (λ after mid there now same begun. inl (
               beginning-told choices p message after mid answer new begun,
-              begins-between choices sent received born message after mid answer new there now begun,
+              subst (λ (last : Option ℕ). Stands (sent ++ record message { sequence = next_sequence last } ∷ []) received born new) same
+                  (begins-between choices sent received born message after mid answer new there now begun),
             ))
-            (λ failure mid stands refused. unsent sent received born message (refusal.Send (error.ConnectionError failure)) mid answer new
-            refl stands refused) w.1
-        | inr w ↦ unsent sent received born message (refusal.Send error.ConnectionBrokenSinceSenderNoLongerExists) old answer new refl
+            (λ failure mid stands refused. unsent sent received born (numbered one message)
+            (refusal.Send (error.ConnectionError failure)) mid answer new refl stands refused) w
+        | inr w ↦ unsent sent received born (numbered one message) (refusal.Send (at_once w.0)) old answer new (at-once-silent T w.0)
             (one, found, b) w.1
       ]
 
@@ -662,29 +691,35 @@ module _ {T : Type 0} (p s : ℕ) where
   lends-stands sent received born values one old refused after found b lent = (
     at-changed p after one old.publishers found,
     lends-between p values one old refused after
-        (λ history connected blocked. Between T s sent received born history connected blocked (old.mailboxes p s)
+        (λ history connected blocked last. Between T s old.settings.sequence_numbers last sent received born history connected blocked
+        (old.mailboxes p s)
         old.subscriber_list.places) lent b,
   )
 
   pub lends-free : (values : ℕ) (one : Publisher T) (old : Service T) (refused : Option LoanError) (after : Publisher T)
       → one.blocked ≡ None → Lends p values one old refused after → after.blocked ≡ None
   lends-free values one old refused after free lent =
-      lends-between p values one old refused after (λ history connected blocked. blocked ≡ None) lent free
+      lends-between p values one old refused after (λ history connected blocked last. blocked ≡ None) lent free
+
+  lends-numbered : (values : ℕ) (one : Publisher T) (old : Service T) (refused : Option LoanError) (after : Publisher T)
+      → Lends p values one old refused after → after.last_sequence ≡ one.last_sequence
+  lends-numbered values one old refused after lent =
+      lends-between p values one old refused after (λ history connected blocked last. last ≡ one.last_sequence) lent refl
 
   pub puts-between : (choices : Choices T) (sent received : List (Message T)) (born : ℕ) (values : List T) (one : Publisher T)
       (old : Service T)
       (answer : Reply T) (new : Service T) → at p old.publishers ≡ Some one → one.blocked ≡ None → BetweenOf sent received born one old
-      → Puts choices p values one old answer new → CameTo sent received born (record { number = one.next; values = values }) answer new
+      → Puts choices p values one old answer new → CameTo sent received born (next_message values one) answer new
   puts-between choices sent received born values one old answer new found free b (None, after, lent, sent_so) =
       let next : (at p (with_publisher p after old).publishers ≡ Some after)
       × BetweenOf sent received born after (with_publisher p after old) =
       lends-stands sent received born (length values) one old None after found b lent in
-      sends-between choices sent received born (record { number = one.next; values = values }) after (with_publisher p after old) answer
-      new next.0
-      (lends-free (length values) one old None after free lent) next.1 sent_so
+      subst (λ (last : Option ℕ). CameTo sent received born (record { number = one.next; sequence = next_sequence last; values = values })
+      answer new) (lends-numbered (length values) one old None after lent)
+      (sends-between choices sent received born (record { number = one.next; sequence = None; values = values }) after
+      (with_publisher p after old) answer new next.0 (lends-free (length values) one old None after free lent) next.1 sent_so)
   puts-between choices sent received born values one old answer new found free b (Some why, after, lent, refused) =
-      unsent sent received born (record { number = one.next; values = values }) (refusal.Send (error.LoanError why)) old answer new refl
-      (one, found, b) refused
+      unsent sent received born (next_message values one) (refusal.Send (error.LoanError why)) old answer new refl (one, found, b) refused
 
   pub lends-loan-between : (sent received : List (Message T)) (born loan count : ℕ) (value : Option T) (one : Publisher T)
       (old : Service T) (answer : Reply T) (new : Service T) → at p old.publishers ≡ Some one → BetweenOf sent received born one old

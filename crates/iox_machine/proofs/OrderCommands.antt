@@ -1,10 +1,10 @@
 -- Each command keeps the order in which messages were sent.
 use Rattle.std.proofs.Common.{◌≡◌, ◌+◌, ℕ, Bool, true, false, cond, ◌&&◌, List, length, map, set, take, Option, None, Some, refl, sym, ap}
-use Rattle.std.proofs.Common.{subst, inl, inr, ◌∙◌}
+use Rattle.std.proofs.Common.{subst, inl, inr}
 use Rattle.std.proofs.lemmas.Bool.{and_right}
 use Rattle.std.specs.Global.{Vec}
 use Rattle.std.specs.List.{AllByRecursion}
-use Rattle.std.specs.Prelude.{◌==◌, nat_lt, find, fold, option_map, option_and_then, MatchOption}
+use Rattle.std.specs.Prelude.{◌==◌, nat_lt, find, fold, option_map, MatchOption}
 use Rattle.std.specs.Vec.{vec_items}
 use Rattle.iox_machine.proofs.Shorthands.{factory_of, left}
 use Rattle.iox_machine.specs.Choices.{Choices}
@@ -17,7 +17,7 @@ use Rattle.iox_machine.specs.PublisherUpdate as publishing
 use Rattle.iox_machine.specs.Receiving.{Receives, has_samples}
 use Rattle.iox_machine.specs.Replies.{IsSkipped}
 use Rattle.iox_machine.specs.Run.{Step}
-use Rattle.iox_machine.specs.RunLaws.{BeginsToSend, has_begun, sent_as}
+use Rattle.iox_machine.specs.RunLaws.{BeginsToSend, has_begun}
 use Rattle.iox_machine.specs.Sending.{GoesOn}
 use Rattle.iox_machine.specs.Service.{Service, Publisher, Subscriber, Send, with_publisher, with_subscriber}
 use Rattle.iox_machine.specs.State.{State, Made, AtOne, is_service_of, counted, with_phase}
@@ -29,7 +29,7 @@ use Rattle.iox_machine.proofs.Moving.{creates, opens, opens-or-creates, closed}
 use Rattle.iox_machine.proofs.Order.{Stands, retries-between, free-between, updates-between, lends-loan-between}
 use Rattle.iox_machine.proofs.OrderPorts.{moves-leaves, moves-subscriber}
 use Rattle.iox_machine.proofs.OrderRuns.{Quiet, alike-goes, quiet-at-one, quiet-free, quiet-blocked, quiet-subscriber, ordered-refused}
-use Rattle.iox_machine.proofs.OrderRuns.{ordered-negotiated, ordered-closed, publisher-ordered}
+use Rattle.iox_machine.proofs.OrderRuns.{unbegun-loan, ordered-negotiated, ordered-closed, publisher-ordered}
 use Rattle.iox_machine.proofs.OrderSends.{put-goes, send-goes, receive-goes}
 use Rattle.iox_machine.proofs.OrderSteps.{noted, IsLater, Alike, IsOrdered, Moves, has_it, made-later, alike-none, ordered-later}
 use Rattle.iox_machine.proofs.OrderSteps.{ordered-at-one}
@@ -141,19 +141,9 @@ module _ {T : Type 0} (p s : ℕ) (G : List ℕ → StaticConfig → Message T �
     step-ordered (command.Send loan) old answer new good fresh h ordered =
         ordered-at-one p s G sent received (begun_by p (command.Send loan) old answer) None (λ (service : Service T). at loan service.loans)
         (SendsLoan choices loan) old answer new
-        (λ skipped. (unbegun skipped.0, refl))
+        (λ skipped. (unbegun-loan p loan old answer (ap has_begun skipped.0), refl))
         (λ service one after first is did came. send-goes p s G sent received choices loan old answer service one after first is good did)
         h ordered
-      where
-        unbegun : answer ≡ reply.Skipped → begun_by p (command.Send loan) old answer ≡ None
-        unbegun told =
-            ap (λ (answered : Reply T). begun_by p (command.Send loan) old answered) told
-            ∙ silent (first_in (λ (service : Service T). at loan service.loans) old)
-          where
-            silent : (o : Option (Loan T))
-                → option_and_then (λ (one : Loan T). cond ((one.publisher == p) && false) (Some (sent_as one)) None) o ≡ None
-            silent None = refl
-            silent (Some one) = ap (λ (b : Bool). cond b (Some (sent_as one)) None) (and_right (one.publisher == p) false refl)
     step-ordered (command.Put publisher values) old answer new good fresh h ordered =
         ordered-at-one p s G sent received (begun_by p (command.Put publisher values) old answer) None (publisher_in publisher)
         (λ (one : Publisher T) (service : Service T) (told : Reply T) (after : Service T). MatchOption one.blocked
@@ -207,6 +197,12 @@ module _ {T : Type 0} (p s : ℕ) (G : List ℕ → StaticConfig → Message T �
         (vec_items values ≡ one.message.values) × (answered ≡ reply.Values values) × (after ≡ service)) old answer new
         (λ service one after is did. alike-goes p s G sent received old answer service after
         (subst (λ (it : Service T). Alike p s service it) (sym did.3) (alike-none p s service))) h ordered
+    step-ordered (command.Sequence sample) old answer new good fresh h ordered =
+        quiet-at-one p s G sent received (λ (service : Service T). at sample service.samples)
+        (λ (one : Sample T) (service : Service T) (answered : Reply T) (after : Service T).
+        (answered ≡ reply.Sequence one.message.sequence) × (after ≡ service)) old answer new
+        (λ service one after is did. alike-goes p s G sent received old answer service after
+        (subst (λ (it : Service T). Alike p s service it) (sym did.1) (alike-none p s service))) h ordered
     step-ordered (command.Release sample) old answer new good fresh h ordered =
         quiet-at-one p s G sent received (λ (service : Service T). at sample service.samples) (Releases sample) old answer new
         (λ service one after is did. alike-goes p s G sent received old answer service after
@@ -227,7 +223,7 @@ module _ {T : Type 0} (p s : ℕ) (G : List ℕ → StaticConfig → Message T �
         old.made.subscribers refusal.Connection
         (λ (it : Publisher T) (mid : Service T) (answered : Reply T) (end : Service T). (answered ≡ reply.Done) × (end ≡ mid)) one service
         answer after found free b
-        (λ it mid there now done. subst (λ (end : Service T). Stands p s sent received old.made.subscribers end) (sym done.1)
+        (λ it mid there now same done. subst (λ (end : Service T). Stands p s sent received old.made.subscribers end) (sym done.1)
         (it, there, now))
         (λ failure mid stands refused. subst (λ (end : Service T). Stands p s sent received old.made.subscribers end) (sym refused.1)
         stands)

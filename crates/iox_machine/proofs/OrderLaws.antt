@@ -30,13 +30,13 @@ use Rattle.iox_command.specs.declared.command.Command.{Command}
 use Rattle.iox_command.specs.declared.reply.Reply.{Reply}
 
 -- what holds of all of a list holds of what is part of it
-part-all : {X : Type 0} (P : X → Type 0) (part whole : List X) → IsPartOf part whole → AllByRecursion P whole → AllByRecursion P part
+pub part-all : {X : Type 0} (P : X → Type 0) (part whole : List X) → IsPartOf part whole → AllByRecursion P whole → AllByRecursion P part
 part-all P part [] h all = subst (AllByRecursion P) (sym h) tt
 part-all P part (x ∷ whole) (inl h) all = part-all P part whole h all.1
 part-all P part (x ∷ whole) (inr (rest, e, h)) all =
     subst (AllByRecursion P) (sym e) (all.0, part-all P rest whole h all.1)
 
-all-behind : {X : Type 0} (P : X → Type 0) (xs ys : List X) → AllByRecursion P (xs ++ ys) → AllByRecursion P ys
+pub all-behind : {X : Type 0} (P : X → Type 0) (xs ys : List X) → AllByRecursion P (xs ++ ys) → AllByRecursion P ys
 all-behind P [] ys all = all
 all-behind P (x ∷ xs) ys all = all-behind P xs ys all.1
 
@@ -44,7 +44,7 @@ first-all : {X : Type 0} (P : X → Type 0) (xs : List X) (x : X) → slice_get 
 first-all P [] x e all = never-some x e
 first-all P (y ∷ xs) x e all = subst P (same-some y x e) all.0
 
-noted-more : {X : Type 0} (xs : List X) (o : Option X) (more : List X) → noted xs o ++ more ≡ xs ++ with_one o more
+pub noted-more : {X : Type 0} (xs : List X) (o : Option X) (more : List X) → noted xs o ++ more ≡ xs ++ with_one o more
 noted-more xs None more = refl
 noted-more xs (Some x) more = append_assoc xs (x ∷ []) more
 
@@ -87,10 +87,10 @@ module _ {T : Type 0} (p s : ℕ) where
       → H it.name it.settings message)
       → IsOrdered p s G sent received state → IsOrdered p s H sent received state
   ordered-better G H state sent received on ordered =
-      (one-better G H state sent received state.services on ordered.0, ordered.1, ordered.2)
+      (one-better G H state sent received state.services on ordered.0, ordered.1, ordered.2, ordered.3)
 
   -- the service that is found lacks the publisher, or it is the first that has it
-  one-found : (G : List ℕ → StaticConfig → Message T → Type 0) (state : State T) (sent received : List (Message T))
+  pub one-found : (G : List ℕ → StaticConfig → Message T → Type 0) (state : State T) (sent received : List (Message T))
       (has : Service T → Bool) (service : Service T) (services : List (Service T)) → find has services ≡ Some service
       → IsOfOne p s G state.made sent received services
       → Lacks p s state.made.subscribers service
@@ -136,7 +136,7 @@ module _ {T : Type 0} (p s : ℕ) where
         state.services sound
 
     -- what is good after a run: what was good before it, of a publisher that stays of its service, or a message of which the send began
-    abbrev After : (List ℕ → StaticConfig → Message T → Type 0) → (asked : List (Command T)) (old : State T) (answers : List (Reply T))
+    abbrev pub After : (List ℕ → StaticConfig → Message T → Type 0) → (asked : List (Command T)) (old : State T) (answers : List (Reply T))
         (new : State T) → Runs types choices buffer asked old answers new → List ℕ → StaticConfig → Message T → Type 0
     After G asked old answers new run name c message =
         (G name c message × StaysOfService types choices buffer p name c asked old answers new run)
@@ -187,12 +187,12 @@ module _ {T : Type 0} (p s : ℕ) where
         (noted sent sending ++ sent_by types choices buffer p more run.1 run.2 new run.4) l new)
         (noted-more received receiving (received_from types choices buffer p s more run.1 run.2 new run.4)) end))
 
-    new-ordered : (G : List ℕ → StaticConfig → Message T → Type 0) (asked : List (Command T)) (answers : List (Reply T)) (new : State T)
+    pub new-ordered : (G : List ℕ → StaticConfig → Message T → Type 0) (asked : List (Command T)) (answers : List (Reply T)) (new : State T)
         (run : Runs types choices buffer asked new_state answers new)
         → IsOrdered p s (After G asked new_state answers new run) (sent_by types choices buffer p asked new_state answers new run)
         (received_from types choices buffer p s asked new_state answers new run) new
     new-ordered G asked answers new run =
-        run-ordered G [] [] asked new_state answers new run tt (tt, (λ early. (refl, refl)), refl)
+        run-ordered G [] [] asked new_state answers new run tt (tt, (λ early. (refl, refl)), refl, (false, tt))
 
 pub received-in-order : {T : Type 0} (choices : Choices T) → ReceivedInOrder choices
 received-in-order {T} choices types buffer asked answers new run publisher subscriber =

@@ -116,12 +116,15 @@ module _ {T : Type 0} (p s : ℕ) (G : List ℕ → StaticConfig → Message T �
           (
             fits.0.0,
             ports ∙ fits.0.1,
-            subst (λ (it : List (Option ℕ)). Between T s sent received later.subscribers fits.0.0.history fits.0.0.connected
-                fits.0.0.blocked (new.mailboxes p s) it) (sym places)
-                (subst (λ (box : Option (Mailbox T)). Between T s sent received later.subscribers fits.0.0.history fits.0.0.connected
-                fits.0.0.blocked box now) (sym boxes)
-                (between-places p s sent received made.subscribers fits.0.0.history fits.0.0.connected fits.0.0.blocked
-                (old.mailboxes p s) old.subscriber_list.places later.subscribers now l.0 l.2 l.1 b)),
+            subst (λ (it : List (Option ℕ)). Between T s new.settings.sequence_numbers fits.0.0.last_sequence sent received
+                later.subscribers fits.0.0.history fits.0.0.connected fits.0.0.blocked (new.mailboxes p s) it) (sym places)
+                (subst (λ (box : Option (Mailbox T)). Between T s new.settings.sequence_numbers fits.0.0.last_sequence sent received
+                later.subscribers fits.0.0.history fits.0.0.connected fits.0.0.blocked box now) (sym boxes)
+                (subst (λ (c : StaticConfig). Between T s c.sequence_numbers fits.0.0.last_sequence sent received later.subscribers
+                fits.0.0.history fits.0.0.connected fits.0.0.blocked (old.mailboxes p s) now) (sym same)
+                (between-places p s old.settings.sequence_numbers fits.0.0.last_sequence sent received made.subscribers
+                fits.0.0.history fits.0.0.connected fits.0.0.blocked (old.mailboxes p s) old.subscriber_list.places later.subscribers now
+                l.0 l.2 l.1 b))),
           ),
           up p made.publishers later.publishers fits.1 on.0,
           subst (λ (name : List ℕ). AllByRecursion (G name new.settings) sent) (sym names)
@@ -218,6 +221,7 @@ module _ {T : Type 0} (p s : ℕ) (G : List ℕ → StaticConfig → Message T �
       let found : at p more.publishers ≡ Some one = at-appended p one old.publishers lacks.0 in
       let none : those one.connected ≡ [] = those-none old.settings.max_subscribers in
       let b : BetweenOf p s [] [] made.subscribers one more = record {
+        numbered_so = (tt, refl);
         kept = part-none [];
         waits = lacks.1;
         listed_once = lacks.2;
@@ -259,10 +263,12 @@ module _ {T : Type 0} (p s : ℕ) (G : List ℕ → StaticConfig → Message T �
         let waiting : List (Message T) = waiting_in (old.mailboxes p s) in
         let new : Service T = with_mailbox p s (taken (mailbox p s old)) (record old { samples = samples }) in
         let b : BetweenOf p s sent (received ++ message ∷ []) made.subscribers fits.0.0 new =
-        subst (λ (box : Option (Mailbox T)). Between T s sent (received ++ message ∷ []) made.subscribers fits.0.0.history
-        fits.0.0.connected fits.0.0.blocked box old.subscriber_list.places)
+        subst (λ (box : Option (Mailbox T)). Between T s old.settings.sequence_numbers fits.0.0.last_sequence sent
+        (received ++ message ∷ []) made.subscribers fits.0.0.history fits.0.0.connected fits.0.0.blocked box
+        old.subscriber_list.places)
         (sym (box-same p s (taken (mailbox p s old)) (record old { samples = samples })))
-        (between-waits p s sent received (received ++ message ∷ []) made.subscribers fits.0.0.history fits.0.0.connected
+        (between-waits p s old.settings.sequence_numbers fits.0.0.last_sequence sent received (received ++ message ∷ [])
+        made.subscribers fits.0.0.history fits.0.0.connected
         fits.0.0.blocked (old.mailboxes p s) (Some (taken (mailbox p s old))) old.subscriber_list.places
         (append_assoc received (message ∷ []) (drop 1 waiting)
         ∙ ap (λ (l : List (Message T)). received ++ l) (sym (first-waits waiting message first)))

@@ -1,20 +1,21 @@
 -- Each step, and so each run, keeps the order in which messages were sent.
 use Rattle.std.proofs.Common.{◌≡◌, ◌<◌, ◌+◌, ℕ, Bool, true, false, cond, not, ◌&&◌, List, [], ◌∷◌, ◌++◌, Option, None, Some, refl, sym}
 use Rattle.std.proofs.Common.{ap, subst, inl, inr, arith, ◌∙◌}
-use Rattle.std.proofs.lemmas.Bool.{eqb-true, eqb-false, cases_Bool}
+use Rattle.std.proofs.lemmas.Bool.{and_right, eqb-true, eqb-false, cases_Bool}
 use Rattle.std.specs.List.{AllByRecursion, list_any}
 use Rattle.std.specs.Prelude.{◌==◌, is_some, find, filter, option_and_then, MatchOption}
 use Rattle.iox_machine.proofs.Shorthands.{registered}
 use Rattle.iox_machine.specs.Choices.{Choices}
 use Rattle.iox_machine.specs.Arriving.{PublisherArrives, new_publisher}
 use Rattle.iox_machine.specs.Factories.{with_open}
-use Rattle.iox_machine.specs.Message.{Message}
-use Rattle.iox_machine.specs.MessageLaws.{first_in}
+use Rattle.iox_machine.specs.Message.{Loan, Message}
+use Rattle.iox_machine.specs.MessageLaws.{begun_by, first_in, sent_in}
 use Rattle.iox_machine.specs.Phase.{Phase, Absent, BeingMade, Published, Emptied, same_pattern}
 use Rattle.iox_machine.specs.PortList.{those}
 use Rattle.iox_machine.specs.Ports.{AtFree, AtBlocked, publisher_in, subscriber_in}
 use Rattle.iox_machine.specs.PublisherUpdate as publishing
 use Rattle.iox_machine.specs.Replies.{IsSkipped, IsRefused}
+use Rattle.iox_machine.specs.RunLaws.{has_begun}
 use Rattle.iox_machine.specs.Service.{Service, Publisher, Subscriber, Send, new_service}
 use Rattle.iox_machine.specs.State.{State, Made, Factory, AtOne, is_service_of, same_name, replaced, counted, with_phase}
 use Rattle.iox_machine.specs.SubscriberUpdate as subscribing
@@ -34,6 +35,7 @@ use Rattle.iox_command.specs.NegotiateBase.DescribeSettings.declared.static_conf
 use Rattle.iox_command.specs.NegotiateBase.DescribeSettings.declared.static_config.Settings.TheVariants as settings
 use Rattle.iox_command.specs.NegotiateBase.DescribeSettings.declared.static_config.publish_subscribe.StaticConfig.{StaticConfig}
 use Rattle.iox_command.specs.NegotiateBase.declared.errors.close.CloseError.TheVariants.{StillInUse}
+use Rattle.iox_command.specs.declared.command.Command.TheVariants as command
 use Rattle.iox_command.specs.declared.port.PublisherOptions.{PublisherOptions}
 use Rattle.iox_command.specs.declared.refusal.Refusal.{Refusal}
 use Rattle.iox_command.specs.declared.refusal.Refusal.TheVariants as refusal
@@ -45,6 +47,31 @@ module _ {T : Type 0} where
       → find (λ (other : Service T). is_some (found other)) state.services ≡ Some service → found service ≡ Some one
       → first_in found state ≡ Some one
   first-is found state service one first is = ap (option_and_then found) first ∙ is
+
+  -- which message a send of a loan begins
+  pub begun-loan : (p loan : ℕ) (old : State T) (answer : Reply T) (service : Service T) (one : Loan T)
+      → find (λ (other : Service T). is_some (at loan other.loans)) old.services ≡ Some service → at loan service.loans ≡ Some one
+      → begun_by p (command.Send loan) old answer ≡ cond ((one.publisher == p) && has_begun answer) (sent_in service one) None
+  begun-loan p loan old answer service one first is =
+      ap (λ (o : Option (Service T)). option_and_then (λ (it : Service T). option_and_then
+      (λ (lent : Loan T). cond ((lent.publisher == p) && has_begun answer) (sent_in it lent) None) (at loan it.loans)) o) first
+      ∙ ap (λ (o : Option (Loan T)). option_and_then
+      (λ (lent : Loan T). cond ((lent.publisher == p) && has_begun answer) (sent_in service lent) None) o) is
+
+  pub unbegun-loan : (p loan : ℕ) (old : State T) (answer : Reply T) → has_begun answer ≡ false
+      → begun_by p (command.Send loan) old answer ≡ None
+  unbegun-loan p loan old answer silent = here (find (λ (other : Service T). is_some (at loan other.loans)) old.services)
+    where
+      lent : (service : Service T) (o : Option (Loan T)) → option_and_then
+          (λ (one : Loan T). cond ((one.publisher == p) && has_begun answer) (sent_in service one) None) o ≡ None
+      lent service None = refl
+      lent service (Some one) =
+          ap (λ (b : Bool). cond b (sent_in service one) None) (and_right (one.publisher == p) (has_begun answer) silent)
+
+      here : (o : Option (Service T)) → option_and_then (λ (it : Service T). option_and_then
+          (λ (one : Loan T). cond ((one.publisher == p) && has_begun answer) (sent_in it one) None) (at loan it.loans)) o ≡ None
+      here None = refl
+      here (Some service) = lent service (at loan service.loans)
 
   module _ (p s : ℕ) (G : List ℕ → StaticConfig → Message T → Type 0) (sent received : List (Message T)) where
     abbrev pub Goes : State T → Reply T → Option (Message T) → Option (Message T) → Service T → Service T → Type 0
@@ -242,6 +269,7 @@ module _ {T : Type 0} where
               (one-later p s G old.made (counted answer old.made) sent received on old.services ordered.0),
           (λ early. ordered.1 (under old.made.publishers (counted answer old.made).publishers p on.0 early)),
           ordered.2,
+          ordered.3,
         )
 
     pub ordered-closed : (number : ℕ) (old : State T) (answer : Reply T) (new : State T) → IsClosed number old answer new
@@ -255,6 +283,7 @@ module _ {T : Type 0} where
               (removed number old.factories)),
           ordered.1,
           ordered.2,
+          ordered.3,
         )
       where
         fewer : (b : Bool) → IsOfOne p s G old.made sent received
@@ -319,6 +348,7 @@ module _ {T : Type 0} where
                         (all-lack p s G old.made sent received (early next) old.services ordered.0)),
                     (λ before. (refl, refl)),
                     refl,
+                    (false, tt),
                   )))
                   )
             ]

@@ -6,12 +6,12 @@ use Rattle.std.specs.List.{AllByRecursion}
 use Rattle.std.specs.Prelude.{⊤, ◌==◌, is_some, find, option_map, option_and_then, MatchBool, MatchOption}
 use Rattle.iox_machine.specs.Choices.{Choices}
 use Rattle.iox_machine.specs.Message.{Message, Loan, Sample, is_written}
-use Rattle.iox_machine.specs.MessageLaws.{first_in, next_message, begun_by, received_by}
+use Rattle.iox_machine.specs.MessageLaws.{first_in, next_message, begun_by, received_by, sent_in}
 use Rattle.iox_machine.specs.Ports.{publisher_in, subscriber_in, Puts, SendsLoan}
 use Rattle.iox_machine.specs.Receiving.{Receives, has_samples, lasting}
 use Rattle.iox_machine.specs.Replies.{IsSkipped}
 use Rattle.iox_machine.specs.RunLaws.{BeginsToSend, has_begun, sent_as}
-use Rattle.iox_machine.specs.Sending.{Sends}
+use Rattle.iox_machine.specs.Sending.{Sends, numbered}
 use Rattle.iox_machine.specs.Service.{Service, Publisher, Subscriber, Send, with_subscriber}
 use Rattle.iox_machine.specs.State.{State, Made, replaced, counted}
 use Rattle.iox_machine.specs.SubscriberUpdate as subscribing
@@ -22,7 +22,7 @@ use Rattle.iox_machine.proofs.Frames.{soft-both, soft-set, soft-updates}
 use Rattle.iox_machine.proofs.Lists.{all-joined}
 use Rattle.iox_machine.proofs.Order.{BetweenOf, CameTo, sends-between, puts-between}
 use Rattle.iox_machine.proofs.OrderPorts.{takes-moves}
-use Rattle.iox_machine.proofs.OrderRuns.{first-is, Goes, Quiet, alike-goes, skip-goes}
+use Rattle.iox_machine.proofs.OrderRuns.{begun-loan, first-is, Goes, Quiet, alike-goes, skip-goes}
 use Rattle.iox_machine.proofs.OrderSteps.{noted, Alike, Fits, Moves, has_it, made-later, up, alike-by, alike-soft, alike-refused}
 use Rattle.iox_machine.proofs.OrderSteps.{between-found, lacks-none, stands-later, moves-alike}
 use Rattle.iox_machine.proofs.Runs.{all-found}
@@ -172,7 +172,7 @@ module _ {T : Type 0} (p s : ℕ) (G : List ℕ → StaticConfig → Message T �
       → Goes p s G sent received old answer (begun_by p (command.Send loan) old answer) None service after
   send-goes choices loan old answer service one after first is good did = elim (cases_Bool (one.publisher == p)) [
     | inr other ↦ quiet-goes old answer (begun_by p (command.Send loan) old answer) service after
-        (found ∙ chosen-other (one.publisher == p) (has_begun answer) (Some (sent_as one)) other)
+        (found ∙ chosen-other (one.publisher == p) (has_begun answer) (sent_in service one) other)
         (alike-goes p s G sent received old answer service after
         (alike-by p s one.publisher service after (λ e. eqb-false one.publisher p other (sym e))
         (by-sends-loan choices loan one service answer after did)))
@@ -181,7 +181,7 @@ module _ {T : Type 0} (p s : ℕ) (G : List ℕ → StaticConfig → Message T �
         (Sends choices one.publisher (sent_as one) publisher (record service { loans = removed loan service.loans }) answer after)
         (IsSkipped service answer after)) did) [
           | inl w ↦ quiet-goes old answer (begun_by p (command.Send loan) old answer) service after
-              (found ∙ chosen-silent (one.publisher == p) (has_begun answer) (Some (sent_as one)) (ap has_begun w.1.0))
+              (found ∙ chosen-silent (one.publisher == p) (has_begun answer) (sent_in service one) (ap has_begun w.1.0))
               (skip-goes p s G sent received old answer service after w.1)
           | inr w ↦ elim (by-bool (is_written one && not (is_some w.0.blocked))
               (Sends choices one.publisher (sent_as one) w.0 (record service { loans = removed loan service.loans }) answer after)
@@ -189,18 +189,15 @@ module _ {T : Type 0} (p s : ℕ) (G : List ℕ → StaticConfig → Message T �
                 | inl k ↦ sends (eqb-true one.publisher p same) same w.0 w.1
                     (both-true (is_written one) (not (is_some w.0.blocked)) k.0) k.1
                 | inr k ↦ quiet-goes old answer (begun_by p (command.Send loan) old answer) service after
-                    (found ∙ chosen-silent (one.publisher == p) (has_begun answer) (Some (sent_as one)) (ap has_begun k.1.0))
+                    (found ∙ chosen-silent (one.publisher == p) (has_begun answer) (sent_in service one) (ap has_begun k.1.0))
                     (skip-goes p s G sent received old answer service after k.1)
               ]
         ]
   ]
     where
       found : begun_by p (command.Send loan) old answer
-          ≡ cond ((one.publisher == p) && has_begun answer) (Some (sent_as one)) None
-      found =
-          ap (λ (o : Option (Loan T)). option_and_then
-          (λ (it : Loan T). cond ((it.publisher == p) && has_begun answer) (Some (sent_as it)) None) o)
-          (first-is (λ (it : Service T). at loan it.loans) old service one first is)
+          ≡ cond ((one.publisher == p) && has_begun answer) (sent_in service one) None
+      found = begun-loan p loan old answer service one first is
 
       none-blocked : (o : Option (Send T)) → not (is_some o) ≡ true → o ≡ None
       none-blocked None e = refl
@@ -216,10 +213,14 @@ module _ {T : Type 0} (p s : ℕ) (G : List ℕ → StaticConfig → Message T �
           subst (λ (k : ℕ). at k service.publishers ≡ Some publisher) e stands in
           let fewer : Service T = record service { loans = removed loan service.loans } in
           let by : ByPublisher one.publisher fewer after = by-sends choices one.publisher (sent_as one) publisher fewer answer after h in
-          sends-goes old answer (begun_by p (command.Send loan) old answer) (sent_as one) service after publisher by.0 by.1 there
-          (λ begun. found ∙ chosen-begun (one.publisher == p) (has_begun answer) (sent_as one) same begun)
-          (λ silent. found ∙ chosen-silent (one.publisher == p) (has_begun answer) (Some (sent_as one)) silent)
-          (λ begun is_first. good (sent_as one) service (service, one, first, is, e, tests.0, refl, begun) is_first)
+          sends-goes old answer (begun_by p (command.Send loan) old answer) (numbered publisher (sent_as one)) service after publisher
+          by.0 by.1 there
+          (λ begun. found
+          ∙ (ap (λ (o : Option (Publisher T)). cond ((one.publisher == p) && has_begun answer)
+          (option_map (λ sender. numbered sender (sent_as one)) o) None) stands
+          ∙ chosen-begun (one.publisher == p) (has_begun answer) (numbered publisher (sent_as one)) same begun))
+          (λ silent. found ∙ chosen-silent (one.publisher == p) (has_begun answer) (sent_in service one) silent)
+          (λ begun is_first. good (numbered publisher (sent_as one)) service (service, one, first, is, e, tests.0, refl, begun) is_first)
           (λ b. sends-between p s choices sent received old.made.subscribers (sent_as one) publisher fewer answer after there
           (none-blocked publisher.blocked tests.1) b
           (subst (λ (k : ℕ). Sends choices k (sent_as one) publisher fewer answer after) e h))

@@ -7,6 +7,7 @@ use Rattle.iox_machine.specs.Message.{Message}
 use Rattle.iox_machine.specs.MessageLaws.{IsPartOf}
 use Rattle.iox_machine.specs.PortList.{PortList, those}
 use Rattle.iox_machine.specs.Replies.{IsSkipped, IsRefused}
+use Rattle.iox_machine.specs.SequenceLaws.{GoOnBehind}
 use Rattle.iox_machine.specs.Service.{Service, Publisher}
 use Rattle.iox_machine.specs.State.{State, Made, AtOne, replaced, counted}
 use Rattle.iox_machine.specs.Table.{at, contains}
@@ -17,6 +18,7 @@ use Rattle.iox_machine.proofs.Moving.{at-one, replaced-keeps}
 use Rattle.iox_machine.proofs.Order.{Between, BetweenOf, Stands, between-soft, between-places}
 use Rattle.iox_machine.proofs.Parts.{part-front, Once}
 use Rattle.iox_machine.proofs.Runs.{all-found}
+use Rattle.iox_command.specs.DomainValues.Sequences.{before_first}
 use Rattle.iox_command.specs.NegotiateBase.DescribeSettings.declared.static_config.publish_subscribe.StaticConfig.{StaticConfig}
 use Rattle.iox_command.specs.declared.refusal.Refusal.{Refusal}
 use Rattle.iox_command.specs.declared.reply.Reply.{Reply}
@@ -42,6 +44,7 @@ made-later (reply.PublisherMade number) made = (omega arith, omega arith)
 made-later (reply.SubscriberMade number) made = (omega arith, omega arith)
 made-later (reply.LoanMade number) made = made-same made
 made-later reply.Done made = made-same made
+made-later (reply.Sequence number) made = made-same made
 made-later (reply.Delivered count) made = made-same made
 made-later reply.Blocked made = made-same made
 made-later (reply.Received number values) made = made-same made
@@ -79,8 +82,8 @@ module _ {T : Type 0} (p s : ℕ) where
   stands-later sent received born later up_to service (one, found, b) = (
     one,
     found,
-    between-places p s sent received born one.history one.connected one.blocked (service.mailboxes p s) service.subscriber_list.places
-        later service.subscriber_list.places b.listed_once
+    between-places p s service.settings.sequence_numbers one.last_sequence sent received born one.history one.connected one.blocked
+        (service.mailboxes p s) service.subscriber_list.places later service.subscriber_list.places b.listed_once
         (λ may. elim may [ inl early ↦ inl (under born later s up_to early) | inr listed ↦ inr listed ])
         (λ early. (under born later s up_to early, (b.unlisted (under born later s up_to early)).0)) b,
   )
@@ -123,9 +126,12 @@ module _ {T : Type 0} (p s : ℕ) where
   stands-alike sent received born old new a (one, found, b) = (
     one,
     a.2 ∙ found,
-    subst (λ (l : PortList). Between T s sent received born one.history one.connected one.blocked (new.mailboxes p s) l.places) (sym a.3)
-        (between-soft p s sent received born one.history one.connected one.blocked (old.mailboxes p s) (new.mailboxes p s)
-        old.subscriber_list.places a.4 b),
+    subst (λ (l : PortList). Between T s new.settings.sequence_numbers one.last_sequence sent received born one.history one.connected
+        one.blocked (new.mailboxes p s) l.places) (sym a.3)
+        (subst (λ (c : StaticConfig). Between T s c.sequence_numbers one.last_sequence sent received born one.history one.connected
+        one.blocked (new.mailboxes p s) old.subscriber_list.places) (sym a.1)
+        (between-soft p s old.settings.sequence_numbers one.last_sequence sent received born one.history one.connected one.blocked
+        (old.mailboxes p s) (new.mailboxes p s) old.subscriber_list.places a.4 b)),
   )
 
   -- the publisher that is found is the one that stands
@@ -157,6 +163,7 @@ module _ {T : Type 0} (p s : ℕ) where
     IsOrdered sent received state =
         IsOfOne state.made sent received state.services
         × (state.made.publishers < p → (sent ≡ []) × (received ≡ [])) × IsPartOf received sent
+        × ((switch : Bool) × GoOnBehind (before_first switch 1) sent)
 
     pub fits-later : (made later : Made) (sent received : List (Message T)) → IsLater made later → (service : Service T)
         → Fits made sent received service → Fits later sent received service
@@ -268,6 +275,7 @@ module _ {T : Type 0} (p s : ℕ) where
           (one-later old.made new.made sent received on old.services ordered.0),
       (λ early. ordered.1 (under old.made.publishers new.made.publishers p on.0 early)),
       ordered.2,
+      ordered.3,
     )
 
     -- a command does something at one service
@@ -324,6 +332,10 @@ module _ {T : Type 0} (p s : ℕ) where
                     (subst (λ (l : List (Message T)). IsPartOf received l) (sym idle.1) ordered.2)
                 | inr fits ↦ part-front (noted received receiving) (waiting_in (after.mailboxes p s)) (noted sent sending)
                     fits.1.0.2.waits
+              ],
+              elim done.1 [
+                | inl idle ↦ subst (λ (l : List (Message T)). (switch : Bool) × GoOnBehind (before_first switch 1) l) (sym idle.1) ordered.3
+                | inr fits ↦ (after.settings.sequence_numbers, fits.1.0.2.numbered_so.0)
               ],
             )
 

@@ -10,7 +10,7 @@ use Rattle.iox_machine.specs.AgreementLaws.{life_of, agreed_in, HasOne, IsPublis
 use Rattle.iox_machine.specs.AgreementLaws.{CreatesAsDescribed}
 use Rattle.iox_machine.specs.Asked.{settings_of}
 use Rattle.iox_machine.specs.Phase.{Node, Own, Foreign, Phase, Absent, BeingMade, Published, Emptied, same_pattern, same_node, is_in}
-use Rattle.iox_machine.specs.Phase.{entered, left, left_by, removed_by, closed_by, acted}
+use Rattle.iox_machine.specs.Phase.{entered, left, left_by, removed_by, closed_by, acted, published_by, has_numbers}
 use Rattle.iox_machine.specs.Run.{Step, Runs}
 use Rattle.iox_machine.specs.State.{State, Factory}
 use Rattle.iox_machine.proofs.Calls.{HasRoom, IsSettled, create-settles, open-settles, either-settles, fold-all}
@@ -252,6 +252,16 @@ closing-stays : (node : ℕ) (phase : Phase) → Stays phase (closed_by node pha
 closing-stays node phase = stays-on phase (left_by (Own node) phase) (closed_by node phase) (left-stays (Own node) phase)
     (removing-stays (Own node) (left_by (Own node) phase))
 
+since-published : (types : MessageTypeDetails) (pattern : MessagingPattern) (from : Phase) (life : ℕ) (by : Node) (node : ℕ)
+    (options : ServiceOptions)
+    → Since from (BeingMade life by) → Since from (published_by types pattern life by node options)
+since-published types pattern from life by node options since =
+    chosen-phase (Since from)
+    (same_node by (Foreign node) && (same_pattern (pattern_of options) pattern && are_within_limits (settings_of types options)))
+    (Published life (record { settings = settings_of types options; attributes = [] }) ((Foreign node, 1) ∷ [])) (BeingMade life by)
+    (unmade from life by (Published life (record { settings = settings_of types options; attributes = [] }) ((Foreign node, 1) ∷ [])) refl
+    since) since
+
 pub since-acted : (types : MessageTypeDetails) (pattern : MessagingPattern) (from phase : Phase) (one : ForeignStep) → Since from phase
     → Since from (acted types pattern phase one)
 since-acted types pattern from (Absent lives) (step.Lock node) since =
@@ -260,11 +270,10 @@ since-acted types pattern from (BeingMade life by) (step.GiveUp node) since =
     chosen-phase (Since from) (same_node by (Foreign node)) (Absent life) (BeingMade life by) (unmade from life by (Absent life) refl since)
     since
 since-acted types pattern from (BeingMade life by) (step.Publish node options) since =
-    chosen-phase (Since from)
-    (same_node by (Foreign node) && (same_pattern (pattern_of options) pattern && are_within_limits (settings_of types options)))
-    (Published life (record { settings = settings_of types options; attributes = [] }) ((Foreign node, 1) ∷ [])) (BeingMade life by)
-    (unmade from life by (Published life (record { settings = settings_of types options; attributes = [] }) ((Foreign node, 1) ∷ [])) refl
-    since) since
+    since-published types pattern from life by node options since
+since-acted types pattern from (BeingMade life by) (step.PublishV1 node options) since =
+    chosen-phase (Since from) (has_numbers (settings_of types options)) (BeingMade life by)
+    (published_by types pattern life by node options) since (since-published types pattern from life by node options since)
 since-acted types pattern from (Published life agreed nodes) (step.Register node) since =
     chosen-phase (Since from) (not (is_in (Foreign node) nodes) && nat_lt (length nodes) (max_nodes_of agreed.settings))
     (Published life agreed (entered (Foreign node) nodes)) (Published life agreed nodes)
@@ -386,14 +395,11 @@ agreed-closed node (Emptied life standing by) agreed is =
     chosen-phase (λ (phase : Phase). agreed_in phase ≡ Some agreed → Some standing ≡ Some agreed) (same_node by (Own node)) (Absent life)
     (Emptied life standing by) (λ e. never-some agreed e) (λ e. e) is
 
-pub agreed-acted : (types : MessageTypeDetails) (pattern : MessagingPattern) (phase : Phase) (one : ForeignStep) (agreed : Agreement)
-    → agreed_in (acted types pattern phase one) ≡ Some agreed
-    → (agreed_in phase ≡ Some agreed) ⊎ IsPublishedBy types pattern agreed one
-agreed-acted types pattern (Absent lives) (step.Lock node) agreed is = inl is
-agreed-acted types pattern (BeingMade life by) (step.GiveUp node) agreed is =
-    never-some agreed (chosen-phase (λ (phase : Phase). agreed_in phase ≡ Some agreed → None ≡ Some agreed) (same_node by (Foreign node))
-    (Absent life) (BeingMade life by) (λ e. e) (λ e. e) is)
-agreed-acted types pattern (BeingMade life by) (step.Publish node options) agreed is =
+agreed-published : (types : MessageTypeDetails) (pattern : MessagingPattern) (life : ℕ) (by : Node) (node : ℕ) (options : ServiceOptions)
+    (agreed : Agreement) → agreed_in (published_by types pattern life by node options) ≡ Some agreed
+    → (None ≡ Some agreed)
+    ⊎ (pattern_of options ≡ pattern) × (agreed ≡ record { settings = settings_of types options; attributes = [] })
+agreed-published types pattern life by node options agreed is =
     here (same_node by (Foreign node) && (same_pattern (pattern_of options) pattern && are_within_limits (settings_of types options))) refl
     is
   where
@@ -402,7 +408,8 @@ agreed-acted types pattern (BeingMade life by) (step.Publish node options) agree
         → agreed_in (cond b
         (Published life (record { settings = settings_of types options; attributes = [] }) ((Foreign node, 1) ∷ []))
         (BeingMade life by)) ≡ Some agreed
-        → (None ≡ Some agreed) ⊎ IsPublishedBy types pattern agreed (step.Publish node options)
+        → (None ≡ Some agreed)
+        ⊎ (pattern_of options ≡ pattern) × (agreed ≡ record { settings = settings_of types options; attributes = [] })
     here true fits e =
         inr (
           pattern-is (pattern_of options) pattern
@@ -412,6 +419,27 @@ agreed-acted types pattern (BeingMade life by) (step.Publish node options) agree
           sym (same-some (record { settings = settings_of types options; attributes = [] }) agreed e),
         )
     here false fits e = inl e
+
+pub agreed-acted : (types : MessageTypeDetails) (pattern : MessagingPattern) (phase : Phase) (one : ForeignStep) (agreed : Agreement)
+    → agreed_in (acted types pattern phase one) ≡ Some agreed
+    → (agreed_in phase ≡ Some agreed) ⊎ IsPublishedBy types pattern agreed one
+agreed-acted types pattern (Absent lives) (step.Lock node) agreed is = inl is
+agreed-acted types pattern (BeingMade life by) (step.GiveUp node) agreed is =
+    never-some agreed (chosen-phase (λ (phase : Phase). agreed_in phase ≡ Some agreed → None ≡ Some agreed) (same_node by (Foreign node))
+    (Absent life) (BeingMade life by) (λ e. e) (λ e. e) is)
+agreed-acted types pattern (BeingMade life by) (step.Publish node options) agreed is =
+    agreed-published types pattern life by node options agreed is
+agreed-acted types pattern (BeingMade life by) (step.PublishV1 node options) agreed is =
+    here (has_numbers (settings_of types options)) refl is
+  where
+    here : (b : Bool) → has_numbers (settings_of types options) ≡ b
+        → agreed_in (cond b (BeingMade life by) (published_by types pattern life by node options)) ≡ Some agreed
+        → (None ≡ Some agreed) ⊎ IsPublishedBy types pattern agreed (step.PublishV1 node options)
+    here true on e = inl e
+    here false off e = elim (agreed-published types pattern life by node options agreed e) [
+      | inl w ↦ inl w
+      | inr w ↦ inr (w.0, w.1, ap (λ (it : Agreement). has_numbers it.settings) w.1 ∙ off)
+    ]
 agreed-acted types pattern (Published life standing nodes) (step.Register node) agreed is =
     inl (chosen-phase (λ (phase : Phase). agreed_in phase ≡ Some agreed → Some standing ≡ Some agreed)
     (not (is_in (Foreign node) nodes) && nat_lt (length nodes) (max_nodes_of standing.settings))

@@ -258,6 +258,12 @@ module _ {T : Type 0} where
         × (answered ≡ reply.Values values) × (after ≡ service)) old answer new
         (by-first (command.Read sample) (λ (service : Service T). at sample service.samples) old (λ pattern name. refl))
         (λ one service after did. stays old.made service after answer (reply.Values did.0) (did.2, did.3) tt) h
+    ports-move (command.Sequence sample) old answer new is h =
+        moves (command.Sequence sample) (λ (service : Service T). at sample service.samples)
+        (λ (one : Sample T) (service : Service T) (answered : Reply T) (after : Service T).
+        (answered ≡ reply.Sequence one.message.sequence) × (after ≡ service)) old answer new
+        (by-first (command.Sequence sample) (λ (service : Service T). at sample service.samples) old (λ pattern name. refl))
+        (λ one service after did. stays old.made service after answer (reply.Sequence one.message.sequence) did tt) h
     ports-move (command.Release sample) old answer new is h =
         moves (command.Release sample) (λ (service : Service T). at sample service.samples) (Releases sample) old answer new
         (by-first (command.Release sample) (λ (service : Service T). at sample service.samples) old (λ pattern name. refl))

@@ -5,7 +5,7 @@ use Rattle.std.specs.Option.{option_map_or}
 use Rattle.std.specs.Prelude.{◌==◌, find, is_some, nat_lt, option_map, slice_get, MatchBool, MatchOption, zip}
 use Rattle.iox_machine.specs.RunLaws.{sent_as}
 use Rattle.iox_machine.specs.Choices.{Choices}
-use Rattle.iox_machine.proofs.Delivering.{Outcomes, by-outcome}
+use Rattle.iox_machine.proofs.Delivering.{Outcomes, by-outcome, at_once, by-send}
 use Rattle.iox_machine.specs.Lending.{Lends, LendsLonger, loan_refusal}
 use Rattle.iox_machine.specs.Message.{Loan, Message, is_written}
 use Rattle.iox_machine.specs.PortList.{those}
@@ -147,15 +147,11 @@ module _ {T : Type 0} where
       (publisher : Publisher T) (old new : Service T) → at number old.publishers ≡ Some publisher
       → Sends choices number message publisher old (reply.Refused why) new → Left old new
   left-sends choices why off number message publisher old new found h =
-      elim (by-bool publisher.stands
-      (publishing.UpdatesFirst choices number (λ failure. refusal.Send (error.ConnectionError failure)) (Begins choices number message)
-      publisher old
-      (reply.Refused why) new)
-      (IsRefused (refusal.Send error.ConnectionBrokenSinceSenderNoLongerExists) old (reply.Refused why) new) h) [
+      elim (by-send choices number message publisher old (reply.Refused why) new h) [
         | inl w ↦ left-updates choices number (λ failure. refusal.Send (error.ConnectionError failure)) (Begins choices number message)
             publisher old why
-            new found (λ after mid begun. never-begins choices why off number message after mid new begun) w.1
-        | inr w ↦ left-refused (refusal.Send error.ConnectionBrokenSinceSenderNoLongerExists) old old (reply.Refused why) new
+            new found (λ after mid begun. never-begins choices why off number message after mid new begun) w
+        | inr w ↦ left-refused (refusal.Send (at_once w.0)) old old (reply.Refused why) new
             (left-same old) w.1
       ]
 
@@ -225,8 +221,8 @@ module _ {T : Type 0} where
       left-refused (refusal.Send (error.LoanError reason)) old old (reply.Refused why) new (left-same old) refused
   left-puts choices why off number values publisher old new found (None, after, lent, sent) =
       left-lent number publisher after old new found (lends-alike number (length values) publisher old None after lent)
-      (left-sends choices why off number (record { number = publisher.next; values = values }) after (with_publisher number after old) new
-      (at-changed number after publisher old.publishers found) sent)
+      (left-sends choices why off number (record { number = publisher.next; sequence = None; values = values }) after
+      (with_publisher number after old) new (at-changed number after publisher old.publishers found) sent)
 
   -- ---- the commands
 

@@ -227,6 +227,7 @@ module _ {T : Type 0} (reason : Refusal) where
     step-refused (command.GiveUp publisher) old new whole h = absurd (differ whole)
     step-refused (command.Receive subscriber) old new whole h = absurd (differ whole)
     step-refused (command.Read sample) old new whole h = absurd (differ whole)
+    step-refused (command.Sequence sample) old new whole h = absurd (differ whole)
     step-refused (command.Release sample) old new whole h = absurd (differ whole)
     step-refused (command.Update which) old new whole h = absurd (differ whole)
     step-refused (command.Leave which) old new whole h = absurd (differ whole)

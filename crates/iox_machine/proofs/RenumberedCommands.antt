@@ -170,6 +170,13 @@ module _ {T : Type 0} (by : Numberings) (types : MessageTypeDetails) (choices : 
       (λ (one : Sample T) (service : Service T) (answered : Reply T) (after : Service T). (values : Vec T)
       × (vec_items values ≡ one.message.values) × (answered ≡ reply.Values values) × (after ≡ service)) old answer new
       (λ one service after did. (did.0, did.1, ap (other_reply by) did.2, ap (other_service by) did.3)) h
+  step-by (command.Sequence sample) old answer new nodes next h =
+      at-sample-by by made sample
+      (λ (one : Sample T) (service : Service T) (answered : Reply T) (after : Service T).
+      (answered ≡ reply.Sequence one.message.sequence) × (after ≡ service))
+      (λ (one : Sample T) (service : Service T) (answered : Reply T) (after : Service T).
+      (answered ≡ reply.Sequence one.message.sequence) × (after ≡ service)) old answer new
+      (λ one service after did. (ap (other_reply by) did.0, ap (other_service by) did.1)) h
   step-by (command.Release sample) old answer new nodes next h =
       at-sample-by by made sample (Releases sample) (Releases (by.samples.to sample)) old answer new
       (λ one service after did. releases-by by sample one service answer after did) h

@@ -107,10 +107,10 @@ module _ {T : Type 0} (by : Numberings) where
     other_publisher by after,
     lends-by by number (length values) publisher old None after lent,
     subst (λ (service : Service T). Sends (other_choices by choices) (by.publishers.to number)
-        (record { number = publisher.next; values = values })
+        (record { number = publisher.next; sequence = None; values = values })
         (other_publisher by after) service (other_reply by answer) (other_service by new)) (sym (publisher-by by number after old))
-        (sends-by by choices number (record { number = publisher.next; values = values }) after (with_publisher number after old) answer
-        new sent),
+        (sends-by by choices number (record { number = publisher.next; sequence = None; values = values }) after
+        (with_publisher number after old) answer new sent),
   )
   puts-by choices number values publisher old answer new (Some why, after, lent, refused) = (
     Some why,

@@ -5,7 +5,7 @@ use Rattle.std.proofs.lemmas.List.{length-map}
 use Rattle.std.specs.Option.{option_map_or}
 use Rattle.std.specs.Prelude.{◌==◌, nat_lt, nat_le, option_map, is_some, filter, fold, zip, slice_get}
 use Rattle.iox_machine.specs.Choices.{Choices}
-use Rattle.iox_machine.proofs.Delivering.{Outcomes}
+use Rattle.iox_machine.proofs.Delivering.{Outcomes, keeping, sending}
 use Rattle.iox_machine.specs.Lending.{loans_of, in_use, how_many, is_static, LendsLonger, loan_refusal, Lends}
 use Rattle.iox_machine.specs.Mailbox.{Mailbox, newest, put}
 use Rattle.iox_machine.specs.Message.{Message, Loan}
@@ -39,6 +39,7 @@ use Rattle.iox_command.specs.declared.refusal.Refusal.{Refusal}
 use Rattle.iox_command.specs.declared.refusal.Refusal.TheVariants as refusal
 use Rattle.iox_command.specs.declared.reply.Reply.{Reply}
 use Rattle.iox_command.specs.declared.reply.Reply.TheVariants as reply
+use Rattle.iox_command.specs.DomainValues.Sequences.{is_used_up}
 
 -- ---- what an update answers
 
@@ -344,11 +345,11 @@ module _ {T : Type 0} (by : Numberings) where
       (other_service by new)
   begins-by choices number message publisher old answer new h =
       subst (λ (left : List ℕ). GoesOn (other_choices by choices) (by.publishers.to number)
-      (record (other_publisher by publisher) { history = newest old.settings.history_size (publisher.history ++ message ∷ []) })
-      (record { message = message; left = left; retries = 0; elapsed = 0; delivered = 0; fails = false }) (other_service by old)
+      (keeping message (other_publisher by publisher) (other_service by old))
+      (record (sending message publisher) { left = left }) (other_service by old)
       (other_reply by answer) (other_service by new)) (sym (those-by by.subscribers publisher.connected))
-      (goes-on-by choices number (record publisher { history = newest old.settings.history_size (publisher.history ++ message ∷ []) })
-      (record { message = message; left = those publisher.connected; retries = 0; elapsed = 0; delivered = 0; fails = false })
+      (goes-on-by choices number (keeping message publisher old)
+      (sending message publisher)
       old answer new h)
 
   pub sends-by : (choices : Choices T) (number : ℕ) (message : Message T) (publisher : Publisher T) (old : Service T) (answer : Reply T)
@@ -359,9 +360,11 @@ module _ {T : Type 0} (by : Numberings) where
       (other_service by new)
   sends-by choices number message publisher old answer new h =
       over-bool publisher.stands publisher.stands refl
+      (over-bool (is_used_up publisher.last_sequence) (is_used_up publisher.last_sequence) refl
+      (refused-by by (other_service by) (refusal.Send error.InternalError) old answer new)
       (updates-by choices number (λ failure. refusal.Send (error.ConnectionError failure)) (Begins choices number message)
       (Begins (other_choices by choices) (by.publishers.to number) message) publisher old answer new
-      (λ one mid. begins-by choices number message one mid answer new))
+      (λ one mid. begins-by choices number message one mid answer new)))
       (refused-by by (other_service by) (refusal.Send error.ConnectionBrokenSinceSenderNoLongerExists) old answer new) h
 
   -- ---- a loan

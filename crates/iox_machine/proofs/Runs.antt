@@ -46,6 +46,7 @@ samples-rise (reply.PublisherMade number) made = omega arith
 samples-rise (reply.SubscriberMade number) made = omega arith
 samples-rise (reply.LoanMade number) made = omega arith
 samples-rise reply.Done made = omega arith
+samples-rise (reply.Sequence number) made = omega arith
 samples-rise (reply.Delivered count) made = omega arith
 samples-rise reply.Blocked made = omega arith
 samples-rise (reply.Received number values) made = omega arith
@@ -242,18 +243,18 @@ module _ {T : Type 0} where
 
     -- ---- what is read
 
-    made-so : (asked : Command T) (old : State T) (answer : Reply T) (new : State T) → Steps asked old answer new
+    pub made-so : (asked : Command T) (old : State T) (answer : Reply T) (new : State T) → Steps asked old answer new
         → AreSound AnyMessage AnySample old
         → new.made ≡ counted answer old.made
     made-so asked old answer new h all =
         (step-sound AnyMessage AnySample types choices buffer asked old answer new (λ publisher message b. tt)
         (λ sample values told same. tt) h all).1
 
-    forgotten : (Fine : ℕ → Sample T → Type 0) (state : State T) → AreSound AnyMessage Fine state → AreSound AnyMessage AnySample state
+    pub forgotten : (Fine : ℕ → Sample T → Type 0) (state : State T) → AreSound AnyMessage Fine state → AreSound AnyMessage AnySample state
     forgotten Fine state all = all-weaker-sound AnyMessage AnyMessage Fine AnySample (λ publisher message good. tt)
         (λ number sample fine. tt) state all
 
-    rises : (asked : Command T) (old : State T) (answer : Reply T) (new : State T) → Steps asked old answer new
+    pub rises : (asked : Command T) (old : State T) (answer : Reply T) (new : State T) → Steps asked old answer new
         → AreSound AnyMessage AnySample old
         → old.made.samples ≤ new.made.samples
     rises asked old answer new h all =

@@ -7,7 +7,7 @@ use Rattle.std.specs.Prelude.{◌==◌, nat_le, nat_lt}
 use Rattle.iox_machine.specs.Agreement.{Agreement, are_within_limits}
 use Rattle.iox_machine.specs.Asked.{settings_of}
 use Rattle.iox_machine.specs.Phase.{Node, Own, Foreign, Phase, Absent, BeingMade, Published, Emptied, same_pattern, same_node, is_in}
-use Rattle.iox_machine.specs.Phase.{entered, left, removed_by, closed_by, acted}
+use Rattle.iox_machine.specs.Phase.{entered, left, removed_by, closed_by, acted, published_by, has_numbers}
 use Rattle.iox_machine.proofs.Counts.{one_if}
 use Rattle.iox_machine.proofs.Phases.{chosen-phase}
 use Rattle.iox_command.specs.NegotiateBase.DescribeBase.declared.message_type.MessageTypeDetails.{MessageTypeDetails}
@@ -16,6 +16,7 @@ use Rattle.iox_command.specs.NegotiateBase.DescribeSettings.Agreement.{max_nodes
 use Rattle.iox_command.specs.Patterns.{pattern_of}
 use Rattle.iox_command.specs.declared.step.ForeignStep.{ForeignStep}
 use Rattle.iox_command.specs.declared.step.ForeignStep.TheVariants as step
+use Rattle.iox_command.specs.declared.service.ServiceOptions.{ServiceOptions}
 
 -- how many factories a node has, of those that are counted
 abbrev pub share : Node → List (Node × ℕ) → ℕ
@@ -156,12 +157,10 @@ left-counts : (g : ℕ → ℕ) (life : ℕ) (agreed : Agreement) (node : Node) 
 left-counts g life agreed node [] full is = λ m. sym (is m)
 left-counts g life agreed node (entry ∷ more) full is = (full, is)
 
-pub counts-acted : (types : MessageTypeDetails) (pattern : MessagingPattern) (f : ℕ → ℕ) (phase : Phase) (one : ForeignStep)
-    → Counts f phase → Counts f (acted types pattern phase one)
-counts-acted types pattern f (Absent lives) (step.Lock node) c = c
-counts-acted types pattern f (BeingMade life by) (step.GiveUp node) c =
-    chosen-phase (Counts f) (same_node by (Foreign node)) (Absent life) (BeingMade life by) c c
-counts-acted types pattern f (BeingMade life by) (step.Publish node options) c =
+counts-published : (types : MessageTypeDetails) (pattern : MessagingPattern) (f : ℕ → ℕ) (life : ℕ) (by : Node) (node : ℕ)
+    (options : ServiceOptions)
+    → Counts f (BeingMade life by) → Counts f (published_by types pattern life by node options)
+counts-published types pattern f life by node options c =
     chosen-phase (Counts f)
     (same_node by (Foreign node) && (same_pattern (pattern_of options) pattern && are_within_limits (settings_of types options)))
     (Published life (record { settings = settings_of types options; attributes = [] }) ((Foreign node, 1) ∷ [])) (BeingMade life by)
@@ -169,6 +168,17 @@ counts-acted types pattern f (BeingMade life by) (step.Publish node options) c =
   where
     none : (m : ℕ) → f m ≡ 0 → 0 + 0 ≡ f m
     none m h = omega (arith, h)
+
+pub counts-acted : (types : MessageTypeDetails) (pattern : MessagingPattern) (f : ℕ → ℕ) (phase : Phase) (one : ForeignStep)
+    → Counts f phase → Counts f (acted types pattern phase one)
+counts-acted types pattern f (Absent lives) (step.Lock node) c = c
+counts-acted types pattern f (BeingMade life by) (step.GiveUp node) c =
+    chosen-phase (Counts f) (same_node by (Foreign node)) (Absent life) (BeingMade life by) c c
+counts-acted types pattern f (BeingMade life by) (step.Publish node options) c =
+    counts-published types pattern f life by node options c
+counts-acted types pattern f (BeingMade life by) (step.PublishV1 node options) c =
+    chosen-phase (Counts f) (has_numbers (settings_of types options)) (BeingMade life by)
+    (published_by types pattern life by node options) c (counts-published types pattern f life by node options c)
 counts-acted types pattern f (Published life agreed nodes) (step.Register node) c =
     chosen-phase (Counts f) (not (is_in (Foreign node) nodes) && nat_lt (length nodes) (max_nodes_of agreed.settings))
     (Published life agreed (entered (Foreign node) nodes)) (Published life agreed nodes)

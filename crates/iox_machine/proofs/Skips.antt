@@ -7,11 +7,9 @@ use Rattle.std.specs.List.{list_all}
 use Rattle.std.specs.Vec.{vec_items}
 use Rattle.iox_machine.proofs.Shorthands.{factory_of, left, registered}
 use Rattle.iox_machine.specs.Choices.{Choices}
-use Rattle.iox_machine.proofs.Delivering.{Outcomes, by-outcome}
+use Rattle.iox_machine.proofs.Delivering.{Outcomes, by-outcome, keeping, at_once, by-send, sending}
 use Rattle.iox_machine.specs.Arriving.{PublisherArrives, SubscriberArrives, new_publisher, new_subscriber, worst_case}
-use Rattle.iox_machine.specs.Mailbox.{newest}
 use Rattle.iox_machine.specs.Message.{Message, Loan, Sample, is_written}
-use Rattle.iox_machine.specs.PortList.{those}
 use Rattle.iox_machine.specs.Ports.{AtFree, AtBlocked, publisher_in, subscriber_in, LendsLoan, Puts, SendsLoan, Writes, Releases}
 use Rattle.iox_machine.specs.PublisherUpdate as publishing
 use Rattle.iox_machine.specs.Receiving.{Receives, has_samples}
@@ -71,8 +69,8 @@ module _ {T : Type 0} where
   begins-tells : {A : Type 0} (choices : Choices T) (number : ℕ) (message : Message T) (publisher : Publisher T) (old new : Service T)
       → Begins choices number message publisher old skipped new → A
   begins-tells choices number message publisher old new h =
-      goes-on-tells choices number (record publisher { history = newest old.settings.history_size (publisher.history ++ message ∷ []) })
-      (record { message = message; left = those publisher.connected; retries = 0; elapsed = 0; delivered = 0; fails = false }) old new h
+      goes-on-tells choices number (keeping message publisher old)
+      (sending message publisher) old new h
 
   publisher-updates : (choices : Choices T) (number : ℕ) (told : ConnectionFailure → Refusal)
       (Does : Publisher T → Service T → Reply T → Service T → Type 0)
@@ -123,14 +121,11 @@ module _ {T : Type 0} where
   sends-tells : (choices : Choices T) (number : ℕ) (message : Message T) (publisher : Publisher T) (old new : Service T)
       → Sends choices number message publisher old skipped new → ⊥
   sends-tells choices number message publisher old new h =
-      elim (by-bool publisher.stands
-      (publishing.UpdatesFirst choices number (λ failure. refusal.Send (error.ConnectionError failure))
-      (Begins choices number message) publisher old skipped new)
-      (IsRefused (refusal.Send error.ConnectionBrokenSinceSenderNoLongerExists) old skipped new) h) [
+      elim (by-send choices number message publisher old skipped new h) [
         | inl w ↦ publisher-updates choices number (λ failure. refusal.Send (error.ConnectionError failure))
             (Begins choices number message) publisher old new
-            (λ one mid begun. begins-tells choices number message one mid new begun) w.1
-        | inr w ↦ never (reply.Refused (refusal.Send error.ConnectionBrokenSinceSenderNoLongerExists)) w.1.0 refl
+            (λ one mid begun. begins-tells choices number message one mid new begun) w
+        | inr w ↦ never (reply.Refused (refusal.Send (at_once w.0))) w.1.0 refl
       ]
 
   lends-skips : (loan number count : ℕ) (value : Option T) (publisher : Publisher T) (old new : Service T)
@@ -142,8 +137,8 @@ module _ {T : Type 0} where
       → Puts choices number values publisher old skipped new
       → new ≡ old
   puts-skips choices number values publisher old new (None, after, lent, sent) =
-      absurd (sends-tells choices number (record { number = publisher.next; values = values }) after (with_publisher number after old) new
-      sent)
+      absurd (sends-tells choices number (record { number = publisher.next; sequence = None; values = values }) after
+      (with_publisher number after old) new sent)
   puts-skips choices number values publisher old new (Some why, after, lent, (told, same)) = same
 
   sends-loan-skips : (choices : Choices T) (number : ℕ) (loan : Loan T) (old new : Service T)
@@ -430,6 +425,10 @@ module _ {T : Type 0} where
         (vec_items values ≡ one.message.values)
         × (answered ≡ reply.Values values) × (after ≡ service))
         old new (λ one service after did. did.3) h
+    step-skips (command.Sequence sample) old new h =
+        at-one-skips (λ (service : Service T). at sample service.samples)
+        (λ (one : Sample T) (service : Service T) (answered : Reply T) (after : Service T).
+        (answered ≡ reply.Sequence one.message.sequence) × (after ≡ service)) old new (λ one service after did. did.1) h
     step-skips (command.Release sample) old new h =
         at-one-skips (λ (service : Service T). at sample service.samples) (Releases sample) old new
         (λ one service after did. never reply.Done did.0 refl) h

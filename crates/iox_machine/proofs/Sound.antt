@@ -11,7 +11,7 @@ use Rattle.std.specs.Prelude.{MatchBool, MatchOption, drop, zip}
 use Rattle.iox_machine.specs.RunLaws.{sent_as}
 use Rattle.iox_machine.proofs.Shorthands.{given_back, registered, taken}
 use Rattle.iox_machine.specs.Choices.{Choices}
-use Rattle.iox_machine.proofs.Delivering.{Outcomes, by-outcome, first_of, offered, deliver, goes-on-so}
+use Rattle.iox_machine.proofs.Delivering.{Outcomes, by-outcome, first_of, offered, deliver, goes-on-so, keeping, by-send, sending}
 use Rattle.iox_machine.specs.Arriving.{worst_case, PublisherArrives, SubscriberArrives}
 use Rattle.iox_machine.specs.Lending.{Lends, LendsLonger, loan_refusal}
 use Rattle.iox_machine.specs.Mailbox.{Mailbox, newest, put, has_data}
@@ -21,7 +21,7 @@ use Rattle.iox_machine.specs.Ports.{publisher_in, subscriber_in, LendsLoan, Puts
 use Rattle.iox_machine.specs.PublisherUpdate as publishing
 use Rattle.iox_machine.specs.Receiving.{Receives, Takes, IsGiver, gives, lasting}
 use Rattle.iox_machine.specs.Replies.{IsSkipped, IsRefused}
-use Rattle.iox_machine.specs.Sending.{GoesOn, Begins, Sends}
+use Rattle.iox_machine.specs.Sending.{GoesOn, Begins, Sends, numbered}
 use Rattle.iox_machine.specs.Service.{Service, Publisher, Subscriber, Send, with_publisher, with_subscriber, mailbox, with_mailbox}
 use Rattle.iox_machine.specs.Service.{connect, new_service}
 use Rattle.iox_machine.specs.SubscriberUpdate as subscribing
@@ -314,24 +314,17 @@ module _ {T : Type 0} (Good : ℕ → Message T → Type 0) (Fine : ℕ → Samp
 
   pub begins : (choices : Choices T) (number : ℕ) (message : Message T) (publisher : Publisher T) (old : Service T) (answer : Reply T)
       (new : Service T)
-      → Both number publisher old → Good number message → Begins choices number message publisher old answer new → Sound new
+      → Both number publisher old → Good number (numbered publisher message) → Begins choices number message publisher old answer new
+      → Sound new
   begins choices number message publisher old answer new both good h =
-      let kept : List (Message T) = publisher.history ++ message ∷ [] in
-      goes-on choices number (record publisher { history = newest old.settings.history_size kept })
-      (record {
-        message = message;
-        left = those publisher.connected;
-        retries = 0;
-        elapsed = 0;
-        delivered = 0;
-        fails =
-            false;
-      }) old answer new (
+      let kept : List (Message T) = publisher.history ++ numbered publisher message ∷ [] in
+      goes-on choices number (keeping message publisher old)
+      (sending message publisher) old answer new (
         both.0,
         (
           newest-fits old.settings.history_size kept,
           all-newest (Good number) old.settings.history_size kept
-              (all-joined (Good number) publisher.history (message ∷ []) both.1.1 (good, tt)),
+              (all-joined (Good number) publisher.history (numbered publisher message ∷ []) both.1.1 (good, tt)),
           both.1.2,
         ),
       )
@@ -340,16 +333,13 @@ module _ {T : Type 0} (Good : ℕ → Message T → Type 0) (Fine : ℕ → Samp
   pub sends : (choices : Choices T) (number : ℕ) (message : Message T) (publisher : Publisher T) (old : Service T) (answer : Reply T)
       (new : Service T)
       → Both number publisher old
-      → ((one : Publisher T) (mid : Service T) → Begins choices number message one mid answer new → Good number message)
+      → ((one : Publisher T) (mid : Service T) → Begins choices number message one mid answer new → Good number (numbered one message))
       → Sends choices number message publisher old answer new → Sound new
   sends choices number message publisher old answer new both good h =
-      elim (by-bool publisher.stands
-      (publishing.UpdatesFirst choices number (λ failure. refusal.Send (error.ConnectionError failure))
-      (Begins choices number message) publisher old answer new)
-      (IsRefused (refusal.Send error.ConnectionBrokenSinceSenderNoLongerExists) old answer new) h) [
+      elim (by-send choices number message publisher old answer new h) [
         | inl w ↦ updates-first choices number (λ failure. refusal.Send (error.ConnectionError failure))
             (Begins choices number message) publisher old answer new both
-            (λ one mid on begun. begins choices number message one mid answer new on (good one mid begun) begun) w.1
+            (λ one mid on begun. begins choices number message one mid answer new on (good one mid begun) begun) w
         | inr w ↦ subst Sound (sym w.1.1) both.0
       ]
 
@@ -395,18 +385,19 @@ module _ {T : Type 0} (Good : ℕ → Message T → Type 0) (Fine : ℕ → Samp
       (new : Service T)
       → Both number publisher old
       → ((one : Publisher T) (mid : Service T)
-      → Begins choices number (record { number = publisher.next; values = values }) one mid answer new
-      → Good number (record { number = publisher.next; values = values }))
+      → Begins choices number (record { number = publisher.next; sequence = None; values = values }) one mid answer new
+      → Good number (numbered one (record { number = publisher.next; sequence = None; values = values })))
       → Puts choices number values publisher old answer new → Sound new
   puts choices number values publisher old answer new both good (None, after, lent, sent) =
       let fits : PublisherFits old.settings number after = lends number (length values) publisher old None after both.1 lent in
-      sends choices number (record { number = publisher.next; values = values }) after (with_publisher number after old) answer new
+      sends choices number (record { number = publisher.next; sequence = None; values = values }) after (with_publisher number after old)
+      answer new
       (publisher-changed number after old both.0 fits, fits) good sent
   puts choices number values publisher old answer new both good (Some why, after, lent, (told, same)) = subst Sound (sym same) both.0
 
   pub sends-loan : (choices : Choices T) (number : ℕ) (loan : Loan T) (old : Service T) (answer : Reply T) (new : Service T) → Sound old
       → ((one : Publisher T) (mid : Service T) → is_written loan ≡ true → Begins choices loan.publisher (sent_as loan) one mid answer new
-      → Good loan.publisher (sent_as loan))
+      → Good loan.publisher (numbered one (sent_as loan)))
       → SendsLoan choices number loan old answer new → Sound new
   sends-loan choices number loan old answer new sound good h =
       elim (by-option (at loan.publisher old.publishers) (IsSkipped old answer new)

@@ -142,6 +142,8 @@ published-pattern : (types : MessageTypeDetails) (pattern : MessagingPattern) (a
     → IsPublishedBy types pattern agreed one → described.pattern_of agreed.settings ≡ pattern
 published-pattern types pattern agreed (step.Publish node options) (same, is) =
     ap (λ (it : Agreement). described.pattern_of it.settings) is ∙ (settings-pattern types options ∙ same)
+published-pattern types pattern agreed (step.PublishV1 node options) (same, is, off) =
+    ap (λ (it : Agreement). described.pattern_of it.settings) is ∙ (settings-pattern types options ∙ same)
 published-pattern types pattern agreed other never = absurd never
 
 published-acted : (types : MessageTypeDetails) (pattern : MessagingPattern) (life : ℕ) (standing : Agreement) (nodes : List (Node × ℕ))

@@ -1,6 +1,6 @@
 -- Each step keeps what holds of each service.
-use Rattle.std.proofs.Common.{◌≡◌, ◌+◌, ℕ, Bool, true, false, cond, ◌&&◌, [], ◌∷◌, ◌++◌, length, map, set, Option, None, Some, refl, sym}
-use Rattle.std.proofs.Common.{ap, subst, inl, inr, arith, ◌∙◌}
+use Rattle.std.proofs.Common.{◌≡◌, ◌+◌, ℕ, Bool, true, false, cond, ◌&&◌, length, map, set, Option, None, Some, refl, sym, ap, subst}
+use Rattle.std.proofs.Common.{inl, inr, arith, ◌∙◌}
 use Rattle.std.specs.Global.{Vec}
 use Rattle.std.specs.List.{AllByRecursion}
 use Rattle.std.specs.Prelude.{⊤, ◌==◌, nat_lt, is_some, fold, take, slice_get, MatchOption}
@@ -9,16 +9,14 @@ use Rattle.iox_machine.proofs.Shorthands.{factory_of, left}
 use Rattle.iox_machine.specs.Choices.{Choices}
 use Rattle.iox_machine.specs.Arriving.{PublisherArrives, SubscriberArrives, new_publisher, new_subscriber}
 use Rattle.iox_machine.specs.Message.{Message, Loan, Sample, is_written}
-use Rattle.iox_machine.specs.Mailbox.{newest}
 use Rattle.iox_machine.specs.Phase.{acted}
-use Rattle.iox_machine.specs.PortList.{those}
 use Rattle.iox_machine.specs.Ports.{AtFree, AtBlocked, publisher_in, subscriber_in, LendsLoan, Puts, SendsLoan, Writes, Releases}
 use Rattle.iox_machine.specs.PublisherUpdate as publishing
 use Rattle.iox_machine.specs.Receiving.{Receives, has_samples}
 use Rattle.iox_machine.specs.Replies.{IsSkipped}
 use Rattle.iox_machine.specs.Run.{Step, AtFactory}
 use Rattle.iox_machine.specs.RunLaws.{BeginsToSend, has_begun, sent_as}
-use Rattle.iox_machine.specs.Sending.{GoesOn, Begins}
+use Rattle.iox_machine.specs.Sending.{GoesOn, Begins, numbered}
 use Rattle.iox_machine.specs.Service.{Service, Publisher, Subscriber, Send, with_publisher, with_subscriber}
 use Rattle.iox_machine.specs.State.{State, AtOne, is_service_of, counted, with_phase}
 use Rattle.iox_machine.specs.SubscriberUpdate as subscribing
@@ -29,6 +27,7 @@ use Rattle.iox_machine.proofs.Moving.{negotiated-keeps, closed, closed-keeps}
 use Rattle.iox_machine.proofs.Sound.{Sound, Both, Well, new-sound, publisher-fits, publisher-changed, updates-first, goes-on, lends-loan}
 use Rattle.iox_machine.proofs.Sound.{puts, sends-loan, writes, subscriber-fits, subscriber-changed, subscriber-updates, receives}
 use Rattle.iox_machine.proofs.Sound.{releases, publisher-arrives, subscriber-arrives}
+use Rattle.iox_machine.proofs.Delivering.{keeping, sending}
 use Rattle.iox_command.specs.DomainValues.declared.connection_failure.ConnectionFailure.{ConnectionFailure}
 use Rattle.iox_command.specs.DomainValues.declared.port_error.ReceiveError.TheVariants as receive_error
 use Rattle.iox_command.specs.DomainValues.declared.port_error.SendError.TheVariants as error
@@ -61,16 +60,8 @@ pub beginning-told : {T : Type 0} (choices : Choices T) (number : ℕ) (message 
     (new : Service T)
     → Begins choices number message publisher old answer new → has_begun answer ≡ true
 beginning-told choices number message publisher old answer new h =
-    going-told choices number (record publisher { history = newest old.settings.history_size (publisher.history ++ message ∷ []) })
-    (record {
-      message = message;
-      left = those publisher.connected;
-      retries = 0;
-      elapsed = 0;
-      delivered = 0;
-      fails =
-          false;
-    }) old answer new h
+    going-told choices number (keeping message publisher old)
+    (sending message publisher) old answer new h
 
 module _ {T : Type 0} (Good : ℕ → Message T → Type 0) (Fine : ℕ → Sample T → Type 0) where
   abbrev IsSound : Service T → Type 0
@@ -227,7 +218,7 @@ module _ {T : Type 0} (Good : ℕ → Message T → Type 0) (Fine : ℕ → Samp
         at-one-keeps IsSound IsSound (λ (service : Service T). at loan service.loans) (SendsLoan choices loan) old answer new
         (λ it sound. sound)
         (λ one service after first found did sound. sends-loan Good Fine choices loan one service answer after sound
-        (λ publisher mid written begun. good one.publisher (sent_as one) (
+        (λ mid then written begun. good one.publisher (numbered mid (sent_as one)) (
           service,
           one,
           first,
@@ -235,15 +226,19 @@ module _ {T : Type 0} (Good : ℕ → Message T → Type 0) (Fine : ℕ → Samp
           refl,
           written,
           refl,
-          beginning-told choices one.publisher (sent_as one) publisher mid answer after begun,
+          beginning-told choices one.publisher (sent_as one) mid then answer after begun,
         ))
         did)
         h all
     step-sound (command.Put publisher values) old answer new good fine h all =
         at-free publisher (Puts choices publisher values) old answer new
         (λ one service after both did. puts Good Fine choices publisher values one service answer after both
-        (λ next mid begun. good publisher (record { number = one.next; values = values })
-        (refl, refl, beginning-told choices publisher (record { number = one.next; values = values }) next mid answer after begun))
+        (λ next mid begun. good publisher (numbered next (record { number = one.next; sequence = None; values = values })) (
+          refl,
+          refl,
+          beginning-told choices publisher (record { number = one.next; sequence = None; values = values }) next mid answer after
+              begun,
+        ))
         did)
         h all
     step-sound (command.Retry publisher nanoseconds) old answer new good fine h all =
@@ -275,6 +270,11 @@ module _ {T : Type 0} (Good : ℕ → Message T → Type 0) (Fine : ℕ → Samp
         (vec_items values ≡ one.message.values)
         × (answered ≡ reply.Values values) × (after ≡ service))
         old answer new (λ it sound. sound) (λ one service after first found did sound. subst IsSound (sym did.3) sound) h all
+    step-sound (command.Sequence sample) old answer new good fine h all =
+        at-one-keeps IsSound IsSound (λ (service : Service T). at sample service.samples)
+        (λ (one : Sample T) (service : Service T) (answered : Reply T) (after : Service T).
+        (answered ≡ reply.Sequence one.message.sequence) × (after ≡ service))
+        old answer new (λ it sound. sound) (λ one service after first found did sound. subst IsSound (sym did.1) sound) h all
     step-sound (command.Release sample) old answer new good fine h all =
         at-one-keeps IsSound IsSound (λ (service : Service T). at sample service.samples) (Releases sample) old answer new
         (λ it sound. sound)

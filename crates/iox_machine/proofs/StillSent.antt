@@ -8,13 +8,13 @@ use Rattle.iox_machine.specs.Choices.{Choices}
 use Rattle.iox_machine.specs.Arriving.{PublisherArrives}
 use Rattle.iox_machine.specs.Lending.{Lends, LendsLonger, loan_refusal}
 use Rattle.iox_machine.specs.Message.{Loan, Message, is_written}
-use Rattle.iox_machine.specs.MessageLaws.{next_message}
+use Rattle.iox_machine.specs.MessageLaws.{next_message, sent_in}
 use Rattle.iox_machine.specs.NumberLaws.{numbers_in, publisher_told}
 use Rattle.iox_machine.specs.Ports.{LendsLoan, Puts, SendsLoan, Writes}
 use Rattle.iox_machine.specs.PublisherUpdate as publishing
 use Rattle.iox_machine.specs.Replies.{IsSkipped}
 use Rattle.iox_machine.specs.RunLaws.{has_begun, sent_as}
-use Rattle.iox_machine.specs.Sending.{Sends}
+use Rattle.iox_machine.specs.Sending.{Sends, numbered}
 use Rattle.iox_machine.specs.Service.{Publisher, Service, with_publisher}
 use Rattle.iox_machine.specs.Table.{at, changed, removed}
 use Rattle.iox_machine.proofs.Cases.{by-bool, by-option, never-some, same-some}
@@ -300,7 +300,7 @@ module _ {T : Type 0} (p n : ℕ) where
   puts-sent choices number values one service after answer found (None, then, lent, sent) =
       let mid : Service T = with_publisher number then service in
       let on : Same mid after =
-      same-sends choices number (record { number = one.next; values = values }) then mid answer after
+      same-sends choices number (record { number = one.next; sequence = None; values = values }) then mid answer after
       (ap next_of (at-changed number then one service.publishers found)) sent in
       less (left_in after) (to_come n (next_at p mid)) (to_come n (next_at p service)) (loaned service.loans)
       (if_sent (cond ((number == p) && has_begun answer) (Some (next_message values one)) None))
@@ -313,7 +313,7 @@ module _ {T : Type 0} (p n : ℕ) where
 
   pub sends-sent : (choices : Choices T) (loan : ℕ) (one : Loan T) (service after : Service T) (answer : Reply T)
       → at loan service.loans ≡ Some one → SendsLoan choices loan one service answer after
-      → Sent answer (if_sent (cond ((one.publisher == p) && has_begun answer) (Some (sent_as one)) None)) service after
+      → Sent answer (if_sent (cond ((one.publisher == p) && has_begun answer) (sent_in service one) None)) service after
   sends-sent choices loan one service after answer found did =
       elim (by-option (at one.publisher service.publishers) (IsSkipped service answer after)
       (λ publisher. MatchBool (is_written one && not (is_some publisher.blocked))
@@ -329,10 +329,10 @@ module _ {T : Type 0} (p n : ℕ) where
       ]
     where
       skipped : IsSkipped service answer after
-          → Sent answer (if_sent (cond ((one.publisher == p) && has_begun answer) (Some (sent_as one)) None)) service after
+          → Sent answer (if_sent (cond ((one.publisher == p) && has_begun answer) (sent_in service one) None)) service after
       skipped (told, same) =
-          quiet answer (if_sent (cond ((one.publisher == p) && has_begun answer) (Some (sent_as one)) None)) service after
-          (begun-silent (one.publisher == p) (has_begun answer) (Some (sent_as one)) (ap has_begun told))
+          quiet answer (if_sent (cond ((one.publisher == p) && has_begun answer) (sent_in service one) None)) service after
+          (begun-silent (one.publisher == p) (has_begun answer) (sent_in service one) (ap has_begun told))
           (subst (λ (s : Service T). Same service s) (sym same) (same-itself service))
 
       less : (w x l m c d e : ℕ) → w ≡ x + l → l + d ≤ m → c ≤ d → w + c ≤ (x + m) + e
@@ -340,14 +340,16 @@ module _ {T : Type 0} (p n : ℕ) where
 
       sent : (publisher : Publisher T) → at one.publisher service.publishers ≡ Some publisher
           → Sends choices one.publisher (sent_as one) publisher (record service { loans = removed loan service.loans }) answer after
-          → Sent answer (if_sent (cond ((one.publisher == p) && has_begun answer) (Some (sent_as one)) None)) service after
+          → Sent answer (if_sent (cond ((one.publisher == p) && has_begun answer) (sent_in service one) None)) service after
       sent publisher there h =
           let mid : Service T = record service { loans = removed loan service.loans } in
           let on : Same mid after = same-sends choices one.publisher (sent_as one) publisher mid answer after (ap next_of there) h in
-          less (left_in after) (to_come n (next_at p service)) (loaned (removed loan service.loans)) (loaned service.loans)
-          (if_sent (cond ((one.publisher == p) && has_begun answer) (Some (sent_as one)) None)) (one_if (is_it one))
+          subst (λ (o : Option (Publisher T)). Sent answer (if_sent (cond ((one.publisher == p) && has_begun answer)
+          (option_map (λ sender. numbered sender (sent_as one)) o) None)) service after) (sym there)
+          (less (left_in after) (to_come n (next_at p service)) (loaned (removed loan service.loans)) (loaned service.loans)
+          (if_sent (cond ((one.publisher == p) && has_begun answer) (Some (numbered publisher (sent_as one))) None)) (one_if (is_it one))
           (of_told (publisher_told answer) p) (same-left mid after on) (loaned-removed loan one service.loans found)
-          (begun-fewer (one.publisher == p) (has_begun answer) (sent_as one))
+          (begun-fewer (one.publisher == p) (has_begun answer) (numbered publisher (sent_as one))))
 
   pub writes-sent : (loan : ℕ) (one : Loan T) (fit : Bool) (values : List (Option T)) (service after : Service T) (answer : Reply T)
       → at loan service.loans ≡ Some one → times loan (numbers_in service.loans) ≤ 1 → Writes loan one fit values service answer after

@@ -6,8 +6,8 @@ use Rattle.std.specs.Option.{option_map_or}
 use Rattle.std.specs.Prelude.{◌==◌, find, is_some, nat_le, slice_get, unwrap_or, MatchBool, MatchOption, zip}
 use Rattle.iox_machine.specs.RunLaws.{sent_as}
 use Rattle.iox_machine.specs.Choices.{Choices}
-use Rattle.iox_machine.proofs.Delivering.{Outcomes, by-outcome}
-use Rattle.iox_machine.specs.Sending.{Delivers, MayDecide}
+use Rattle.iox_machine.proofs.Delivering.{Outcomes, by-outcome, keeping, sending, at_once, by-send}
+use Rattle.iox_machine.specs.Sending.{Delivers, MayDecide, numbered}
 use Rattle.iox_machine.specs.Mailbox.{Mailbox, newest, put}
 use Rattle.iox_machine.specs.Message.{Loan, Message, is_written}
 use Rattle.iox_machine.specs.PortList.{those}
@@ -295,15 +295,14 @@ module _ {T : Type 0} where
       → ((s : ℕ) → Once s (those one.connected)) → Begins choices number message one old unable new
       → IsUndelivered choices number one message old new
   begun-undelivered choices number message one old new once h =
-      let keeps : Publisher T = record one { history = newest old.settings.history_size (one.history ++ message ∷ []) } in
-      let send : Send T =
-      record { message = message; left = those one.connected; retries = 0; elapsed = 0; delivered = 0; fails = false } in
+      let keeps : Publisher T = keeping message one old in
+      let send : Send T = sending message one in
       let after : Send T × Service T = (h.0, h.1) in
       let told : (is_some (slice_get after.0.left 0) ≡ false) × (after.0.fails ≡ true) =
       is-unable (is_some (slice_get after.0.left 0)) after.0.fails after.0.delivered h.3 in
-      let came : Came number keeps message choices (those one.connected) send old after =
-      deliver-came number keeps message choices (those one.connected) send old h.0 h.1 once refl h.2 in
-      let lacks : Lacks number keeps message choices (those one.connected) old =
+      let came : Came number keeps (numbered one message) choices (those one.connected) send old after =
+      deliver-came number keeps (numbered one message) choices (those one.connected) send old h.0 h.1 once refl h.2 in
+      let lacks : Lacks number keeps (numbered one message) choices (those one.connected) old =
       elim (came.1 told.1) [ inl never ↦ absurd (true≢false (sym never)) | inr so ↦ so ] in
       let is : new ≡ with_publisher number (record keeps { blocked = None }) after.1 =
       h.4
@@ -314,7 +313,7 @@ module _ {T : Type 0} where
         (λ p s. ap (mailbox p s) whole
             ∙ (came.2 told.0 p s
             ∙ ap (λ (it : Mailbox T). cond ((p == number) && contains (those one.connected) s) it (mailbox p s old))
-            (put-offered old.settings.enable_safe_overflow message (mailbox p s old) lacks.0))),
+            (put-offered old.settings.enable_safe_overflow (numbered one message) (mailbox p s old) lacks.0))),
         whole
             ∙ ap (λ (boxes : ℕ → ℕ → Option (Mailbox T)). record (with_publisher number (record keeps { blocked = None }) old) {
               mailboxes = boxes;
@@ -332,16 +331,12 @@ module _ {T : Type 0} where
       → at number old.publishers ≡ Some publisher → AreOnce publisher old → Sends choices number message publisher old unable new
       → Undelivered choices number message old new
   sends-undelivered choices number message publisher old new found once h =
-      elim (by-bool publisher.stands
-      (publishing.UpdatesFirst choices number (λ failure. refusal.Send (error.ConnectionError failure)) (Begins choices number message)
-      publisher old
-      unable new)
-      (IsRefused (refusal.Send error.ConnectionBrokenSinceSenderNoLongerExists) old unable new) h) [
+      elim (by-send choices number message publisher old unable new h) [
         | inl w ↦ elim (by-bool (publisher.seen == old.subscriber_list.changes) (Begins choices number message publisher old unable new)
             ((after : Publisher T) × (mid : Service T) × publishing.Follows number publisher old after mid
             × Outcomes (choices.publisher_acts number publisher.degradation) (zip old.subscriber_list.places after.connected)
             (λ done. Begins choices number message after mid unable new)
-            (λ failure. IsRefused (refusal.Send (error.ConnectionError failure)) mid unable new)) w.1) [
+            (λ failure. IsRefused (refusal.Send (error.ConnectionError failure)) mid unable new)) w) [
               | inl k ↦ (
                 old,
                 publisher,
@@ -352,11 +347,12 @@ module _ {T : Type 0} where
               )
               | inr k ↦ followed k.1.0 k.1.1 k.1.2 k.1.3
             ]
-        | inr w ↦ absurd (differ (ap tells_why w.1.0))
+        | inr w ↦ absurd (differ w.0 (ap tells_why w.1.0))
       ]
     where
-      differ : Some (refusal.Send error.UnableToDeliver) ≡ Some (refusal.Send error.ConnectionBrokenSinceSenderNoLongerExists) → ⊥
-      differ e = cc
+      differ : (used_up : Bool) → Some (refusal.Send error.UnableToDeliver) ≡ Some (refusal.Send (at_once used_up)) → ⊥
+      differ true e = cc
+      differ false e = cc
 
       followed : (after : Publisher T) (mid : Service T) → publishing.Follows number publisher old after mid
           → Outcomes (choices.publisher_acts number publisher.degradation) (zip old.subscriber_list.places after.connected)
@@ -474,7 +470,7 @@ module _ {T : Type 0} where
             → Puts choices number values one service unable after → Leaves (command.Put number values) new
         sent service one after first found came (Some why, lent, lends, refused) = absurd (differ why (ap tells_why refused.0))
         sent service one after first found came (None, lent, lends, did) =
-            let message : Message T = record { number = one.next; values = values } in
+            let message : Message T = record { number = one.next; sequence = None; values = values } in
             let alike : Alike one lent = lends-alike number (length values) one service None lent lends in
             let so : Undelivered choices number message (with_publisher number lent service) after =
             sends-undelivered choices number message lent (with_publisher number lent service) after

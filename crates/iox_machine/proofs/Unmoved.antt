@@ -9,7 +9,7 @@ use Rattle.iox_machine.specs.Choices.{Choices}
 use Rattle.iox_machine.specs.Agreement.{Agreement, are_within_limits}
 use Rattle.iox_machine.specs.Asked.{settings_of}
 use Rattle.iox_machine.specs.Phase.{Absent, BeingMade, Emptied, Foreign, Node, Own, Phase, Published, acted, closed_by, entered, is_in}
-use Rattle.iox_machine.specs.Phase.{left, left_by, removed_by, same_node, same_pattern}
+use Rattle.iox_machine.specs.Phase.{left, left_by, removed_by, same_node, same_pattern, published_by, has_numbers}
 use Rattle.iox_machine.specs.RefusalLaws.{IsAsBefore, RefusedCallsLeaveNodes}
 use Rattle.iox_machine.specs.Run.{Runs}
 use Rattle.iox_machine.specs.State.{Factory, State, new_state}
@@ -29,6 +29,7 @@ use Rattle.iox_command.specs.declared.reply.Reply.TheVariants as reply
 use Rattle.iox_command.specs.declared.step.ForeignStep.{ForeignStep}
 use Rattle.iox_command.specs.declared.step.ForeignStep.TheVariants as step
 use Rattle.iox_command.specs.declared.step.StepBefore.{StepBefore}
+use Rattle.iox_command.specs.declared.service.ServiceOptions.{ServiceOptions}
 
 -- Some node is in a service that is published, and each that is has a factory.
 abbrev pub Whole : Phase → Type 0
@@ -137,16 +138,23 @@ closed-whole node (Emptied life agreed by) whole = removed-whole (Own node) (Emp
 one-full : (node : Node) → Full ((node, 1) ∷ []) × (1 ≤ length {A = Node × ℕ} ((node, 1) ∷ []))
 one-full node = ((omega arith, tt), omega arith)
 
+published-whole : (types : MessageTypeDetails) (pattern : MessagingPattern) (life : ℕ) (by : Node) (node : ℕ) (named : ServiceOptions)
+    → Whole (published_by types pattern life by node named)
+published-whole types pattern life by node named =
+    chosen-phase Whole
+    (same_node by (Foreign node) && (same_pattern (pattern_of named) pattern && are_within_limits (settings_of types named)))
+    (Published life (record { settings = settings_of types named; attributes = [] }) ((Foreign node, 1) ∷ [])) (BeingMade life by)
+    (one-full (Foreign node)) tt
+
 pub acted-whole : (types : MessageTypeDetails) (pattern : MessagingPattern) (phase : Phase) (one : ForeignStep) → Whole phase
     → Whole (acted types pattern phase one)
 acted-whole types pattern (Absent lives) (step.Lock node) whole = tt
 acted-whole types pattern (BeingMade life by) (step.GiveUp node) whole =
     chosen-phase Whole (same_node by (Foreign node)) (Absent life) (BeingMade life by) tt tt
-acted-whole types pattern (BeingMade life by) (step.Publish node named) whole =
-    chosen-phase Whole
-    (same_node by (Foreign node) && (same_pattern (pattern_of named) pattern && are_within_limits (settings_of types named)))
-    (Published life (record { settings = settings_of types named; attributes = [] }) ((Foreign node, 1) ∷ [])) (BeingMade life by)
-    (one-full (Foreign node)) tt
+acted-whole types pattern (BeingMade life by) (step.Publish node named) whole = published-whole types pattern life by node named
+acted-whole types pattern (BeingMade life by) (step.PublishV1 node named) whole =
+    chosen-phase Whole (has_numbers (settings_of types named)) (BeingMade life by) (published_by types pattern life by node named) tt
+    (published-whole types pattern life by node named)
 acted-whole types pattern (Published life agreed nodes) (step.Register node) whole =
     chosen-phase Whole (not (is_in (Foreign node) nodes) && nat_lt (length nodes) (max_nodes_of agreed.settings))
     (Published life agreed (entered (Foreign node) nodes)) (Published life agreed nodes)

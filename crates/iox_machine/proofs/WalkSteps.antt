@@ -368,6 +368,12 @@ module _ {T : Type 0} where
           (λ (one : Sample T) (service : Service T) (answered : Reply T) (after : Service T). (values : Vec T)
           × (vec_items values ≡ one.message.values) × (answered ≡ reply.Values values) × (after ≡ service)) old answer new
           (λ one service after found did. walks-same R walks service after did.3) h)
+      step-comes (command.Sequence sample) old answer new h =
+          ports-come old answer new
+          (at-one-walks (λ (service : Service T). at sample service.samples)
+          (λ (one : Sample T) (service : Service T) (answered : Reply T) (after : Service T).
+          (answered ≡ reply.Sequence one.message.sequence) × (after ≡ service)) old answer new
+          (λ one service after found did. walks-same R walks service after did.1) h)
       step-comes (command.Release sample) old answer new h =
           ports-come old answer new
           (at-one-walks (λ (service : Service T). at sample service.samples) (Releases sample) old answer new

@@ -5,11 +5,10 @@ use Rattle.std.specs.Prelude.{◌==◌, nat_lt, length, is_some, replicate, slic
 use Rattle.iox_machine.specs.RunLaws.{sent_as}
 use Rattle.iox_machine.proofs.Shorthands.{given_back, taken}
 use Rattle.iox_machine.specs.Choices.{Choices}
-use Rattle.iox_machine.proofs.Delivering.{Outcomes, by-outcome, first_of, offered, deliver, goes-on-so}
+use Rattle.iox_machine.proofs.Delivering.{Outcomes, by-outcome, first_of, offered, deliver, goes-on-so, keeping, at_once, by-send, sending}
 use Rattle.iox_machine.specs.Lending.{Lends, LendsLonger, loan_refusal}
-use Rattle.iox_machine.specs.Mailbox.{Mailbox, newest, put}
+use Rattle.iox_machine.specs.Mailbox.{Mailbox, put}
 use Rattle.iox_machine.specs.Message.{Loan, Message, Sample, is_written}
-use Rattle.iox_machine.specs.PortList.{those}
 use Rattle.iox_machine.specs.Ports.{LendsLoan, Puts, Releases, SendsLoan, Writes}
 use Rattle.iox_machine.specs.PublisherUpdate as publishing
 use Rattle.iox_machine.specs.Receiving.{Receives, lasting}
@@ -127,24 +126,20 @@ module _ {T : Type 0} (R : Service T → Service T → Type 0) (walks : Walks R)
       (answer : Reply T) (new : Service T)
       → at number old.publishers ≡ Some publisher → Sends choices number message publisher old answer new → R old new
   walks-sends choices number message publisher old answer new found h =
-      elim (by-bool publisher.stands
-      (publishing.UpdatesFirst choices number (λ failure. refusal.Send (error.ConnectionError failure)) (Begins choices number message)
-      publisher old answer
-      new)
-      (IsRefused (refusal.Send error.ConnectionBrokenSinceSenderNoLongerExists) old answer new) h) [
+      elim (by-send choices number message publisher old answer new h) [
         | inl w ↦ walks-updates choices (R old new) number (λ failure. refusal.Send (error.ConnectionError failure))
             (Begins choices number message)
             publisher old answer new found
             (λ after mid on there begun. walks.both old mid new on (begins after mid there begun))
-            (λ why mid on refused. walks-refused why old mid answer new on refused) w.1
-        | inr w ↦ walks-refused (refusal.Send error.ConnectionBrokenSinceSenderNoLongerExists) old old answer new (walks.none old) w.1
+            (λ why mid on refused. walks-refused why old mid answer new on refused) w
+        | inr w ↦ walks-refused (refusal.Send (at_once w.0)) old old answer new (walks.none old) w.1
       ]
     where
       begins : (after : Publisher T) (mid : Service T) → at number mid.publishers ≡ Some after
           → Begins choices number message after mid answer new → R mid new
       begins after mid there begun =
-          walks-goes-on choices number after (record after { history = newest mid.settings.history_size (after.history ++ message ∷ []) })
-          (record { message = message; left = those after.connected; retries = 0; elapsed = 0; delivered = 0; fails = false })
+          walks-goes-on choices number after (keeping message after mid)
+          (sending message after)
           mid answer new there refl refl begun
 
   -- who lends stands as before, and is connected so
@@ -192,7 +187,7 @@ module _ {T : Type 0} (R : Service T → Service T → Type 0) (walks : Walks R)
       let kept : Lent publisher after = lends-turned number (length values) publisher old None after lent in
       let mid : Service T = with_publisher number after old in
       walks.both old mid new (walks.turned number publisher after old found kept.0 kept.1)
-      (walks-sends choices number (record { number = publisher.next; values = values }) after mid answer new
+      (walks-sends choices number (record { number = publisher.next; sequence = None; values = values }) after mid answer new
       (at-changed number after publisher old.publishers found) sent)
 
   pub walks-sends-loan : (choices : Choices T) (number : ℕ) (loan : Loan T) (old : Service T) (answer : Reply T) (new : Service T)

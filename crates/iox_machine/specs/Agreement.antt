@@ -86,6 +86,7 @@ publish_subscribe_verdict types required named agreed =
       | settings.PublishSubscribe c ↦ verdict_on ((is_compatible types c.types, publish_subscribe.IncompatibleTypes)
           ∷ (have_required required agreed.attributes, publish_subscribe.IncompatibleAttributes)
           ∷ (is_switched named.enable_safe_overflow c.enable_safe_overflow, publish_subscribe.IncompatibleOverflowBehavior)
+          ∷ (is_switched named.sequence_numbers c.sequence_numbers, publish_subscribe.IncompatibleSequenceNumbers)
           ∷ (is_enough named.max_publishers c.max_publishers, publish_subscribe.DoesNotSupportRequestedAmountOfPublishers)
           ∷ (is_enough named.max_subscribers c.max_subscribers, publish_subscribe.DoesNotSupportRequestedAmountOfSubscribers)
           ∷ (

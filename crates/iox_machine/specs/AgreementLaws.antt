@@ -4,7 +4,7 @@ use Rattle.std.specs.List.{AllByRecursion, IsDistinct, list_any}
 use Rattle.iox_machine.specs.Choices.{Choices}
 use Rattle.iox_machine.specs.Agreement.{Agreement}
 use Rattle.iox_machine.specs.Asked.{settings_of}
-use Rattle.iox_machine.specs.Phase.{Node, Own, Phase, Absent, BeingMade, Published, Emptied, is_in, same_pattern}
+use Rattle.iox_machine.specs.Phase.{Node, Own, Phase, Absent, BeingMade, Published, Emptied, is_in, same_pattern, has_numbers}
 use Rattle.iox_machine.specs.Run.{Step, Runs}
 use Rattle.iox_machine.specs.Service.{Service, new_service}
 use Rattle.iox_machine.specs.State.{State, Made, Factory, new_state, is_service_of, same_name}
@@ -80,6 +80,9 @@ module _ (types : MessageTypeDetails) (pattern : MessagingPattern) (agreed : Agr
   abbrev pub IsPublishedBy : ForeignStep → Type 0
   IsPublishedBy (step.Publish node options) =
       (pattern_of options ≡ pattern) × (agreed ≡ record { settings = settings_of types options; attributes = [] })
+  IsPublishedBy (step.PublishV1 node options) =
+      (pattern_of options ≡ pattern) × (agreed ≡ record { settings = settings_of types options; attributes = [] })
+      × (has_numbers agreed.settings ≡ false)
   IsPublishedBy other = ⊥
 
   -- A command describes this agreement, under a name: it is to create such a service, or has a node outside the hub publish it.

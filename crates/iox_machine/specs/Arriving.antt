@@ -7,6 +7,7 @@ use Rattle.iox_machine.specs.PublisherUpdate as publishing
 use Rattle.iox_machine.specs.Service.{Service, Publisher, Subscriber}
 use Rattle.iox_machine.specs.SubscriberUpdate as subscribing
 use Rattle.iox_machine.specs.Replies.{IsRefused}
+use Rattle.iox_command.specs.DomainValues.Sequences.{before_first}
 use Rattle.iox_command.specs.DomainValues.declared.backpressure_strategy.BackpressureStrategy.TheVariants.{RetryUntilDelivered}
 use Rattle.iox_command.specs.DomainValues.declared.create_error.PublisherCreateError.TheVariants as publisher_error
 use Rattle.iox_command.specs.DomainValues.declared.create_error.SubscriberCreateError.TheVariants as subscriber_error
@@ -57,6 +58,7 @@ module _ {T : Type 0} where
         segments = 1;
         first = 1;
         next = 1;
+        last_sequence = before_first settings.sequence_numbers 1;
         history = [];
         seen = 0;
         connected = replicate settings.max_subscribers None;

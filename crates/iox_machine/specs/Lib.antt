@@ -37,4 +37,5 @@ pub mod AmongLaws
 pub mod NumberLaws
 pub mod OnceLaws
 pub mod GoingLaws
+pub mod SequenceLaws
 pub mod UseLaws

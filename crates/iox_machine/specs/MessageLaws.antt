@@ -6,14 +6,16 @@ use Rattle.std.specs.List.{list_any}
 use Rattle.std.specs.Vec.{vec_items}
 use Rattle.iox_machine.specs.Choices.{Choices, as_named}
 use Rattle.iox_machine.specs.Laws.{number_types, plain_publisher, unnamed}
-use Rattle.iox_machine.specs.Message.{Message}
+use Rattle.iox_machine.specs.Message.{Message, Loan}
 use Rattle.iox_machine.specs.PortList.{those}
 use Rattle.iox_machine.specs.Ports.{publisher_in, subscriber_in}
 use Rattle.iox_machine.specs.Run.{Answers, Step, Runs}
 use Rattle.iox_machine.specs.RunLaws.{BeginsToSend, has_begun, sent_as}
+use Rattle.iox_machine.specs.Sending.{numbered}
 use Rattle.iox_machine.specs.Service.{Service, Publisher, Subscriber, mailbox}
 use Rattle.iox_machine.specs.State.{State, new_state}
 use Rattle.iox_machine.specs.Table.{at, contains}
+use Rattle.iox_command.specs.DomainValues.Sequences.{next_sequence}
 use Rattle.iox_command.specs.NegotiateBase.DescribeSettings.declared.static_config.publish_subscribe.StaticConfig.{StaticConfig}
 use Rattle.iox_command.specs.NegotiateBase.DescribeBase.declared.message_type.MessageTypeDetails.{MessageTypeDetails}
 use Rattle.iox_command.specs.declared.command.Command.{Command}
@@ -37,17 +39,23 @@ module _ {T : Type 0} where
   abbrev pub first_in : {V : Type 0} → (Service T → Option V) → State T → Option V
   first_in found state = option_and_then found (find (λ service. is_some (found service)) state.services)
 
-  -- the message that a publisher would put next
+  -- the message that a publisher would put next, as the send numbers it
   abbrev pub next_message : List T → Publisher T → Message T
-  next_message values publisher = record { number = publisher.next; values = values }
+  next_message values publisher =
+      record { number = publisher.next; sequence = next_sequence publisher.last_sequence; values = values }
+
+  -- the message that a loan of a service becomes, as the send numbers it
+  abbrev pub sent_in : Service T → Loan T → Option (Message T)
+  sent_in service loan = option_map (λ publisher. numbered publisher (sent_as loan)) (at loan.publisher service.publishers)
 
   -- the message of which a command begins the send, if it is one of this publisher
   abbrev pub begun_by : ℕ → Command T → State T → Reply T → Option (Message T)
   begun_by publisher (command.Put number values) old answer =
       if (number == publisher) && has_begun answer then option_map (next_message values) (first_in (publisher_in number) old) else None
   begun_by publisher (command.Send loan) old answer = option_and_then
-      (λ one. if (one.publisher == publisher) && has_begun answer then Some (sent_as one) else None)
-      (first_in (λ service. at loan service.loans) old)
+      (λ service. option_and_then
+      (λ one. if (one.publisher == publisher) && has_begun answer then sent_in service one else None) (at loan service.loans))
+      (find (λ service. is_some (at loan service.loans)) old.services)
   begun_by publisher other old answer = None
 
   -- the message that a command receives, if it is one of this publisher at this subscriber

@@ -37,6 +37,7 @@ module _ {T : Type 0} where
   has_named factories (command.GiveUp publisher) service = is_some (publisher_in publisher service)
   has_named factories (command.Receive subscriber) service = is_some (subscriber_in subscriber service)
   has_named factories (command.Read sample) service = is_some (at sample service.samples)
+  has_named factories (command.Sequence sample) service = is_some (at sample service.samples)
   has_named factories (command.Release sample) service = is_some (at sample service.samples)
   has_named factories (command.Update (port.Publisher publisher)) service = is_some (publisher_in publisher service)
   has_named factories (command.Update (port.Subscriber subscriber)) service = is_some (subscriber_in subscriber service)

@@ -7,7 +7,10 @@ use Rattle.iox_command.specs.NegotiateBase.DescribeBase.declared.message_type.Me
 use Rattle.iox_command.specs.NegotiateBase.DescribeBase.declared.pattern.MessagingPattern.{MessagingPattern}
 use Rattle.iox_command.specs.NegotiateBase.DescribeBase.declared.pattern.MessagingPattern.TheVariants as pattern
 use Rattle.iox_command.specs.NegotiateBase.DescribeSettings.Agreement.{max_nodes_of}
+use Rattle.iox_command.specs.NegotiateBase.DescribeSettings.declared.static_config.Settings.{Settings}
+use Rattle.iox_command.specs.NegotiateBase.DescribeSettings.declared.static_config.Settings.TheVariants as settings
 use Rattle.iox_command.specs.Patterns.{pattern_of}
+use Rattle.iox_command.specs.declared.service.ServiceOptions.{ServiceOptions}
 use Rattle.iox_command.specs.declared.step.ForeignStep.{ForeignStep}
 use Rattle.iox_command.specs.declared.step.ForeignStep.TheVariants as step
 
@@ -70,15 +73,27 @@ removed_by node phase = phase
 abbrev pub closed_by : ℕ → Phase → Phase
 closed_by node phase = removed_by (Own node) (left_by (Own node) phase)
 
+-- whether settings say that messages have sequence numbers; the first version of descriptions can't say it
+abbrev pub has_numbers : Settings → Bool
+has_numbers (settings.PublishSubscribe c) = c.sequence_numbers
+has_numbers other = false
+
 module _ (types : MessageTypeDetails) (pattern : MessagingPattern) where
+  -- a node outside the hub publishes a service as it is asked for, if it has the lock, and the service is of the pattern and within the
+  -- limits
+  abbrev pub published_by : ℕ → Node → ℕ → ServiceOptions → Phase
+  published_by life by node options =
+      if same_node by (Foreign node) && (same_pattern (pattern_of options) pattern && are_within_limits (settings_of types options))
+      then Published life (record { settings = settings_of types options; attributes = [] }) ((Foreign node, 1) ∷ []) else BeingMade life by
+
   -- What a node outside the hub does: it locks what is absent, gives its lock up or publishes, comes in, leaves, and removes what it
   -- emptied. A step that doesn't fit changes nothing.
   abbrev pub acted : Phase → ForeignStep → Phase
   acted (Absent lives) (step.Lock node) = BeingMade (lives + 1) (Foreign node)
   acted (BeingMade life by) (step.GiveUp node) = if same_node by (Foreign node) then Absent life else BeingMade life by
-  acted (BeingMade life by) (step.Publish node options) =
-      if same_node by (Foreign node) && (same_pattern (pattern_of options) pattern && are_within_limits (settings_of types options))
-      then Published life (record { settings = settings_of types options; attributes = [] }) ((Foreign node, 1) ∷ []) else BeingMade life by
+  acted (BeingMade life by) (step.Publish node options) = published_by life by node options
+  acted (BeingMade life by) (step.PublishV1 node options) =
+      if has_numbers (settings_of types options) then BeingMade life by else published_by life by node options
   acted (Published life agreed nodes) (step.Register node) =
       if not (is_in (Foreign node) nodes) && nat_lt (length nodes) (max_nodes_of agreed.settings)
       then Published life agreed (entered (Foreign node) nodes) else Published life agreed nodes

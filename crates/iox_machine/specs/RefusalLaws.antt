@@ -10,10 +10,12 @@ use Rattle.iox_machine.specs.Named.{has_named}
 use Rattle.iox_machine.specs.Phase.{Phase, Absent, acted}
 use Rattle.iox_machine.specs.PortList.{those}
 use Rattle.iox_machine.specs.Run.{Runs, Step}
+use Rattle.iox_machine.specs.Sending.{numbered}
 use Rattle.iox_machine.specs.Service.{Publisher, Send, Service, Subscriber, mailbox, with_publisher}
 use Rattle.iox_machine.specs.State.{State, new_state, replaced}
 use Rattle.iox_machine.specs.Table.{at, contains, removed}
 use Rattle.iox_command.specs.DomainValues.Actions.{decision_of}
+use Rattle.iox_command.specs.DomainValues.Sequences.{next_sequence}
 use Rattle.iox_command.specs.DomainValues.declared.backpressure.BackpressureDecision.TheVariants.{DiscardDataAndFail}
 use Rattle.iox_command.specs.DomainValues.declared.port_error.SendError.TheVariants as error
 use Rattle.iox_command.specs.NegotiateBase.DescribeBase.declared.message_type.MessageTypeDetails.{MessageTypeDetails}
@@ -120,13 +122,13 @@ module _ {T : Type 0} where
       && option_map_or (λ one. contains (those one.connected) subscriber) (at publisher old.publishers) false) ≡ true
       → new.mailboxes publisher subscriber ≡ Some box)
 
-  -- A message is sent by a publisher: that of a loan, or the next one, with the values of a put.
+  -- A message is sent by a publisher, which numbers it then: that of a loan, or the next one, with the values of a put.
   abbrev pub IsSentBy : Command T → Service T → ℕ → Message T → Type 0
   IsSentBy (command.Send loan) service number message =
       (lent : Loan T) × (at loan service.loans ≡ Some lent) × (number ≡ lent.publisher) × (message ≡ sent_as lent)
   IsSentBy (command.Put publisher values) service number message =
       (one : Publisher T) × (at publisher service.publishers ≡ Some one) × (number ≡ publisher)
-      × (message ≡ record { number = one.next; values = values })
+      × (message ≡ record { number = one.next; sequence = None; values = values })
   IsSentBy other service number message = ⊥
 
   -- a mailbox once a message was put there: behind those that wait, unless as many wait as may
@@ -145,16 +147,18 @@ module _ {T : Type 0} where
       × (option_map_or (λ it. it.stands && contains (those it.connected) number) (at lacking service.subscribers) false ≡ true))
 
   -- A publisher sent a message to all that it is connected to, and couldn't deliver: without safe overflow it waits now where fewer waited
-  -- than may, and nowhere else, and some subscriber lacks it. The message is the newest of its history, no send is blocked, and all else is
-  -- as before.
+  -- than may, and nowhere else, and some subscriber lacks it. The message has the publisher's next sequence number, if messages have any.
+  -- It is the newest of its history, no send is blocked, and all else is as before.
   abbrev pub IsUndelivered : Choices T → ℕ → Publisher T → Message T → Service T → Service T → Type 0
   IsUndelivered choices number one message old new =
       LacksOne choices number one (those one.connected) old
       × ((publisher subscriber : ℕ) → mailbox publisher subscriber new
-      ≡ (if (publisher == number) && contains (those one.connected) subscriber then offered_to message (mailbox publisher subscriber old)
+      ≡ (if (publisher == number) && contains (those one.connected) subscriber
+      then offered_to (numbered one message) (mailbox publisher subscriber old)
       else mailbox publisher subscriber old))
       × (new ≡ record (with_publisher number (record one {
-        history = newest old.settings.history_size (one.history ++ message ∷ []);
+        last_sequence = next_sequence one.last_sequence;
+        history = newest old.settings.history_size (one.history ++ numbered one message ∷ []);
         blocked = None;
       }) old) { mailboxes = new.mailboxes })
 

@@ -46,6 +46,7 @@ module _ {T : Type 0} where
   renamed by (command.GiveUp publisher) = command.GiveUp (by.publishers publisher)
   renamed by (command.Receive subscriber) = command.Receive (by.subscribers subscriber)
   renamed by (command.Read sample) = command.Read (by.samples sample)
+  renamed by (command.Sequence sample) = command.Sequence (by.samples sample)
   renamed by (command.Release sample) = command.Release (by.samples sample)
   renamed by (command.Has subscriber) = command.Has (by.subscribers subscriber)
   renamed by (command.Update number) = command.Update (renamed_port by number)

@@ -99,6 +99,9 @@ module _ {T : Type 0} (types : MessageTypeDetails) (choices : Choices T) (buffer
       AtOne (λ service. at sample service.samples)
       (λ one service answered after. (values : Vec T) × (vec_items values ≡ one.message.values) × (answered ≡ reply.Values values) ×
       (after ≡ service)) old answer new
+  Step (command.Sequence sample) old answer new =
+      AtOne (λ service. at sample service.samples)
+      (λ one service answered after. (answered ≡ reply.Sequence one.message.sequence) × (after ≡ service)) old answer new
   Step (command.Release sample) old answer new = AtOne (λ service. at sample service.samples) (Releases sample) old answer new
   Step (command.Update (port.Publisher number)) old answer new =
       AtFree number

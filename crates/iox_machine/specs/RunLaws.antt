@@ -1,5 +1,5 @@
 -- Laws of every run of the machine.
-use Rattle.std.specs.Prelude.{ℕ, ◌≡◌, ◌≤◌, ◌⊎◌, Bool, true, false, List, [], ◌∷◌, length, filter_map, find, is_some, Some}
+use Rattle.std.specs.Prelude.{ℕ, ◌≡◌, ◌≤◌, ◌⊎◌, Bool, true, false, List, [], ◌∷◌, length, filter_map, find, is_some, None, Some}
 use Rattle.std.specs.Global.{Vec}
 use Rattle.std.specs.List.{AllByRecursion}
 use Rattle.std.specs.Vec.{vec_items}
@@ -30,9 +30,9 @@ has_begun (reply.Delivered count) = true
 has_begun (reply.Refused (refusal.Send error.UnableToDeliver)) = true
 has_begun other = false
 
--- the message that a written loan becomes when it is sent
+-- the message that a written loan becomes when it is sent, before the send numbers it
 abbrev pub sent_as : {T : Type 0} → Loan T → Message T
-sent_as loan = record { number = loan.number; values = filter_map (λ value. value) loan.values }
+sent_as loan = record { number = loan.number; sequence = None; values = filter_map (λ value. value) loan.values }
 
 -- A command began the send of a message of these values, by a publisher.
 abbrev pub BeginsToSend : {T : Type 0} → ℕ → List T → Command T → State T → Reply T → Type 0

@@ -11,12 +11,18 @@ use Rattle.iox_machine.specs.Service.{Service, Publisher, Send, with_publisher, 
 use Rattle.iox_machine.specs.Table.{at, contains}
 use Rattle.iox_machine.specs.Replies.{IsRefused}
 use Rattle.iox_command.specs.DomainValues.Actions.{decision_of}
+use Rattle.iox_command.specs.DomainValues.Sequences.{next_sequence, is_used_up}
 use Rattle.iox_command.specs.DomainValues.declared.backpressure.BackpressureDecision.{BackpressureDecision}
 use Rattle.iox_command.specs.DomainValues.declared.backpressure.BackpressureDecision.TheVariants.{Retry, DiscardData, DiscardDataAndFail}
 use Rattle.iox_command.specs.DomainValues.declared.port_error.SendError.TheVariants as error
 use Rattle.iox_command.specs.declared.refusal.Refusal.TheVariants as refusal
 use Rattle.iox_command.specs.declared.reply.Reply.{Reply}
 use Rattle.iox_command.specs.declared.reply.Reply.TheVariants as reply
+
+module _ {T : Type 0} where
+  -- a message as its send numbers it: with the sequence number behind that of its publisher's last one, if messages have any
+  abbrev pub numbered : Publisher T → Message T → Message T
+  numbered publisher message = record message { sequence = next_sequence publisher.last_sequence }
 
 module _ {T : Type 0} (choices : Choices T) (number : ℕ) where
   -- What may be decided at the full mailbox of a subscriber: one that left, or that isn't connected to the publisher yet, is passed over;
@@ -50,16 +56,31 @@ module _ {T : Type 0} (choices : Choices T) (number : ℕ) where
       else (if after.fails then reply.Refused (refusal.Send error.UnableToDeliver) else reply.Delivered after.delivered)))
       × (new ≡ with_publisher number (record publisher { blocked = if is_some (slice_get after.left 0) then Some after else None }) mid)
 
-  -- A send begins: its publisher keeps the message in its history, and the message goes to who is connected.
+  -- A send begins: its message gets the publisher's next sequence number, if messages have any. The publisher keeps it in its history, and
+  -- it goes to who is connected.
   abbrev pub Begins : Message T → Publisher T → Service T → Reply T → Service T → Type 0
   Begins message publisher old answer new =
-      GoesOn (record publisher { history = newest old.settings.history_size (publisher.history ++ message ∷ []) })
-      (record { message = message; left = those publisher.connected; retries = 0; elapsed = 0; delivered = 0; fails = false })
+      GoesOn
+      (record publisher {
+        last_sequence = next_sequence publisher.last_sequence;
+        history = newest old.settings.history_size (publisher.history ++ numbered publisher message ∷ []);
+      })
+      (record {
+        message = numbered publisher message;
+        left = those publisher.connected;
+        retries = 0;
+        elapsed = 0;
+        delivered = 0;
+        fails = false;
+      })
       old answer new
 
-  -- A publisher sends a message, unless it left: it brings its connections up to date first.
+  -- A publisher sends a message, unless it left, or has no sequence number left: it brings its connections up to date first.
   abbrev pub Sends : Message T → Publisher T → Service T → Reply T → Service T → Type 0
   Sends message publisher old answer new =
       MatchBool publisher.stands
-      (UpdatesFirst choices number (λ failure. refusal.Send (error.ConnectionError failure)) (Begins message) publisher old answer new)
+      (MatchBool (is_used_up publisher.last_sequence)
+      (IsRefused (refusal.Send error.InternalError) old answer new)
+      (UpdatesFirst choices number (λ failure. refusal.Send (error.ConnectionError failure)) (Begins message)
+      publisher old answer new))
       (IsRefused (refusal.Send error.ConnectionBrokenSinceSenderNoLongerExists) old answer new)

@@ -21,7 +21,8 @@ pub record Send (T : Type 0) : Type 0 where
   pub fails : Bool
 
 -- A publisher. A loan of more values than there is `room` for needs a new segment. Of the current segment are its messages from number
--- `first` on, and at most `slots` of these may be in use at once. Its next message has the number `next`.
+-- `first` on, and at most `slots` of these may be in use at once. Its next message has the number `next`. The last message that it sent has
+-- the sequence number `last_sequence`, or its first one has the next; there is none where messages have none.
 pub record Publisher (T : Type 0) : Type 0 where
   pub factory : ℕ
   pub stands : Bool
@@ -35,6 +36,7 @@ pub record Publisher (T : Type 0) : Type 0 where
   pub segments : ℕ
   pub first : ℕ
   pub next : ℕ
+  pub last_sequence : Option ℕ
   pub history : List (Message T)
   pub seen : ℕ
   pub connected : List (Option ℕ)

@@ -25,6 +25,7 @@ ghost use Rattle.iox_machine.specs.RefusalLaws.{UndeliveredLeaves};
 ghost use Rattle.iox_machine.specs.OnceLaws.{LoansAreSpentOnce, MessagesGoOnce};
 ghost use Rattle.iox_machine.specs.RunLaws.{MessagesWereSent, RefusedCallsLeaveServices, RefusedChangesNothing};
 ghost use Rattle.iox_machine.specs.RunLaws.{SamplesReadTheSame, SizesAreAgreed, SkippedChangesNothing};
+ghost use Rattle.iox_machine.specs.SequenceLaws.{GapsAreLosses, SequenceStays, SequencesGoUp};
 ghost use Rattle.iox_machine.specs.UseLaws.{UseIsOwned};
 ghost use Rattle.iox_machine.specs.UpdateLaws.{PublisherIsUpdated, PublisherKeepsMailboxes, SubscriberIsUpdated, SubscriberKeepsMailboxes};
 
@@ -172,6 +173,28 @@ pub fn loans_are_spent_once<T: Default, B: Decides + Degrades, D: Degrades>()
 /// each once at most.
 pub fn messages_go_once<T: Default, B: Decides + Degrades, D: Degrades>()
     ensures { (handed : Handed B D) → MessagesGoOnce (chosen_by T.is_default (λ who. B.decides who) (λ who. B.degrades who)
+        (λ who. D.degrades who) handed) }
+{}
+
+/// In every run of a new machine the sequence numbers of a publisher's messages are 1, 2, 3 and so on, in the order of sending; or none of
+/// them has one. As long as the publisher is of a service, that depends on whether the service numbers messages, and the publisher's last
+/// number is that of its last message.
+pub fn sequence_numbers_go_up<T: Default, B: Decides + Degrades, D: Degrades>()
+    ensures { (handed : Handed B D) → SequencesGoUp (chosen_by T.is_default (λ who. B.decides who) (λ who. B.degrades who)
+        (λ who. D.degrades who) handed) }
+{}
+
+/// A sample that was received tells the sequence number of the message that it is, until its own release, whatever is asked meanwhile.
+pub fn a_sequence_number_stays<T: Default, B: Decides + Degrades, D: Degrades>()
+    ensures { (handed : Handed B D) → SequenceStays (chosen_by T.is_default (λ who. B.decides who) (λ who. B.degrades who)
+        (λ who. D.degrades who) handed) }
+{}
+
+/// In every run of a new machine take two messages that a subscriber received of a publisher, one directly after the other, with sequence
+/// numbers. The publisher sent a message with each number between, and each of these was lost to the subscriber: it was dropped from their
+/// mailbox or passed over there. None of them was received or is on its way, and no other message with such a number was lost.
+pub fn gaps_are_losses<T: Default, B: Decides + Degrades, D: Degrades>()
+    ensures { (handed : Handed B D) → GapsAreLosses (chosen_by T.is_default (λ who. B.decides who) (λ who. B.degrades who)
         (λ who. D.degrades who) handed) }
 {}
 

@@ -3,7 +3,6 @@ use Rattle.std.proofs.Common.{◌≡◌, ◌++◌, ℕ, List, [], ◌∷◌, Non
 use Rattle.std.specs.declared.alloc.AllocError.{AllocError}
 use Rattle.iox_negotiate_table.specs.DescribeBase.declared.hash.ServiceHash.{ServiceHash}
 use Rattle.iox_negotiate_table.specs.DescribeSettings.Agreement.{Agreement}
-use Rattle.iox_negotiate_table.specs.Describe.Line.{line}
 use Rattle.iox_negotiate_table.specs.Describe.Within.{IsWithinLimits}
 use Rattle.iox_negotiate_table.specs.NegotiateBase.Access.{Access, Look, Lock, MakeSegment, Publish, Unlock, OpenSegment, Leave}
 use Rattle.iox_negotiate_table.specs.NegotiateBase.Access.{RemoveDescription, RemoveSegment}
@@ -117,7 +116,8 @@ module _ (old new : Contents) (service : Opened) (is_reached : IsReached old) wh
   stands-published : (node : ℕ) (made : Opened) → made ≡ service → World (factory_of node made ∷ []) new
       → IsPublished service.number service.description new
   stands-published node made is world
-      = subst (λ s. IsPublished s.number s.description new) is (world.stand (factory_of node made) (inl refl)).is_open.published
+      = let stands = world.stand (factory_of node made) (inl refl) in
+      subst (λ s. IsPublished s.number s.description new) is (stands.bytes, stands.spelled, stands.is_open.published)
 
   module _ (within : IsWithinLimits service.description) (past : Past old new)
       (published : IsPublished service.number service.description new) where
@@ -136,9 +136,10 @@ module _ (old new : Contents) (service : Opened) (is_reached : IsReached old) wh
     same-as-before agreed was =
         let later = was-agreed-on service.number agreed old new was past in
         let one = one-life-of later.before new later.events agreed.service_hash service.description.service_hash
-        (Described service.number (line agreed)) (Described service.number (line service.description))
-        (reached later.before later.is_reached) later.ran later.published published refl in
-        same-line agreed service.description later.within within (sym one.1) (sym one.0)
+        (Described service.number later.published.0) (Described service.number published.0)
+        (reached later.before later.is_reached) later.ran later.published.2 published.2 refl in
+        same-line agreed service.description later.published.0 published.0 later.within within later.published.1 published.1 (sym one.1)
+        (sym one.0)
 
 module _ {V : ℕ → Type 0} (old new : Contents) (service : Opened) (is_reached : IsReached old) where
   -- after the call its service is published

@@ -55,12 +55,13 @@ call-front-roomy (Between hash step) (access ∷ done) rest old mid within roomy
     differ e = cc
 
 pub agreed-inside : (V : ℕ → Type 0) → RoomsInsideCalls V
-agreed-inside V id calls table held call lists mid done rest hash number agreed nodes within fits-call happened told went published fits
-    stands =
+agreed-inside V id calls table held call lists mid done rest hash number bytes agreed nodes within fits-call happened told went
+    published spells fits stands =
     (call-front-roomy call done rest (record { table = table; lists = lists }) mid fits-call
-    (called-roomy calls (empty_table id) table [] held within (new-roomy id) happened) told went).rooms hash number agreed nodes
-    published fits stands
+    (called-roomy calls (empty_table id) table [] held within (new-roomy id) happened) told went).rooms hash number agreed nodes bytes
+    spells published fits stands
 
 pub rooms-are-agreed : (V : ℕ → Type 0) → RoomsAreAgreed V
-rooms-are-agreed V id calls table held hash number agreed nodes within happened published fits stands =
-    (called-roomy calls (empty_table id) table [] held within (new-roomy id) happened).rooms hash number agreed nodes published fits stands
+rooms-are-agreed V id calls table held hash number bytes agreed nodes within happened published spells fits stands =
+    (called-roomy calls (empty_table id) table [] held within (new-roomy id) happened).rooms hash number agreed nodes bytes spells
+    published fits stands

@@ -5,6 +5,7 @@ use Rattle.std.proofs.Math.Logic.{⊎_elim}
 use Rattle.iox_negotiate_table.specs.DescribeBase.declared.hash.ServiceHash.{ServiceHash}
 use Rattle.iox_negotiate_table.specs.DescribeSettings.Agreement.{Agreement, max_nodes_of}
 use Rattle.iox_negotiate_table.specs.Describe.Line.{line}
+use Rattle.iox_negotiate_table.specs.DescribeSettings.declared.description.Version.TheVariants.{Two}
 use Rattle.iox_negotiate_table.specs.Describe.Within.{IsWithinLimits}
 use Rattle.iox_negotiate_table.specs.NegotiateBase.Access.{Access, Look, Lock, MakeSegment, Publish, Unlock, OpenSegment, Leave}
 use Rattle.iox_negotiate_table.specs.NegotiateBase.Access.{RemoveDescription, RemoveSegment}
@@ -42,7 +43,7 @@ flat [] = []
 flat (One access ∷ pieces) = access ∷ flat pieces
 flat (Both number node agreed ∷ pieces) =
     MakeSegment agreed.service_hash number node (max_nodes_of agreed.settings) making.Made
-    ∷ Publish agreed.service_hash number (line agreed) publishing.Published ∷ flat pieces
+    ∷ Publish agreed.service_hash number (line Two agreed) publishing.Published ∷ flat pieces
 
 abbrev AreFine : List Piece → Type 0
 AreFine [] = Unit {0}
@@ -65,7 +66,7 @@ flat-append [] back = refl
 flat-append (One access ∷ front) back = ap (λ r. access ∷ r) (flat-append front back)
 flat-append (Both number node agreed ∷ front) back =
     ap (λ r. MakeSegment agreed.service_hash number node (max_nodes_of agreed.settings) making.Made
-    ∷ Publish agreed.service_hash number (line agreed) publishing.Published ∷ r) (flat-append front back)
+    ∷ Publish agreed.service_hash number (line Two agreed) publishing.Published ∷ r) (flat-append front back)
 
 fine-append : (front back : List Piece) → AreFine front → AreFine back → AreFine (front ++ back)
 fine-append [] back first last = last
@@ -117,7 +118,7 @@ pieces-front (Both number node agreed ∷ pieces) (access ∷ []) rest old mid f
     (subst (λ a. SteppedSight old a first) (head is) sight))
   where
     head : access ∷ rest ≡ MakeSegment agreed.service_hash number node (max_nodes_of agreed.settings) making.Made
-        ∷ Publish agreed.service_hash number (line agreed) publishing.Published ∷ flat pieces
+        ∷ Publish agreed.service_hash number (line Two agreed) publishing.Published ∷ flat pieces
         → access ≡ MakeSegment agreed.service_hash number node (max_nodes_of agreed.settings) making.Made
     head e = cc
 pieces-front (Both number node agreed ∷ pieces) (access ∷ next ∷ done) rest old mid fine roomy is (first, made, (second, published, went)) =
@@ -126,17 +127,17 @@ pieces-front (Both number node agreed ∷ pieces) (access ∷ next ∷ done) res
     (subst (λ a. SteppedSight first a second) (then is) published)) (tail is) went
   where
     head : access ∷ next ∷ (done ++ rest) ≡ MakeSegment agreed.service_hash number node (max_nodes_of agreed.settings) making.Made
-        ∷ Publish agreed.service_hash number (line agreed) publishing.Published ∷ flat pieces
+        ∷ Publish agreed.service_hash number (line Two agreed) publishing.Published ∷ flat pieces
         → access ≡ MakeSegment agreed.service_hash number node (max_nodes_of agreed.settings) making.Made
     head e = cc
 
     then : access ∷ next ∷ (done ++ rest) ≡ MakeSegment agreed.service_hash number node (max_nodes_of agreed.settings) making.Made
-        ∷ Publish agreed.service_hash number (line agreed) publishing.Published ∷ flat pieces
-        → next ≡ Publish agreed.service_hash number (line agreed) publishing.Published
+        ∷ Publish agreed.service_hash number (line Two agreed) publishing.Published ∷ flat pieces
+        → next ≡ Publish agreed.service_hash number (line Two agreed) publishing.Published
     then e = cc
 
     tail : access ∷ next ∷ (done ++ rest) ≡ MakeSegment agreed.service_hash number node (max_nodes_of agreed.settings) making.Made
-        ∷ Publish agreed.service_hash number (line agreed) publishing.Published ∷ flat pieces
+        ∷ Publish agreed.service_hash number (line Two agreed) publishing.Published ∷ flat pieces
         → done ++ rest ≡ flat pieces
     tail e = cc
 
@@ -191,7 +192,7 @@ module _ (node : ℕ) (agreed : Agreement) where
   hash = agreed.service_hash
 
   publishes-shape : (number : ℕ) (made : List Access) (came : Attempt) → Publishes agreed.service_hash number agreed made came
-      → Careful made ⊎ (made ≡ Publish agreed.service_hash number (line agreed) publishing.Published ∷ [])
+      → Careful made ⊎ (made ≡ Publish agreed.service_hash number (line Two agreed) publishing.Published ∷ [])
   publishes-shape number (Publish under of bytes publishing.Published ∷ rest) came (own, same, spelled, (none, is)) = inr cc
   publishes-shape number (Publish under of bytes publishing.Fault ∷ rest) came h
       = inl (one (Publish under of bytes publishing.Fault) rest tt (undoes-careful agreed.service_hash number rest h.3.0))
@@ -206,7 +207,7 @@ module _ (node : ℕ) (agreed : Agreement) where
   makes-careful number (MakeSegment under of by room making.Made ∷ rest) came within (own, same, who, wide, goes)
       = there (publishes-shape number rest came goes)
     where
-      there : Careful rest ⊎ (rest ≡ Publish agreed.service_hash number (line agreed) publishing.Published ∷ [])
+      there : Careful rest ⊎ (rest ≡ Publish agreed.service_hash number (line Two agreed) publishing.Published ∷ [])
           → Careful (MakeSegment under of by room making.Made ∷ rest)
       there (inl c) = one (MakeSegment under of by room making.Made) rest tt c
       there (inr is) = record { pieces = Both number node agreed ∷ []; is = cc; fine = (within, tt) }

@@ -11,6 +11,8 @@ use Rattle.std.specs.BTreeMap.{is_at}
 use Rattle.iox_negotiate_table.specs.DescribeBase.declared.hash.ServiceHash.{ServiceHash}
 use Rattle.iox_negotiate_table.specs.DescribeSettings.Agreement.{Agreement, max_nodes_of}
 use Rattle.iox_negotiate_table.specs.Describe.Line.{line}
+use Rattle.iox_negotiate_table.specs.DescribeSettings.declared.description.Version.{Version}
+use Rattle.iox_negotiate_table.specs.DescribeSettings.declared.description.Version.TheVariants.{One, Two}
 use Rattle.iox_negotiate_table.specs.NegotiateBase.Access.{Access, Look, Lock, MakeSegment, Publish, Unlock, OpenSegment, Leave}
 use Rattle.iox_negotiate_table.specs.NegotiateBase.Access.{RemoveDescription, RemoveSegment}
 use Rattle.iox_negotiate_table.specs.NegotiateBase.declared.answer.LockAnswer.{LockAnswer}
@@ -65,9 +67,9 @@ pub data Change (event : Event) (hash : ServiceHash) (old new : Contents) : Type
       (room : SameRoom before segment) (turns : Turns event number before segment)
       (is : new ≡ with_segment hash number segment old) → Change event hash old new
   WithoutSegment : (number : ℕ) (is : new ≡ without_segment hash number old) → Change event hash old new
-  ServiceOf : (node number : ℕ) (agreed : Agreement) (locked : entry_at hash old ≡ Some (Locked (Foreign node) number))
-      (by : PublishesAs hash number (line agreed) old event)
-      (own : IsFor hash agreed) (is : new ≡ with_service hash number node agreed old) → Change event hash old new
+  ServiceOf : (version : Version) (node number : ℕ) (agreed : Agreement) (locked : entry_at hash old ≡ Some (Locked (Foreign node) number))
+      (by : PublishesAs hash number (line version agreed) old event)
+      (own : IsFor version hash agreed) (is : new ≡ with_service version hash number node agreed old) → Change event hash old new
   Removal : (number : ℕ) (is : new ≡ without_segment hash number (without_entry hash old)) → Change event hash old new
 
 -- the hash of an event
@@ -187,19 +189,22 @@ publishes hash old new number bytes answer true may (inl h) =
 publishes hash old new number bytes answer true may (inr h) = Same h.1
 publishes hash old new number bytes answer false may h = Same h.1
 
-publishes-foreign : (hash : ServiceHash) (old new : Contents) (node : ℕ) (result : Result (Unit {0}) AllocError) (agreed : Agreement)
-    (found : Option ℕ) → foreign_lock node (entry_at hash old) ≡ found
-    → PublishesForeign found hash node agreed old result new → Change (Steps hash (step.Publish node agreed)) hash old new
-publishes-foreign hash old new node result agreed None lock h = Same h.1
-publishes-foreign hash old new node result agreed (Some number) lock h = there h.0 result h.1.0 h.2
+publishes-foreign : (version : Version) (event : Event) (hash : ServiceHash) (old new : Contents) (node : ℕ)
+    (result : Result (Unit {0}) AllocError) (agreed : Agreement)
+    → ((number : ℕ) → entry_at hash old ≡ Some (Locked (Foreign node) number) → IsFor version hash agreed
+    → PublishesAs hash number (line version agreed) old event)
+    → (found : Option ℕ) → foreign_lock node (entry_at hash old) ≡ found
+    → PublishesForeign version found hash node agreed old result new → Change event hash old new
+publishes-foreign version event hash old new node result agreed told None lock h = Same h.1
+publishes-foreign version event hash old new node result agreed told (Some number) lock h = there h.0 result h.1.0 h.2
   where
     locked : entry_at hash old ≡ Some (Locked (Foreign node) number)
     locked = foreign-locked node number (entry_at hash old) lock
 
-    there : (b : Bool) (result : Result (Unit {0}) AllocError) → (b ≡ true → IsFor hash agreed)
-        → DoneOrLacking b (with_service hash number node agreed old) old result new
-        → Change (Steps hash (step.Publish node agreed)) hash old new
-    there true (Ok done) own h = ServiceOf node number agreed locked (locked, refl, own refl, refl) (own refl) h
+    there : (b : Bool) (result : Result (Unit {0}) AllocError) → (b ≡ true → IsFor version hash agreed)
+        → DoneOrLacking b (with_service version hash number node agreed old) old result new
+        → Change event hash old new
+    there true (Ok done) own h = ServiceOf version node number agreed locked (told number locked (own refl)) (own refl) h
     there true (Err lacking) own h = Same h
     there false (Ok done) own h = Same h
     there false (Err lacking) own h = absurd h
@@ -227,7 +232,11 @@ module _ (old new : Contents) where
       = locks-foreign _ hash old new node result (entry_at hash old) (not (nat_eq old.next (2 ^ 64 - 1))) refl h
   acts hash (step.GiveUp node) result h = gives-up _ hash old new result (is_some (foreign_lock node (entry_at hash old))) h
   acts hash (step.Publish node agreed) result h
-      = publishes-foreign hash old new node result agreed (foreign_lock node (entry_at hash old)) refl h
+      = publishes-foreign Two (Steps hash (step.Publish node agreed)) hash old new node result agreed
+      (λ number locked own. (locked, refl, own, refl)) (foreign_lock node (entry_at hash old)) refl h
+  acts hash (step.PublishV1 node agreed) result h
+      = publishes-foreign One (Steps hash (step.PublishV1 node agreed)) hash old new node result agreed
+      (λ number locked own. (locked, refl, own, refl)) (foreign_lock node (entry_at hash old)) refl h
   acts hash (step.Register node) result h
       = registers-at (Steps hash (step.Register node)) hash old new node result (λ number before after turned. (result, turned))
       (published_number (entry_at hash old)) h
@@ -328,9 +337,9 @@ module _ (hash other : ServiceHash) (differ : hash.digest ≢ other.digest) (old
     segment = λ n. remove-apart (is_at (place_cmp (hash.digest, number))) (is_at (place_cmp (other.digest, n)))
         (place-apart (hash.digest, number) (other.digest, n) (place-differs hash other differ number n)) old.segments;
   })
-  elsewhere event (ServiceOf node number agreed locked by own is) = rw is (record {
+  elsewhere event (ServiceOf version node number agreed locked by own is) = rw is (record {
     entry = set-apart (is_at (digest_cmp hash.digest)) (is_at (digest_cmp other.digest)) (hash-apart hash other differ) old.entries
-        (Described number (line agreed));
+        (Described number (line version agreed));
     segment = λ n. insert-apart place_cmp (hash.digest, number) (Open (first_foreign node (max_nodes_of agreed.settings)))
         (is_at (place_cmp (other.digest, n)))
         (place-away (hash.digest, number) (other.digest, n) (place-differs hash other differ number n)) place-exact old.segments;
@@ -352,5 +361,5 @@ rises event hash old new (PublishOf node number bytes locked by is) = rw is (ome
 rises event hash old new (NewSegment number node segment locked is) = rw is (omega arith)
 rises event hash old new (OfSegment number before segment stood room turns is) = rw is (omega arith)
 rises event hash old new (WithoutSegment number is) = rw is (omega arith)
-rises event hash old new (ServiceOf node number agreed locked by own is) = rw is (omega arith)
+rises event hash old new (ServiceOf version node number agreed locked by own is) = rw is (omega arith)
 rises event hash old new (Removal number is) = rw is (omega arith)

@@ -3,7 +3,6 @@ use Rattle.std.proofs.Common.{◌≡◌, ◌≢◌, ℕ, ◌+◌, ◌-◌, ◌�
 use Rattle.std.proofs.Common.{Err, nat_lt, unwrap_or, refl, sym, ap, subst, ◌∙◌, inl, inr, arith}
 use Rattle.std.specs.BTreeMap.{is_at}
 use Rattle.iox_negotiate_table.specs.DescribeBase.declared.hash.ServiceHash.{ServiceHash}
-use Rattle.iox_negotiate_table.specs.Describe.Line.{line}
 use Rattle.iox_negotiate_table.specs.NegotiateBase.Access.{Access, MakeSegment, Publish, OpenSegment, Leave}
 use Rattle.iox_negotiate_table.specs.NegotiateBase.Opening.{OpenRound, EitherRound}
 use Rattle.iox_negotiate_table.specs.NegotiateBase.Runs.{Went}
@@ -25,7 +24,7 @@ use Rattle.iox_negotiate_table.specs.Laws.{IsOpenIn}
 use Rattle.iox_negotiate_table.specs.Stepped.{Steps, next_list, SteppedSight}
 use Rattle.iox_negotiate_table.proofs.Entries.{lookup-set}
 use Rattle.iox_negotiate.specs.Histories.{Accesses}
-use Rattle.iox_negotiate.specs.Factories.{Factory, is_of, times, IsAmong}
+use Rattle.iox_negotiate.specs.Factories.{Factory, is_of, times, IsAmong, Stands}
 use Rattle.iox_negotiate.specs.Calls.{Call, Creates, Opening, Either, Closing, Between, factory_of, opened_too, MayBegin, open_after}
 use Rattle.iox_negotiate.specs.Calls.{Goes, Called}
 use Rattle.iox_negotiate.specs.Counts.{any_of, AreCounted, FactoriesAreCounted}
@@ -132,8 +131,11 @@ module _ (front back : List Factory) (f : Factory) (old new : Contents) (answer 
   abbrev hash : ServiceHash
   hash = f.agreed.service_hash
 
-  is_open : IsOpenIn f.agreed.service_hash f.number f.node (line f.agreed) old
-  is_open = (w.stand f (among-own f front back)).is_open
+  own : Stands (front ++ (f ∷ back)) old f
+  own = w.stand f (among-own f front back)
+
+  is_open : IsOpenIn f.agreed.service_hash f.number f.node own.bytes old
+  is_open = own.is_open
 
   -- the others are as many as before, and of its own there is one less
   others-same : (number node : ℕ) → is_of number node f ≡ false
@@ -147,16 +149,16 @@ module _ (front back : List Factory) (f : Factory) (old new : Contents) (answer 
   own-less : times f.number f.node (front ++ (f ∷ back)) - 1 ≡ times f.number f.node (front ++ back)
   own-less =
       let all = times-with f.number f.node front back f in
-      let own : is_of f.number f.node f ≡ true = grind arith in
+      let itself : is_of f.number f.node f ≡ true = grind arith in
       let more : times f.number f.node (front ++ (f ∷ back)) ≡ 1 + times f.number f.node (front ++ back)
-      = subst (λ b. times f.number f.node (front ++ (f ∷ back)) ≡ cond b 1 0 + times f.number f.node (front ++ back)) own all in
+      = subst (λ b. times f.number f.node (front ++ (f ∷ back)) ≡ cond b 1 0 + times f.number f.node (front ++ back)) itself all in
       omega (arith, more)
 
   left-bounded : (node : ℕ) → IsBelow (factories_of (left f.node is_open.nodes) node) (times f.number node (front ++ back))
   left-bounded node = by_number f.node node same apart
     where
       before : (by : ℕ) → IsBelow (factories_of is_open.nodes by) (times f.number by (front ++ (f ∷ back)))
-      before by = o.bounded f.agreed.service_hash f.number (line f.agreed) is_open.nodes by is_open.published is_open.stands
+      before by = o.bounded f.agreed.service_hash f.number own.bytes is_open.nodes by is_open.published is_open.stands
 
       same : f.node ≡ node → IsBelow (factories_of (left f.node is_open.nodes) node) (times f.number node (front ++ back))
       same is = subst (λ n. IsBelow (factories_of (left f.node is_open.nodes) n) (times f.number n (front ++ back))) is
@@ -179,10 +181,10 @@ module _ (front back : List Factory) (f : Factory) (old new : Contents) (answer 
   here true is number bytes nodes node published stands
       = absurd (differ (sym seat ∙ ap (λ n. segment_at f.agreed.service_hash n new) same ∙ stands))
     where
-      entry : entry_at f.agreed.service_hash new ≡ Some (Described f.number (line f.agreed))
-      entry = subst (λ t. entry_at f.agreed.service_hash t ≡ Some (Described f.number (line f.agreed))) (sym is) is_open.published
+      entry : entry_at f.agreed.service_hash new ≡ Some (Described f.number own.bytes)
+      entry = subst (λ t. entry_at f.agreed.service_hash t ≡ Some (Described f.number own.bytes)) (sym is) is_open.published
 
-      numbers : Some (Described f.number (line f.agreed)) ≡ Some (Described number bytes) → f.number ≡ number
+      numbers : Some (Described f.number own.bytes) ≡ Some (Described number bytes) → f.number ≡ number
       numbers e = cc
 
       same : f.number ≡ number
@@ -200,10 +202,10 @@ module _ (front back : List Factory) (f : Factory) (old new : Contents) (answer 
       (subst (λ k. IsBelow (factories_of k node) (times f.number node (front ++ back)))
       (opened-as (sym seat ∙ ap (λ n. segment_at f.agreed.service_hash n new) same ∙ stands)) (left-bounded node))
     where
-      entry : entry_at f.agreed.service_hash new ≡ Some (Described f.number (line f.agreed))
-      entry = subst (λ t. entry_at f.agreed.service_hash t ≡ Some (Described f.number (line f.agreed))) (sym is) is_open.published
+      entry : entry_at f.agreed.service_hash new ≡ Some (Described f.number own.bytes)
+      entry = subst (λ t. entry_at f.agreed.service_hash t ≡ Some (Described f.number own.bytes)) (sym is) is_open.published
 
-      numbers : Some (Described f.number (line f.agreed)) ≡ Some (Described number bytes) → f.number ≡ number
+      numbers : Some (Described f.number own.bytes) ≡ Some (Described number bytes) → f.number ≡ number
       numbers e = cc
 
       same : f.number ≡ number
@@ -231,7 +233,7 @@ module _ (front back : List Factory) (f : Factory) (old new : Contents) (answer 
 
       another : f.number ≡ number → ⊥
       another same = differ (ap (λ h. h.digest)
-          (number-hash old f.agreed.service_hash other f.number number (line f.agreed) bytes w.is is_open.published
+          (number-hash old f.agreed.service_hash other f.number number own.bytes bytes w.is is_open.published
           (sym e.entry ∙ published) same))
 
   pub leave-owned : Owned (counts (front ++ back)) new
@@ -239,7 +241,7 @@ module _ (front back : List Factory) (f : Factory) (old new : Contents) (answer 
     is = sees old new w.is (Leave f.agreed.service_hash f.number f.node answer) sight;
     bounded = λ other number. by_hash f.agreed.service_hash other
         (λ same. subst (λ h. BoundedAt (counts (front ++ back)) h number new) same
-        (here _ (leaves f.agreed.service_hash f.number f.node (line f.agreed) old w.is is_open answer new sight).is number))
+        (here _ (leaves f.agreed.service_hash f.number f.node own.bytes old w.is is_open answer new sight).is number))
         (λ differ. apart other number differ);
   }
 

@@ -1,10 +1,11 @@
 -- What a call that goes well ends with: a look and an opening, or a segment and a publication. Then its factory stands among the others.
-use Rattle.std.proofs.Common.{◌≡◌, ℕ, List, [], ◌∷◌, ◌++◌, Option, None, Some, Result, Ok, Err, refl, sym, ap, subst, ◌∙◌, inl, inr}
+use Rattle.std.proofs.Common.{◌≡◌, ℕ, List, [], ◌∷◌, ◌++◌, Option, None, Some, Result, Ok, Err, refl, sym, ap, subst, inl, inr}
 use Rattle.std.specs.declared.alloc.AllocError.{AllocError}
 use Rattle.std.proofs.Math.Logic.{⊎_elim}
 use Rattle.iox_negotiate_table.specs.DescribeBase.declared.hash.ServiceHash.{ServiceHash}
 use Rattle.iox_negotiate_table.specs.DescribeSettings.Agreement.{Agreement, max_nodes_of}
-use Rattle.iox_negotiate_table.specs.Describe.Line.{line}
+use Rattle.iox_negotiate_table.specs.Describe.Line.{line, Spells}
+use Rattle.iox_negotiate_table.specs.DescribeSettings.declared.description.Version.TheVariants.{Two}
 use Rattle.iox_negotiate_table.specs.NegotiateBase.Access.{Access, Look, MakeSegment, Publish, OpenSegment}
 use Rattle.iox_negotiate_table.specs.NegotiateBase.Creating.{CreatesIf}
 use Rattle.iox_negotiate_table.specs.NegotiateBase.Failing.{opened, entered, created, created_or_again, opened_or_again}
@@ -108,7 +109,7 @@ module _ (all : List Factory) (number node : ℕ) (agreed : Agreement) (old new 
   abbrev joining : Factory
   joining = record { number = number; node = node; agreed = agreed }
 
-  pub opening-ends : (bytes : List ℕ) → bytes ≡ line agreed
+  pub opening-ends : (bytes : List ℕ) → Spells bytes agreed
       → Went SteppedSight old (Look agreed.service_hash (look.Found number bytes)
       ∷ OpenSegment agreed.service_hash number node opening.Registered ∷ []) new
       → World (record { number = number; node = node; agreed = agreed } ∷ all) new.table
@@ -140,12 +141,12 @@ module _ (all : List Factory) (number node : ℕ) (agreed : Agreement) (old new 
           let past = acts-ran hash (next_list first.lists) first.table o.mid o.happened o.acts in
           let same : found.0 ≡ bytes = (one-life-of first.table o.mid past.events hash hash (Described number bytes)
           (Described number found.0) w1.is past.ran read found.1 refl).1 in
-          opening-stand all joining o.mid second.table w2.is after w2.stand
-          (subst (λ b. entry_at hash o.mid ≡ Some (Described number b)) (same ∙ spelled) found.1) o.sight
+          opening-stand all joining bytes o.mid second.table spelled w2.is after w2.stand
+          (subst (λ b. entry_at hash o.mid ≡ Some (Described number b)) same found.1) o.sight
 
   pub creation-ends : (max_nodes : ℕ)
       → Went SteppedSight old (MakeSegment agreed.service_hash number node max_nodes making.Made
-      ∷ Publish agreed.service_hash number (line agreed) publishing.Published ∷ []) new
+      ∷ Publish agreed.service_hash number (line Two agreed) publishing.Published ∷ []) new
       → World (record { number = number; node = node; agreed = agreed } ∷ all) new.table
   creation-ends max_nodes (first, made, (second, published, end))
       = subst (λ s. World (joining ∷ all) s.table) (sym end) (record { is = after; stand = stands })
@@ -159,15 +160,15 @@ module _ (all : List Factory) (number node : ℕ) (agreed : Agreement) (old new 
       making-it : IsMaking hash number node first.table
       making-it = made-making hash number node max_nodes m.mid first.table m.sight
 
-      p : Seen hash (Publish hash number (line agreed) publishing.Published) first second
-      p = seen hash (Publish hash number (line agreed) publishing.Published) _ first second published-not-lacking published
+      p : Seen hash (Publish hash number (line Two agreed) publishing.Published) first second
+      p = seen hash (Publish hash number (line Two agreed) publishing.Published) _ first second published-not-lacking published
 
-      sight-there : Sight first.table (Publish hash number (line agreed) publishing.Published) second.table
-      sight-there = subst (λ t. Sight t (Publish hash number (line agreed) publishing.Published) second.table)
+      sight-there : Sight first.table (Publish hash number (line Two agreed) publishing.Published) second.table
+      sight-there = subst (λ t. Sight t (Publish hash number (line Two agreed) publishing.Published) second.table)
           (acts-idle hash node number (next_list first.lists) first.table p.mid p.happened making-it.locked p.acts) p.sight
 
       after : IsTable second.table
-      after = sees first.table second.table w1.is (Publish hash number (line agreed) publishing.Published) sight-there
+      after = sees first.table second.table w1.is (Publish hash number (line Two agreed) publishing.Published) sight-there
 
       stands : AllStand (joining ∷ all) second.table
       stands = publishing-stand all joining first.table second.table w1.is after w1.stand making-it sight-there
@@ -287,11 +288,11 @@ module _ (all : List Factory) (node : ℕ) (agreed : Agreement) (old new : Steps
   -- accesses that end with the publication
   tail-ends : (made front : List Access) (service : Opened) → AllQuiet made → service.description ≡ agreed
       → made ≡ front ++ (MakeSegment agreed.service_hash service.number node (max_nodes_of agreed.settings) making.Made
-      ∷ Publish agreed.service_hash service.number (line agreed) publishing.Published ∷ [])
+      ∷ Publish agreed.service_hash service.number (line Two agreed) publishing.Published ∷ [])
       → Went SteppedSight old made new → World (factory_of node service ∷ all) new.table
   tail-ends made front service quiet agrees list went =
       let tail : List Access = MakeSegment agreed.service_hash service.number node (max_nodes_of agreed.settings) making.Made
-      ∷ Publish agreed.service_hash service.number (line agreed) publishing.Published ∷ [] in
+      ∷ Publish agreed.service_hash service.number (line Two agreed) publishing.Published ∷ [] in
       let split = went-split SteppedSight front tail old new (subst (λ m. Went SteppedSight old m new) list went) in
       let calm = quiet-front front tail (subst (λ m. AllQuiet m) list quiet) in
       let before = world-quiet all front old split.0 calm w split.1 in
@@ -368,7 +369,7 @@ module _ {V : Type 0} (node : ℕ) (verdict : Agreement → Result (Unit {0}) V)
       let c = creates-service agreed.service_hash node agreed None (Look agreed.service_hash look.Absent ∷ rest) service
       (sight.Absent, h.0, refl, refl, h.1, created-is h.0 service h.2) in
       let less = without-look agreed.service_hash agreed.service_hash look.Absent service.number node (max_nodes_of agreed.settings)
-      (line agreed) rest c.0 c.2 in
+      (line Two agreed) rest c.0 c.2 in
       tail-ends all node agreed old new w (Look agreed.service_hash answer ∷ rest) (Look agreed.service_hash answer ∷ less.0) service
       quiet c.1 (ap (λ r. Look agreed.service_hash answer ∷ r) less.1) went
 

@@ -1,12 +1,12 @@
 -- Two agreements with one line, and of one hash, are the same.
-use Rattle.std.proofs.Common.{◌≡◌, ◌∙◌, ℕ, Bool, false, List, [], ◌∷◌, map, Option, None, Some, refl, sym, ap}
+use Rattle.std.proofs.Common.{◌≡◌, ◌∙◌, ℕ, Bool, false, List, [], ◌∷◌, map, Option, None, Some, refl, sym, ap, subst, arith}
 use Rattle.std.specs.Prelude.{codes}
 use Rattle.serde_json.specs.Data.{Items, boolean, string, array, object}
 use Rattle.serde_json.specs.Find.{get}
-use Rattle.serde_json.specs.Read.{read}
 use Rattle.serde_json.specs.View.{items_of}
 use Rattle.iox_negotiate_table.specs.DescribeBase.declared.attribute.Attribute.{Attribute}
 use Rattle.iox_negotiate_table.specs.DescribeBase.declared.message_type.MessageTypeDetails.{MessageTypeDetails}
+use Rattle.iox_negotiate_table.specs.DescribeBase.declared.pattern.MessagingPattern.TheVariants as pattern
 use Rattle.iox_negotiate_table.specs.DescribeBase.declared.type_detail.TypeVariant.{TypeVariant}
 use Rattle.iox_negotiate_table.specs.DescribeBase.declared.type_detail.TypeVariant.TheVariants.{FixedSize, Dynamic}
 use Rattle.iox_negotiate_table.specs.DescribeBase.Detail.{Detail}
@@ -29,12 +29,14 @@ use Rattle.iox_negotiate_table.specs.DescribeSettings.declared.static_config.req
 use Rattle.iox_negotiate_table.specs.DescribeSettings.PublishSubscribeSettings as publish_subscribe
 use Rattle.iox_negotiate_table.specs.DescribeSettings.EventSettings as event
 use Rattle.iox_negotiate_table.specs.DescribeSettings.RequestResponseSettings as request_response
-use Rattle.iox_negotiate_table.specs.Describe.Line.{line, tree, settings_members, settings_tree, types_tree, detail_tree, value_tree}
-use Rattle.iox_negotiate_table.specs.Describe.Line.{option_tree, variant_word, pattern_word, attribute_tree}
+use Rattle.iox_negotiate_table.specs.Describe.Line.{settings_members, settings_tree, types_tree, detail_tree, value_tree}
+use Rattle.iox_negotiate_table.specs.Describe.Line.{option_tree, variant_word, pattern_word, attribute_tree, Spells}
+use Rattle.iox_negotiate_table.specs.DescribeSettings.declared.description.Version.{Version}
+use Rattle.iox_negotiate_table.specs.DescribeSettings.declared.description.Version.TheVariants.{One, Two}
+use Rattle.iox_negotiate_table.specs.DescribeSettings.Versions.{number_of, HasAll}
 use Rattle.iox_negotiate_table.specs.Describe.Within.{IsWithinLimits}
-use Rattle.iox_negotiate_table.proofs.Describe.Plain.{line-read}
 use Rattle.iox_negotiate_table.proofs.Describe.Trees.{same_items}
-use Rattle.iox_negotiate.proofs.Rooms.{same-data, same-natural}
+use Rattle.iox_negotiate.proofs.Rooms.{same-data, same-natural, spelled-trees}
 
 same-boolean : (one other : Bool) → Some (boolean one) ≡ Some (boolean other) → one ≡ other
 same-boolean one other e = cc
@@ -112,47 +114,98 @@ same-filled key value changed kinds (setting ∷ more) one other config e =
     (same-value (value setting one) (value setting other) (kinds setting one other) first)
     ∙ same-filled key value changed kinds more one other (changed setting (value setting other) config) rest
 
--- settings of a pattern that are told alike are the same, where all are told and each keeps its kind
+-- settings of a pattern that are told alike are the same, where what isn't told is the same, and each keeps its kind
 same-config : {S C : Type 0} (key : S → List ℕ) (value : S → C → SettingValue) (changed : S → SettingValue → C → C) (all : List S)
     → ((setting : S) (one other : C) → kind (value setting one) ≡ kind (value setting other))
-    → ((target config : C) → filled value changed all target config ≡ target)
-    → (one other : C) → object (settings_members key value all one) ≡ object (settings_members key value all other) → one ≡ other
-same-config key value changed all kinds whole one other trees =
+    → (one other : C) → filled value changed all one one ≡ one → filled value changed all other one ≡ other
+    → object (settings_members key value all one) ≡ object (settings_members key value all other) → one ≡ other
+same-config key value changed all kinds one other own whole trees =
     let members : settings_members key value all one ≡ settings_members key value all other = cc in
-    sym (whole one one) ∙ same-filled key value changed kinds all one other one members ∙ whole other one
+    sym own ∙ same-filled key value changed kinds all one other one members ∙ whole
 
 publish_subscribe_kinds : (setting : PublishSubscribeSetting) (one other : PublishSubscribeConfig)
     → kind (publish_subscribe.value setting one) ≡ kind (publish_subscribe.value setting other)
 publish_subscribe_kinds
-    = elim [ publish_subscribe_setting.EnableSafeOverflow ↦ λ one other. refl | publish_subscribe_setting.HistorySize ↦ λ one other. refl | publish_subscribe_setting.MaxNodes ↦ λ one other. refl | publish_subscribe_setting.MaxPublishers ↦ λ one other. refl | publish_subscribe_setting.MaxSubscribers ↦ λ one other. refl | publish_subscribe_setting.SubscriberMaxBorrowedSamples ↦ λ one other. refl | publish_subscribe_setting.SubscriberMaxBufferSize ↦ λ one other. refl | publish_subscribe_setting.Types ↦ λ one other. refl ]
+    = elim [
+      | publish_subscribe_setting.EnableSafeOverflow ↦ λ one other. refl
+      | publish_subscribe_setting.HistorySize ↦ λ one other. refl
+      | publish_subscribe_setting.MaxNodes ↦ λ one other. refl
+      | publish_subscribe_setting.MaxPublishers ↦ λ one other. refl
+      | publish_subscribe_setting.MaxSubscribers ↦ λ one other. refl
+      | publish_subscribe_setting.SequenceNumbers ↦ λ one other. refl
+      | publish_subscribe_setting.SubscriberMaxBorrowedSamples ↦ λ one other. refl
+      | publish_subscribe_setting.SubscriberMaxBufferSize ↦ λ one other. refl
+      | publish_subscribe_setting.Types ↦ λ one other. refl
+    ]
 
 event_kinds : (setting : EventSetting) (one other : EventConfig) → kind (event.value setting one) ≡ kind (event.value setting other)
-event_kinds = elim [ event_setting.Deadline ↦ λ one other. refl | event_setting.EventIdMaxValue ↦ λ one other. refl | event_setting.MaxListeners ↦ λ one other. refl | event_setting.MaxNodes ↦ λ one other. refl | event_setting.MaxNotifiers ↦ λ one other. refl | event_setting.NotifierCreatedEvent ↦ λ one other. refl | event_setting.NotifierDeadEvent ↦ λ one other. refl | event_setting.NotifierDroppedEvent ↦ λ one other. refl ]
+event_kinds = elim [
+  | event_setting.Deadline ↦ λ one other. refl
+  | event_setting.EventIdMaxValue ↦ λ one other. refl
+  | event_setting.MaxListeners ↦ λ one other. refl
+  | event_setting.MaxNodes ↦ λ one other. refl
+  | event_setting.MaxNotifiers ↦ λ one other. refl
+  | event_setting.NotifierCreatedEvent ↦ λ one other. refl
+  | event_setting.NotifierDeadEvent ↦ λ one other. refl
+  | event_setting.NotifierDroppedEvent ↦ λ one other. refl
+]
 
 request_response_kinds : (setting : RequestResponseSetting) (one other : RequestResponseConfig)
     → kind (request_response.value setting one) ≡ kind (request_response.value setting other)
 request_response_kinds
-    = elim [ request_response_setting.EnableFireAndForgetRequests ↦ λ one other. refl | request_response_setting.EnableSafeOverflowForRequests ↦ λ one other. refl | request_response_setting.EnableSafeOverflowForResponses ↦ λ one other. refl | request_response_setting.MaxActiveRequestsPerClient ↦ λ one other. refl | request_response_setting.MaxBorrowedResponsesPerPendingResponse ↦ λ one other. refl | request_response_setting.MaxClients ↦ λ one other. refl | request_response_setting.MaxLoanedRequests ↦ λ one other. refl | request_response_setting.MaxNodes ↦ λ one other. refl | request_response_setting.MaxResponseBufferSize ↦ λ one other. refl | request_response_setting.MaxServers ↦ λ one other. refl | request_response_setting.RequestTypes ↦ λ one other. refl | request_response_setting.ResponseTypes ↦ λ one other. refl ]
+    = elim [
+      | request_response_setting.EnableFireAndForgetRequests ↦ λ one other. refl
+      | request_response_setting.EnableSafeOverflowForRequests ↦ λ one other. refl
+      | request_response_setting.EnableSafeOverflowForResponses ↦ λ one other. refl
+      | request_response_setting.MaxActiveRequestsPerClient ↦ λ one other. refl
+      | request_response_setting.MaxBorrowedResponsesPerPendingResponse ↦ λ one other. refl
+      | request_response_setting.MaxClients ↦ λ one other. refl
+      | request_response_setting.MaxLoanedRequests ↦ λ one other. refl
+      | request_response_setting.MaxNodes ↦ λ one other. refl
+      | request_response_setting.MaxResponseBufferSize ↦ λ one other. refl
+      | request_response_setting.MaxServers ↦ λ one other. refl
+      | request_response_setting.RequestTypes ↦ λ one other. refl
+      | request_response_setting.ResponseTypes ↦ λ one other. refl
+    ]
 
-same-settings : (one other : Settings) → settings_tree one ≡ settings_tree other
+abbrev first_byte : List ℕ → ℕ
+first_byte [] = 0
+first_byte (byte ∷ more) = byte
+
+publish_subscribe-event : pattern_word pattern.PublishSubscribe ≡ pattern_word pattern.Event → ⊥
+publish_subscribe-event e = let bytes : 112 ≡ 101 = ap first_byte e in omega (arith, bytes)
+
+publish_subscribe-request_response : pattern_word pattern.PublishSubscribe ≡ pattern_word pattern.RequestResponse → ⊥
+publish_subscribe-request_response e = let bytes : 112 ≡ 114 = ap first_byte e in omega (arith, bytes)
+
+event-request_response : pattern_word pattern.Event ≡ pattern_word pattern.RequestResponse → ⊥
+event-request_response e = let bytes : 101 ≡ 114 = ap first_byte e in omega (arith, bytes)
+
+same-settings : (version : Version) (one other : Settings) → HasAll version one → HasAll version other
+    → settings_tree version one ≡ settings_tree version other
     → pattern_word (pattern_of one) ≡ pattern_word (pattern_of other) → one ≡ other
-same-settings (PublishSubscribe one) (PublishSubscribe other) trees words =
+same-settings One (PublishSubscribe one) (PublishSubscribe other) off off' trees words =
+    ap (λ config. PublishSubscribe config)
+    (same-config publish_subscribe.key publish_subscribe.value publish_subscribe.changed (publish_subscribe.written One)
+    publish_subscribe_kinds one other refl (λ i. record other { sequence_numbers = (off ∙ sym off') i }) trees)
+same-settings Two (PublishSubscribe one) (PublishSubscribe other) has has' trees words =
     ap (λ config. PublishSubscribe config)
     (same-config publish_subscribe.key publish_subscribe.value publish_subscribe.changed publish_subscribe.all
-    publish_subscribe_kinds (λ target config. refl) one other trees)
-same-settings (PublishSubscribe one) (Event other) trees words = absurd cc
-same-settings (PublishSubscribe one) (RequestResponse other) trees words = absurd cc
-same-settings (Event one) (PublishSubscribe other) trees words = absurd cc
-same-settings (Event one) (Event other) trees words =
-    ap (λ config. Event config) (same-config event.key event.value event.changed event.all event_kinds (λ target config. refl) one other
-    trees)
-same-settings (Event one) (RequestResponse other) trees words = absurd cc
-same-settings (RequestResponse one) (PublishSubscribe other) trees words = absurd cc
-same-settings (RequestResponse one) (Event other) trees words = absurd cc
-same-settings (RequestResponse one) (RequestResponse other) trees words =
+    publish_subscribe_kinds one other refl refl trees)
+same-settings version (PublishSubscribe one) (Event other) has has' trees words = absurd (publish_subscribe-event words)
+same-settings version (PublishSubscribe one) (RequestResponse other) has has' trees words
+    = absurd (publish_subscribe-request_response words)
+same-settings version (Event one) (PublishSubscribe other) has has' trees words = absurd (publish_subscribe-event (sym words))
+same-settings version (Event one) (Event other) has has' trees words =
+    ap (λ config. Event config) (same-config event.key event.value event.changed event.all event_kinds one other refl refl trees)
+same-settings version (Event one) (RequestResponse other) has has' trees words = absurd (event-request_response words)
+same-settings version (RequestResponse one) (PublishSubscribe other) has has' trees words
+    = absurd (publish_subscribe-request_response (sym words))
+same-settings version (RequestResponse one) (Event other) has has' trees words = absurd (event-request_response (sym words))
+same-settings version (RequestResponse one) (RequestResponse other) has has' trees words =
     ap (λ config. RequestResponse config)
-    (same-config request_response.key request_response.value request_response.changed request_response.all request_response_kinds
-    (λ target config. refl) one other trees)
+    (same-config request_response.key request_response.value request_response.changed request_response.all request_response_kinds one
+    other refl refl trees)
 
 -- ---- attributes
 
@@ -178,15 +231,26 @@ same-attributes (one ∷ ones) (other ∷ others) e =
 
 -- ---- agreements
 
-pub same-line : (one other : Agreement) → IsWithinLimits one → IsWithinLimits other → line one ≡ line other
-    → one.service_hash ≡ other.service_hash → one ≡ other
-same-line one other first second same service_hash =
-    let trees = same-data (tree one) (tree other) (sym (line-read one first) ∙ ap (λ l. read l) same ∙ line-read other second) in
+same-version : (one other : Version) → number_of one ≡ number_of other → one ≡ other
+same-version One One e = refl
+same-version One Two e = absurd cc
+same-version Two One e = absurd cc
+same-version Two Two e = refl
+
+pub same-line : (one other : Agreement) (bytes text : List ℕ) → IsWithinLimits one → IsWithinLimits other → Spells bytes one
+    → Spells text other → bytes ≡ text → one.service_hash ≡ other.service_hash → one ≡ other
+same-line one other bytes text within within' first second same service_hash =
+    let trees = spelled-trees one other bytes text within within' first second same in
+    let version = same-version first.0 second.0
+    (same-natural (number_of first.0) (number_of second.0) (ap (λ t. get (codes "version") t) trees)) in
     let name = same-string one.name other.name (ap (λ t. get (codes "name") t) trees) in
     let words = same-string (pattern_word (pattern_of one.settings)) (pattern_word (pattern_of other.settings))
     (ap (λ t. get (codes "pattern") t) trees) in
-    let settings = same-settings one.settings other.settings
-    (same-data (settings_tree one.settings) (settings_tree other.settings) (ap (λ t. get (codes "settings") t) trees)) words in
+    let told = same-data (settings_tree first.0 one.settings) (settings_tree second.0 other.settings)
+    (ap (λ t. get (codes "settings") t) trees) in
+    let settings = same-settings first.0 one.settings other.settings first.1
+    (subst (λ v. HasAll v other.settings) (sym version) second.1)
+    (told ∙ ap (λ v. settings_tree v other.settings) (sym version)) words in
     let items = same-array (items_of (map attribute_tree one.attributes)) (items_of (map attribute_tree other.attributes))
     (ap (λ t. get (codes "attributes") t) trees) in
     let attributes = same-attributes one.attributes other.attributes

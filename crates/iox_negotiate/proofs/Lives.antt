@@ -159,8 +159,8 @@ module _ (life_hash : ServiceHash) (entry : Entry) (hash : ServiceHash) (old new
   lives-on event (NewSegment number node segment locked is) = rw is (record { below = life.below; own = life.own })
   lives-on event (OfSegment number before segment stood room turns is) = rw is (record { below = life.below; own = life.own })
   lives-on event (WithoutSegment number is) = rw is (record { below = life.below; own = life.own })
-  lives-on event (ServiceOf node number agreed locked by own is)
-      = rw is (record { below = life.below; own = published-life (Foreign node) number (line agreed) locked })
+  lives-on event (ServiceOf version node number agreed locked by own is)
+      = rw is (record { below = life.below; own = published-life (Foreign node) number (line version agreed) locked })
   lives-on event (Removal number is) = rw is
       (record { below = life.below; own = remove-all Owned (is_at (digest_cmp hash.digest)) old.entries life.own })
 
@@ -253,7 +253,7 @@ module _ (hash : ServiceHash) (number : ℕ) (bytes : List ℕ) (old new : Conte
   publishes-here (NewSegment at node segment locked is) = inl (now _ is)
   publishes-here (OfSegment at before segment stood room turns is) = inl (now _ is)
   publishes-here (WithoutSegment at is) = inl (now _ is)
-  publishes-here (ServiceOf node at agreed locked by own is) = set at (line agreed) (Foreign node) locked by (now _ is)
+  publishes-here (ServiceOf version node at agreed locked by own is) = set at (line version agreed) (Foreign node) locked by (now _ is)
   publishes-here (Removal at is) = removed (now _ is)
 
 pub published-by-its-lock : PublishedByItsLock

@@ -39,7 +39,7 @@ below-changed event hash old new table below (OfSegment number before segment st
     rw is (set-found (λ e. e.0.1 < old.next) (is_at (place_cmp (hash.digest, number))) segment old.segments (λ x v found less. less) below)
 below-changed event hash old new table below (WithoutSegment number is)
     = rw is (remove-all (λ e. e.0.1 < old.next) (is_at (place_cmp (hash.digest, number))) old.segments below)
-below-changed event hash old new table below (ServiceOf node number agreed locked by own is) =
+below-changed event hash old new table below (ServiceOf version node number agreed locked by own is) =
     rw is (insert-all (λ e. e.0.1 < old.next) place_cmp (hash.digest, number) _ place-exact old.segments below
     (lock-below hash old _ table locked))
 below-changed event hash old new table below (Removal number is)

@@ -310,9 +310,9 @@ module _ (limit : ℕ → ℕ → ℕ) (hash : ServiceHash) (number : ℕ) (old 
       here is_it =
           let gone : segment_at hash at new ≡ None = rw same (segment-gone hash at old is) in
           absurd (gone-not (sym gone ∙ ap (λ n. segment_at hash n new) is_it ∙ stands))
-  kept-here (ServiceOf by at given locked as_told own same) bytes nodes node published stands =
-      let found : entry_at hash new ≡ Some (Described at (line given))
-      = rw same (lookup-set (is_at (digest_cmp hash.digest)) old.entries (Described at (line given)) (rw locked refl)) in
+  kept-here (ServiceOf version by at given locked as_told own same) bytes nodes node published stands =
+      let found : entry_at hash new ≡ Some (Described at (line version given))
+      = rw same (lookup-set (is_at (digest_cmp hash.digest)) old.entries (Described at (line version given)) (rw locked refl)) in
       let is_it : at ≡ number = numbers (sym found ∙ published) in
       let seat : segment_at hash at new ≡ Some (Open (first_foreign by (max_nodes_of given.settings)))
       = rw same (lookup-added place_cmp (hash.digest, at) (Open (first_foreign by (max_nodes_of given.settings))) old.segments
@@ -320,7 +320,7 @@ module _ (limit : ℕ → ℕ → ℕ) (hash : ServiceHash) (number : ℕ) (old 
       subst (λ k. IsBelow (factories_of k node) (raised limit event number node))
       (opened-as (sym seat ∙ ap (λ n. segment_at hash n new) is_it ∙ stands)) tt
     where
-      numbers : Some (Described at (line given)) ≡ Some (Described number bytes) → at ≡ number
+      numbers : Some (Described at (line version given)) ≡ Some (Described number bytes) → at ≡ number
       numbers e = cc
 
       opened-as : Some (Open (first_foreign by (max_nodes_of given.settings))) ≡ Some (Open nodes)

@@ -4,7 +4,8 @@ use Rattle.std.specs.declared.alloc.AllocError.{AllocError}
 use Rattle.std.specs.BTreeMap.{is_at}
 use Rattle.iox_negotiate_table.specs.DescribeBase.declared.hash.ServiceHash.{ServiceHash}
 use Rattle.iox_negotiate_table.specs.DescribeSettings.Agreement.{Agreement, max_nodes_of}
-use Rattle.iox_negotiate_table.specs.Describe.Line.{line}
+use Rattle.iox_negotiate_table.specs.Describe.Line.{line, Spells}
+use Rattle.iox_negotiate_table.specs.DescribeSettings.declared.description.Version.TheVariants.{Two}
 use Rattle.iox_negotiate_table.specs.Describe.Within.{IsWithinLimits}
 use Rattle.iox_negotiate_table.specs.NegotiateBase.Access.{Access, MakeSegment, Publish}
 use Rattle.iox_negotiate_table.specs.NegotiateBase.declared.answer.MakeSegmentAnswer.TheVariants as making
@@ -38,8 +39,8 @@ use Rattle.iox_negotiate.proofs.Ending.{made-not-lacking, published-not-lacking}
 
 -- the segment of this service has room for the agreed number of nodes
 abbrev pub HasRoomAt : ServiceHash → ℕ → Contents → Type 0
-HasRoomAt hash number table = (agreed : Agreement) (nodes : Nodes) → entry_at hash table ≡ Some (Described number (line agreed))
-    → IsWithinLimits agreed → segment_at hash number table ≡ Some (Open nodes)
+HasRoomAt hash number table = (agreed : Agreement) (nodes : Nodes) (bytes : List ℕ) → Spells bytes agreed
+    → entry_at hash table ≡ Some (Described number bytes) → IsWithinLimits agreed → segment_at hash number table ≡ Some (Open nodes)
     → nodes.max_nodes ≡ max_nodes_of agreed.settings
 
 pub record Roomy (table : Contents) : Type 0 where
@@ -70,6 +71,10 @@ no-publish hash number node bytes old (StepsUnder under (step.Publish by_node ag
   where
     differ : Some (Locked (Own node) number) ≡ Some (Locked (Foreign by_node) number) → ⊥
     differ e = cc
+no-publish hash number node bytes old (StepsUnder under (step.PublishV1 by_node agreed)) un locked by = differ (sym locked ∙ by.0)
+  where
+    differ : Some (Locked (Own node) number) ≡ Some (Locked (Foreign by_node) number) → ⊥
+    differ e = cc
 no-publish hash number node bytes old event un locked by = by
 
 pub open-is : (segment : Segment) (nodes : Nodes) → Some segment ≡ Some (Open nodes) → segment ≡ Open nodes
@@ -85,32 +90,33 @@ module _ (hash : ServiceHash) (number : ℕ) (old new : Contents) (is : IsTable 
     (room : HasRoomAt hash number old) where
   -- where the entry is as it was, or not a description
   not-described : (node : Node) (at : ℕ) → entry_at hash new ≡ Some (Locked node at) → HasRoomAt hash number new
-  not-described node at locked agreed nodes published within stands
-      = absurd (not-locked node at number (line agreed) (sym locked ∙ published))
+  not-described node at locked agreed nodes bytes spells published within stands
+      = absurd (not-locked node at number bytes (sym locked ∙ published))
 
   no-entry : entry_at hash new ≡ None → HasRoomAt hash number new
-  no-entry gone agreed nodes published within stands = absurd (not-none number (line agreed) (sym gone ∙ published))
+  no-entry gone agreed nodes bytes spells published within stands = absurd (not-none number bytes (sym gone ∙ published))
 
   kept-here : Change event hash old new → HasRoomAt hash number new
-  kept-here (Same same) agreed nodes published within stands
-      = (subst (λ t. HasRoomAt hash number t) (sym same) room) agreed nodes published within stands
-  kept-here (LockOf node free same) agreed nodes published within stands
+  kept-here (Same same) agreed nodes bytes spells published within stands
+      = (subst (λ t. HasRoomAt hash number t) (sym same) room) agreed nodes bytes spells published within stands
+  kept-here (LockOf node free same) agreed nodes bytes spells published within stands
       = (not-described node old.next (rw same
-      (lookup-added digest_cmp hash.digest (Locked node old.next) old.entries (digest-self hash.digest)))) agreed nodes published within
-      stands
-  kept-here (Without same) agreed nodes published within stands
-      = (no-entry (rw same (entry-gone hash old is))) agreed nodes published within stands
-  kept-here (PublishOf node at bytes locked by same) agreed nodes published within stands
-      = absurd (no-publish hash at node bytes old event un locked by)
-  kept-here (NewSegment at node segment locked same) agreed nodes published within stands
-      = (not-described (Own node) at (rw same locked)) agreed nodes published within stands
-  kept-here (OfSegment at before segment stood kept turns same) agreed nodes published within stands = by_number at number here there
+      (lookup-added digest_cmp hash.digest (Locked node old.next) old.entries (digest-self hash.digest)))) agreed nodes bytes spells
+      published within stands
+  kept-here (Without same) agreed nodes bytes spells published within stands
+      = (no-entry (rw same (entry-gone hash old is))) agreed nodes bytes spells published within stands
+  kept-here (PublishOf node at text locked by same) agreed nodes bytes spells published within stands
+      = absurd (no-publish hash at node text old event un locked by)
+  kept-here (NewSegment at node segment locked same) agreed nodes bytes spells published within stands
+      = (not-described (Own node) at (rw same locked)) agreed nodes bytes spells published within stands
+  kept-here (OfSegment at before segment stood kept turns same) agreed nodes bytes spells published within stands
+      = by_number at number here there
     where
-      entry : entry_at hash old ≡ Some (Described number (line agreed))
-      entry = subst (λ t. entry_at hash t ≡ Some (Described number (line agreed))) same published
+      entry : entry_at hash old ≡ Some (Described number bytes)
+      entry = subst (λ t. entry_at hash t ≡ Some (Described number bytes)) same published
 
       there : at ≢ number → nodes.max_nodes ≡ max_nodes_of agreed.settings
-      there differ = room agreed nodes entry within
+      there differ = room agreed nodes bytes spells entry within
           (sym (set-apart (is_at (place_cmp (hash.digest, at))) (is_at (place_cmp (hash.digest, number)))
           (place-apart (hash.digest, at) (hash.digest, number) (λ e. differ (ap (λ p. p.1) e))) old.segments segment)
           ∙ subst (λ t. segment_at hash number t ≡ Some (Open nodes)) same stands)
@@ -121,11 +127,11 @@ module _ (hash : ServiceHash) (number : ℕ) (old new : Contents) (is : IsTable 
           = rw same (lookup-set (is_at (place_cmp (hash.digest, at))) old.segments segment (rw stood refl)) in
           let segment_is : segment ≡ Open nodes = open-is segment nodes (sym found ∙ ap (λ n. segment_at hash n new) is_it ∙ stands) in
           let was = before-room before nodes (subst (λ s. SameRoom before s) segment_is kept) in
-          was.2 ∙ room agreed was.0 entry within (sym (ap (λ n. segment_at hash n old) is_it) ∙ stood ∙ ap (λ s. Some s) was.1)
-  kept-here (WithoutSegment at same) agreed nodes published within stands = by_number at number here there
+          was.2 ∙ room agreed was.0 bytes spells entry within (sym (ap (λ n. segment_at hash n old) is_it) ∙ stood ∙ ap (λ s. Some s) was.1)
+  kept-here (WithoutSegment at same) agreed nodes bytes spells published within stands = by_number at number here there
     where
       there : at ≢ number → nodes.max_nodes ≡ max_nodes_of agreed.settings
-      there differ = room agreed nodes (subst (λ t. entry_at hash t ≡ Some (Described number (line agreed))) same published) within
+      there differ = room agreed nodes bytes spells (subst (λ t. entry_at hash t ≡ Some (Described number bytes)) same published) within
           (sym (remove-apart (is_at (place_cmp (hash.digest, at))) (is_at (place_cmp (hash.digest, number)))
           (place-apart (hash.digest, at) (hash.digest, number) (λ e. differ (ap (λ p. p.1) e))) old.segments)
           ∙ subst (λ t. segment_at hash number t ≡ Some (Open nodes)) same stands)
@@ -137,20 +143,21 @@ module _ (hash : ServiceHash) (number : ℕ) (old new : Contents) (is : IsTable 
       here is_it =
           let gone : segment_at hash at new ≡ None = rw same (segment-gone hash at old is) in
           absurd (gone-not (sym gone ∙ ap (λ n. segment_at hash n new) is_it ∙ stands))
-  kept-here (ServiceOf node at given locked by own same) agreed nodes published within stands =
-      let found : entry_at hash new ≡ Some (Described at (line given))
-      = rw same (lookup-set (is_at (digest_cmp hash.digest)) old.entries (Described at (line given)) (rw locked refl)) in
+  kept-here (ServiceOf version node at given locked by own same) agreed nodes bytes spells published within stands =
+      let found : entry_at hash new ≡ Some (Described at (line version given))
+      = rw same (lookup-set (is_at (digest_cmp hash.digest)) old.entries (Described at (line version given)) (rw locked refl)) in
       let is_it : at ≡ number = numbers (sym found ∙ published) in
-      let lines : line given ≡ line agreed = texts (sym found ∙ published) in
+      let lines : line version given ≡ bytes = texts (sym found ∙ published) in
       let seat : segment_at hash at new ≡ Some (Open (first_foreign node (max_nodes_of given.settings)))
       = rw same (lookup-added place_cmp (hash.digest, at) (Open (first_foreign node (max_nodes_of given.settings))) old.segments
       (same-place (hash.digest, at))) in
-      widths (sym seat ∙ ap (λ n. segment_at hash n new) is_it ∙ stands) ∙ line-room given agreed own.0 within lines
+      widths (sym seat ∙ ap (λ n. segment_at hash n new) is_it ∙ stands)
+      ∙ line-room given agreed (line version given) bytes own.0 within (version, own.3, refl) spells lines
     where
-      numbers : Some (Described at (line given)) ≡ Some (Described number (line agreed)) → at ≡ number
+      numbers : Some (Described at (line version given)) ≡ Some (Described number bytes) → at ≡ number
       numbers e = cc
 
-      texts : Some (Described at (line given)) ≡ Some (Described number (line agreed)) → line given ≡ line agreed
+      texts : Some (Described at (line version given)) ≡ Some (Described number bytes) → line version given ≡ bytes
       texts e = cc
 
       opened-as : Some (Open (first_foreign node (max_nodes_of given.settings))) ≡ Some (Open nodes)
@@ -160,14 +167,14 @@ module _ (hash : ServiceHash) (number : ℕ) (old new : Contents) (is : IsTable 
       widths : Some (Open (first_foreign node (max_nodes_of given.settings))) ≡ Some (Open nodes)
           → nodes.max_nodes ≡ max_nodes_of given.settings
       widths e = sym (ap (λ n. n.max_nodes) (opened-as e))
-  kept-here (Removal at same) agreed nodes published within stands
-      = (no-entry (rw same (entry-gone hash old is))) agreed nodes published within stands
+  kept-here (Removal at same) agreed nodes bytes spells published within stands
+      = (no-entry (rw same (entry-gone hash old is))) agreed nodes bytes spells published within stands
 
 -- what lies elsewhere has the room that it had
 kept-there : (hash other : ServiceHash) (number : ℕ) (old new : Contents) (event : Event) → hash.digest ≢ other.digest
     → Change event hash old new → HasRoomAt other number old → HasRoomAt other number new
-kept-there hash other number old new event differ change room agreed nodes published within stands =
-    let e = elsewhere hash other differ old new event change in room agreed nodes (sym e.entry ∙ published) within
+kept-there hash other number old new event differ change room agreed nodes bytes spells published within stands =
+    let e = elsewhere hash other differ old new event change in room agreed nodes bytes spells (sym e.entry ∙ published) within
     (sym (e.segment number) ∙ stands)
 
 event-rooms : (event : Event) (hash : ServiceHash) (old new : Contents) → Roomy old → UnpublishingEvent event
@@ -191,7 +198,7 @@ roomy-access access old new un roomy h = record {
 
 pub new-roomy : (id : ℕ) → Roomy (empty_table id)
 new-roomy id = record
-    { is = new-table id; rooms = λ hash number agreed nodes published within stands. absurd (not-none number (line agreed) published) }
+    { is = new-table id; rooms = λ hash number agreed nodes bytes spells published within stands. absurd (not-none number bytes published) }
 
 -- ---- a publication right after the segment was made
 
@@ -203,26 +210,27 @@ module _ (agreed : Agreement) (number node : ℕ) (within : IsWithinLimits agree
   seat = Open (first_node node (max_nodes_of agreed.settings))
 
   publish-rooms : (old new : Contents) → Roomy old → entry_at hash old ≡ Some (Locked (Own node) number)
-      → segment_at hash number old ≡ Some seat → Sight old (Publish hash number (line agreed) publishing.Published) new
+      → segment_at hash number old ≡ Some seat → Sight old (Publish hash number (line Two agreed) publishing.Published) new
       → (other : ServiceHash) (n : ℕ) → HasRoomAt other n new
   publish-rooms old new roomy locked made sight other n = by_hash hash other
       (λ same. subst (λ h. HasRoomAt h n new) same (here (may_publish hash number old) sight n))
-      (λ differ. kept-there hash other n old new (Accesses (Publish hash number (line agreed) publishing.Published)) differ
-      (changes old new (Accesses (Publish hash number (line agreed) publishing.Published)) sight) (roomy.rooms other n))
+      (λ differ. kept-there hash other n old new (Accesses (Publish hash number (line Two agreed) publishing.Published)) differ
+      (changes old new (Accesses (Publish hash number (line Two agreed) publishing.Published)) sight) (roomy.rooms other n))
     where
-      here : (b : Bool) → Publishes b hash number (line agreed) old publishing.Published new → (n : ℕ) → HasRoomAt hash n new
-      here true (inl h) n given nodes published given-within stands =
-          let found : entry_at hash new ≡ Some (Described number (line agreed))
-          = rw h.1 (lookup-set (is_at (digest_cmp hash.digest)) old.entries (Described number (line agreed)) (rw locked refl)) in
+      here : (b : Bool) → Publishes b hash number (line Two agreed) old publishing.Published new → (n : ℕ) → HasRoomAt hash n new
+      here true (inl h) n given nodes bytes spells published given-within stands =
+          let found : entry_at hash new ≡ Some (Described number (line Two agreed))
+          = rw h.1 (lookup-set (is_at (digest_cmp hash.digest)) old.entries (Described number (line Two agreed)) (rw locked refl)) in
           let is_it : number ≡ n = numbers (sym found ∙ published) in
-          let lines : line agreed ≡ line given = texts (sym found ∙ published) in
+          let lines : line Two agreed ≡ bytes = texts (sym found ∙ published) in
           let seat-now : segment_at hash number new ≡ Some seat = rw h.1 made in
-          widths (sym seat-now ∙ ap (λ k. segment_at hash k new) is_it ∙ stands) ∙ line-room agreed given within given-within lines
+          widths (sym seat-now ∙ ap (λ k. segment_at hash k new) is_it ∙ stands)
+          ∙ line-room agreed given (line Two agreed) bytes within given-within (Two, tt, refl) spells lines
         where
-          numbers : Some (Described number (line agreed)) ≡ Some (Described n (line given)) → number ≡ n
+          numbers : Some (Described number (line Two agreed)) ≡ Some (Described n bytes) → number ≡ n
           numbers e = cc
 
-          texts : Some (Described number (line agreed)) ≡ Some (Described n (line given)) → line agreed ≡ line given
+          texts : Some (Described number (line Two agreed)) ≡ Some (Described n bytes) → line Two agreed ≡ bytes
           texts e = cc
 
           opened-as : Some (Open (first_node node (max_nodes_of agreed.settings))) ≡ Some (Open nodes)
@@ -232,21 +240,21 @@ module _ (agreed : Agreement) (number node : ℕ) (within : IsWithinLimits agree
           widths : Some (Open (first_node node (max_nodes_of agreed.settings))) ≡ Some (Open nodes)
               → nodes.max_nodes ≡ max_nodes_of agreed.settings
           widths e = sym (ap (λ k. k.max_nodes) (opened-as e))
-      here true (inr h) n given nodes published given-within stands = absurd (differ h.0)
+      here true (inr h) n given nodes bytes spells published given-within stands = absurd (differ h.0)
         where
           differ : publishing.Published ≡ publishing.OutOfMemory → ⊥
           differ e = cc
-      here false h n given nodes published given-within stands = absurd (differ h.0)
+      here false h n given nodes bytes spells published given-within stands = absurd (differ h.0)
         where
           differ : publishing.Published ≡ publishing.Fault → ⊥
           differ e = cc
 
   pub pair-roomy : (old mid new : Steps) → Roomy old.table
       → SteppedSight old (MakeSegment agreed.service_hash number node (max_nodes_of agreed.settings) making.Made) mid
-      → SteppedSight mid (Publish agreed.service_hash number (line agreed) publishing.Published) new → Roomy new.table
+      → SteppedSight mid (Publish agreed.service_hash number (line Two agreed) publishing.Published) new → Roomy new.table
   pair-roomy old mid new roomy made published
       = record {
-        is = sees mid.table new.table w1.is (Publish hash number (line agreed) publishing.Published) sight;
+        is = sees mid.table new.table w1.is (Publish hash number (line Two agreed) publishing.Published) sight;
         rooms
             = publish-rooms mid.table new.table w1 making-it.locked seat-is sight;
       }
@@ -264,9 +272,9 @@ module _ (agreed : Agreement) (number node : ℕ) (within : IsWithinLimits agree
       seat-is : segment_at hash number mid.table ≡ Some seat
       seat-is = made-seat hash number node (max_nodes_of agreed.settings) m.mid mid.table m.sight
 
-      p : Seen hash (Publish hash number (line agreed) publishing.Published) mid new
-      p = seen hash (Publish hash number (line agreed) publishing.Published) _ mid new published-not-lacking published
+      p : Seen hash (Publish hash number (line Two agreed) publishing.Published) mid new
+      p = seen hash (Publish hash number (line Two agreed) publishing.Published) _ mid new published-not-lacking published
 
-      sight : Sight mid.table (Publish hash number (line agreed) publishing.Published) new.table
-      sight = subst (λ t. Sight t (Publish hash number (line agreed) publishing.Published) new.table)
+      sight : Sight mid.table (Publish hash number (line Two agreed) publishing.Published) new.table
+      sight = subst (λ t. Sight t (Publish hash number (line Two agreed) publishing.Published) new.table)
           (acts-idle hash node number (next_list mid.lists) mid.table p.mid p.happened making-it.locked p.acts) p.sight

@@ -1,4 +1,5 @@
 -- A segment keeps its room, whoever comes and goes; and what is published tells how much it is.
+use Rattle.std.proofs.Common.{List}
 use Rattle.std.proofs.Common.{◌≡◌, ℕ, ◌-◌, ◌^◌, Bool, true, false, cond, not, ◌&&◌, Option, None, Some, Result, Ok, Err, nat_eq, nat_lt}
 use Rattle.std.proofs.Common.{refl, sym, ap, subst, ◌∙◌, inl, inr}
 use Rattle.std.specs.Prelude.{codes}
@@ -9,7 +10,9 @@ use Rattle.serde_json.specs.Read.{read}
 use Rattle.iox_negotiate_table.specs.DescribeSettings.Agreement.{Agreement, max_nodes_of}
 use Rattle.iox_negotiate_table.specs.DescribeSettings.declared.static_config.Settings.{Settings}
 use Rattle.iox_negotiate_table.specs.DescribeSettings.declared.static_config.Settings.TheVariants.{RequestResponse, PublishSubscribe, Event}
-use Rattle.iox_negotiate_table.specs.Describe.Line.{line, tree, settings_tree, natural}
+use Rattle.iox_negotiate_table.specs.Describe.Line.{tree, settings_tree, natural, Spells}
+use Rattle.iox_negotiate_table.specs.DescribeSettings.declared.description.Version.{Version}
+use Rattle.iox_negotiate_table.specs.DescribeSettings.declared.description.Version.TheVariants.{One, Two}
 use Rattle.iox_negotiate_table.specs.Describe.Within.{IsWithinLimits}
 use Rattle.iox_negotiate_table.proofs.Describe.Plain.{line-read}
 use Rattle.iox_negotiate_table.specs.NegotiateBase.declared.answer.OpenSegmentAnswer.{OpenSegmentAnswer}
@@ -99,20 +102,33 @@ same-data one other e = cc
 pub same-natural : (one other : ℕ) → Some (natural one) ≡ Some (natural other) → one ≡ other
 same-natural one other e = cc
 
-told : (settings : Settings) → get (codes "max_nodes") (settings_tree settings) ≡ Some (natural (max_nodes_of settings))
-told (RequestResponse c) = refl
-told (PublishSubscribe c) = refl
-told (Event c) = refl
+told : (version : Version) (settings : Settings)
+    → get (codes "max_nodes") (settings_tree version settings) ≡ Some (natural (max_nodes_of settings))
+told version (RequestResponse c) = refl
+told One (PublishSubscribe c) = refl
+told Two (PublishSubscribe c) = refl
+told version (Event c) = refl
 
-settings-told : (a : Agreement) → get (codes "settings") (tree a) ≡ Some (settings_tree a.settings)
-settings-told a = refl
+settings-told : (version : Version) (a : Agreement) → get (codes "settings") (tree version a) ≡ Some (settings_tree version a.settings)
+settings-told version a = refl
 
--- two agreements with one line have the same number of nodes
-pub line-room : (one other : Agreement) → IsWithinLimits one → IsWithinLimits other → line one ≡ line other
-    → max_nodes_of one.settings ≡ max_nodes_of other.settings
-line-room one other first second same =
-    let trees = same-data (tree one) (tree other) (sym (line-read one first) ∙ ap (λ l. read l) same ∙ line-read other second) in
-    let settings = same-data (settings_tree one.settings) (settings_tree other.settings)
-    (sym (settings-told one) ∙ ap (λ t. get (codes "settings") t) trees ∙ settings-told other) in
+-- bytes that spell an agreement are read as its tree of their version
+spelled-read : (a : Agreement) (bytes : List ℕ) → IsWithinLimits a → (spells : Spells bytes a) → read bytes ≡ Some (tree spells.0 a)
+spelled-read a bytes within spells = ap (λ l. read l) spells.2 ∙ line-read spells.0 a within
+
+-- two agreements with one line have one tree
+pub spelled-trees : (one other : Agreement) (bytes text : List ℕ) → IsWithinLimits one → IsWithinLimits other
+    → (first : Spells bytes one) → (second : Spells text other) → bytes ≡ text → tree first.0 one ≡ tree second.0 other
+spelled-trees one other bytes text within within' first second same =
+    same-data (tree first.0 one) (tree second.0 other)
+    (sym (spelled-read one bytes within first) ∙ ap (λ l. read l) same ∙ spelled-read other text within' second)
+
+-- and the same number of nodes
+pub line-room : (one other : Agreement) (bytes text : List ℕ) → IsWithinLimits one → IsWithinLimits other → Spells bytes one
+    → Spells text other → bytes ≡ text → max_nodes_of one.settings ≡ max_nodes_of other.settings
+line-room one other bytes text within within' first second same =
+    let trees = spelled-trees one other bytes text within within' first second same in
+    let settings = same-data (settings_tree first.0 one.settings) (settings_tree second.0 other.settings)
+    (sym (settings-told first.0 one) ∙ ap (λ t. get (codes "settings") t) trees ∙ settings-told second.0 other) in
     same-natural (max_nodes_of one.settings) (max_nodes_of other.settings)
-    (sym (told one.settings) ∙ ap (λ t. get (codes "max_nodes") t) settings ∙ told other.settings)
+    (sym (told first.0 one.settings) ∙ ap (λ t. get (codes "max_nodes") t) settings ∙ told second.0 other.settings)

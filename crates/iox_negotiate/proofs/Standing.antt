@@ -6,7 +6,8 @@ use Rattle.std.specs.Ordering.{nat_cmp}
 use Rattle.std.specs.Cmp.{nat_cmp_total}
 use Rattle.std.specs.BTreeMap.{is_at}
 use Rattle.iox_negotiate_table.specs.DescribeBase.declared.hash.ServiceHash.{ServiceHash}
-use Rattle.iox_negotiate_table.specs.Describe.Line.{line}
+use Rattle.iox_negotiate_table.specs.Describe.Line.{line, Spells}
+use Rattle.iox_negotiate_table.specs.DescribeSettings.declared.description.Version.TheVariants.{Two}
 use Rattle.iox_negotiate_table.specs.NegotiateBase.Access.{Access, MakeSegment, Publish, OpenSegment, Leave}
 use Rattle.iox_negotiate_table.specs.NegotiateBase.declared.answer.OpenSegmentAnswer.TheVariants as opening
 use Rattle.iox_negotiate_table.specs.NegotiateBase.declared.answer.MakeSegmentAnswer.TheVariants as making
@@ -89,7 +90,9 @@ among-front g (x ∷ front) back f (inr later) = inr (among-front g front back f
 pub record Counted (all : List Factory) (table : Contents) (g : Factory) : Type 0 where
   pub count : ℕ
   pub enough : times g.number g.node all ≤ count
-  pub held : IsHeld g.agreed.service_hash g.number g.node (line g.agreed) count table
+  pub bytes : List ℕ
+  pub spelled : Spells bytes g.agreed
+  pub held : IsHeld g.agreed.service_hash g.number g.node bytes count table
 
 some-value : (found : Option ℕ) → IsSome found → (value : ℕ) × (found ≡ Some value)
 some-value None is = no is
@@ -101,11 +104,15 @@ counted-of all table g s =
     record {
       count = v.0;
       enough = subst (λ f. times g.number g.node all ≤ unwrap_or f 0) v.1 s.counted;
+      bytes = s.bytes;
+      spelled = s.spelled;
       held = record { nodes = s.is_open.nodes; published = s.is_open.published; stands = s.is_open.stands; has = v.1; few = s.is_open.few };
     }
 
 pub stands-of : (all : List Factory) (table : Contents) (g : Factory) → Counted all table g → Stands all table g
 stands-of all table g c = record {
+  bytes = c.bytes;
+  spelled = c.spelled;
   is_open = record {
     nodes = c.held.nodes;
     published = c.held.published;
@@ -123,9 +130,9 @@ Quiet (Leave hash number node answer) = ⊥
 Quiet access = Unit {0}
 
 still-counted : (all : List Factory) (old new : Contents) (g : Factory) (c : Counted all old g)
-    → IsHeldStill g.agreed.service_hash g.number g.node (line g.agreed) c.count new → Counted all new g
+    → IsHeldStill g.agreed.service_hash g.number g.node c.bytes c.count new → Counted all new g
 still-counted all old new g c s = let enough = c.enough in let more
-    = s.enough in record { count = s.now; enough = omega (arith, enough, more); held = s.held }
+    = s.enough in record { count = s.now; enough = omega (arith, enough, more); bytes = c.bytes; spelled = c.spelled; held = s.held }
 
 module _ (all : List Factory) (old new : Contents) (g : Factory) (c : Counted all old g) where
   pub step-counted : (hash : ServiceHash) (step : ForeignStep) (result : Result (Unit {0}) AllocError) → Acts hash step old result new
@@ -134,15 +141,19 @@ module _ (all : List Factory) (old new : Contents) (g : Factory) (c : Counted al
       (λ same. record {
         count = c.count;
         enough = c.enough;
+        bytes = c.bytes;
+        spelled = c.spelled;
         held
-            = stays g.agreed.service_hash g.number g.node (line g.agreed) c.count step old new result c.held
+            = stays g.agreed.service_hash g.number g.node c.bytes c.count step old new result c.held
             (subst (λ h. Acts h step old result new) same acts);
       })
       (λ differ. record {
         count = c.count;
         enough = c.enough;
+        bytes = c.bytes;
+        spelled = c.spelled;
         held
-            = away g.agreed.service_hash g.number g.node (line g.agreed) c.count old new c.held
+            = away g.agreed.service_hash g.number g.node c.bytes c.count old new c.held
             (elsewhere hash g.agreed.service_hash differ old new (Steps hash step) (changes old new (Steps hash step) (result, acts)));
       })
 
@@ -151,12 +162,14 @@ module _ (all : List Factory) (old new : Contents) (g : Factory) (c : Counted al
       → Sight old access new → Counted all new g
   access-counted access other sight = by_hash (hash_of (Accesses access)) g.agreed.service_hash
       (λ same. still-counted all old new g c
-      (here g.agreed.service_hash g.number g.node (line g.agreed) c.count old new c.held access same other sight))
+      (here g.agreed.service_hash g.number g.node c.bytes c.count old new c.held access same other sight))
       (λ differ. record {
         count = c.count;
         enough = c.enough;
+        bytes = c.bytes;
+        spelled = c.spelled;
         held
-            = away g.agreed.service_hash g.number g.node (line g.agreed) c.count old new c.held
+            = away g.agreed.service_hash g.number g.node c.bytes c.count old new c.held
             (elsewhere (hash_of (Accesses access)) g.agreed.service_hash differ old new (Accesses access)
             (changes old new (Accesses access) sight));
       })
@@ -191,7 +204,13 @@ fewer-stand front back f table stand g in_it =
     let c = counted-of (front ++ (f ∷ back)) table g (stand g (among-front g front back f in_it)) in
     let all = times-with g.number g.node front back f in
     let enough = c.enough in
-    stands-of (front ++ back) table g (record { count = c.count; enough = omega (arith, all, enough); held = c.held })
+    stands-of (front ++ back) table g (record {
+      count = c.count;
+      enough = omega (arith, all, enough);
+      bytes = c.bytes;
+      spelled = c.spelled;
+      held = c.held;
+    })
 
 -- and after it
 pub leave-stand : (front back : List Factory) (f : Factory) (old new : Contents) (answer : LeaveAnswer) → AllStand (front ++ (f ∷ back)) old
@@ -246,7 +265,9 @@ leave-stand front back f old new answer stand sight g in_it
             record {
               count = before.count - 1;
               enough = omega (arith, more, enough);
-              held = leaves-one g.agreed.service_hash g.number g.node (line g.agreed) before.count old new before.held answer
+              bytes = before.bytes;
+              spelled = before.spelled;
+              held = leaves-one g.agreed.service_hash g.number g.node before.bytes before.count old new before.held answer
                   (omega (arith, more, enough, some)) sight';
             }
 
@@ -269,17 +290,25 @@ pub number-hash : (table : Contents) (h1 h2 : ServiceHash) (n1 n2 : ℕ) (b1 b2 
 number-hash table h1 h2 n1 n2 b1 b2 is one other same
     = (one-life-of table table [] h2 h1 (Described n2 b2) (Described n1 b1) is refl other one same).0
 
-pub joined : (all : List Factory) (f : Factory) (table : Contents) (count : ℕ) → IsTable table → AllStand all table
-    → IsHeld f.agreed.service_hash f.number f.node (line f.agreed) count table
+pub joined : (all : List Factory) (f : Factory) (table : Contents) (bytes : List ℕ) (count : ℕ) → Spells bytes f.agreed → IsTable table
+    → AllStand all table → IsHeld f.agreed.service_hash f.number f.node bytes count table
     → 1 + times f.number f.node all ≤ count → AllStand (f ∷ all) table
-joined all f table count is stand held enough g (inl same)
+joined all f table bytes count spelled is stand held enough g (inl same)
     = subst (λ x. Stands (f ∷ all) table x) same (stands-of (f ∷ all) table f (record {
       count = count;
       enough = let one = at-most-one (is_of f.number f.node f) in omega (arith, one, enough);
+      bytes = bytes;
+      spelled = spelled;
       held = held;
     }))
-joined all f table count is stand held enough g (inr later)
-    = stands-of (f ∷ all) table g (record { count = before.count; enough = bound (is_of g.number g.node f) refl; held = before.held })
+joined all f table bytes count spelled is stand held enough g (inr later)
+    = stands-of (f ∷ all) table g (record {
+      count = before.count;
+      enough = bound (is_of g.number g.node f) refl;
+      bytes = before.bytes;
+      spelled = before.spelled;
+      held = before.held;
+    })
   where
     before : Counted all table g
     before = counted-of all table g (stand g later)
@@ -287,10 +316,10 @@ joined all f table count is stand held enough g (inr later)
     bound : (b : Bool) → is_of g.number g.node f ≡ b → cond b 1 0 + times g.number g.node all ≤ before.count
     bound true own =
         let who = of-is g.number g.node f own in
-        let hash = number-hash table f.agreed.service_hash g.agreed.service_hash f.number g.number (line f.agreed) (line g.agreed) is
+        let hash = number-hash table f.agreed.service_hash g.agreed.service_hash f.number g.number bytes before.bytes is
         held.published before.held.published who.0 in
-        let counts = same-count table f.agreed.service_hash g.agreed.service_hash f.number g.number f.node g.node (line f.agreed)
-        (line g.agreed) count before.count hash who.0 who.1 held before.held in
+        let counts = same-count table f.agreed.service_hash g.agreed.service_hash f.number g.number f.node g.node bytes
+        before.bytes count before.count hash who.0 who.1 held before.held in
         let more : 1 + times g.number g.node all ≤ count
         = subst (λ d. 1 + times g.number d all ≤ count) who.1 (subst (λ n. 1 + times n f.node all ≤ count) who.0 enough) in
         omega (arith, counts, more)
@@ -310,7 +339,7 @@ times-bounded all table hash number node bytes nodes is stand published stands =
         → times number node all ≤ unwrap_or (factories_of nodes node) 0
     some (g, in_it, number_is, node_is) =
         let c = counted-of all table g (stand g in_it) in
-        let hash_is = number-hash table g.agreed.service_hash hash g.number number (line g.agreed) bytes is c.held.published published
+        let hash_is = number-hash table g.agreed.service_hash hash g.number number c.bytes bytes is c.held.published published
         number_is in
         let same = open-nodes c.held.nodes nodes
         (sym c.held.stands ∙ ap (λ h. segment_at h g.number table) hash_is ∙ ap (λ n. segment_at hash n table) number_is ∙ stands) in
@@ -372,13 +401,13 @@ opened-held hash number node bytes old new is published sight
         differ e = cc
 
 -- after an opening the new factory stands among the others
-pub opening-stand : (all : List Factory) (f : Factory) (old new : Contents) → IsTable old → IsTable new → AllStand all old
-    → entry_at f.agreed.service_hash old ≡ Some (Described f.number (line f.agreed))
+pub opening-stand : (all : List Factory) (f : Factory) (bytes : List ℕ) (old new : Contents) → Spells bytes f.agreed → IsTable old
+    → IsTable new → AllStand all old → entry_at f.agreed.service_hash old ≡ Some (Described f.number bytes)
     → Sight old (OpenSegment f.agreed.service_hash f.number f.node opening.Registered) new → AllStand (f ∷ all) new
-opening-stand all f old new is is_new stand published sight =
-    let o = opened-held f.agreed.service_hash f.number f.node (line f.agreed) old new is published sight in
-    let bounded = times-bounded all old f.agreed.service_hash f.number f.node (line f.agreed) o.nodes is stand published o.stood in
-    joined all f new (unwrap_or (factories_of o.nodes f.node) 0 + 1) is_new
+opening-stand all f bytes old new spelled is is_new stand published sight =
+    let o = opened-held f.agreed.service_hash f.number f.node bytes old new is published sight in
+    let bounded = times-bounded all old f.agreed.service_hash f.number f.node bytes o.nodes is stand published o.stood in
+    joined all f new bytes (unwrap_or (factories_of o.nodes f.node) 0 + 1) spelled is_new
     (quiet-stand all old new (OpenSegment f.agreed.service_hash f.number f.node opening.Registered) tt stand sight) o.held
     (omega (arith, bounded))
 
@@ -459,15 +488,16 @@ none-of-lock all table hash number node by is stand locked = ⊎_elim (λ none. 
     some : ((g : Factory) × IsAmong g all × (g.number ≡ number) × (g.node ≡ node)) → times number node all ≡ 0
     some (g, in_it, number_is, node_is) =
         let c = counted-of all table g (stand g in_it) in
-        absurd (one-life-of table table [] g.agreed.service_hash hash (Described g.number (line g.agreed)) (Locked (Own by) number) is
+        absurd (one-life-of table table [] g.agreed.service_hash hash (Described g.number c.bytes) (Locked (Own by) number) is
         refl c.held.published locked (sym number_is)).1
 
 -- after a publication the new factory stands among the others
 pub publishing-stand : (all : List Factory) (f : Factory) (old new : Contents) → IsTable old → IsTable new → AllStand all old
     → IsMaking f.agreed.service_hash f.number f.node old
-    → Sight old (Publish f.agreed.service_hash f.number (line f.agreed) publishing.Published) new → AllStand (f ∷ all) new
+    → Sight old (Publish f.agreed.service_hash f.number (line Two f.agreed) publishing.Published) new → AllStand (f ∷ all) new
 publishing-stand all f old new is is_new stand m sight =
     let none = none-of-lock all old f.agreed.service_hash f.number f.node f.node is stand m.locked in
-    joined all f new 1 is_new (quiet-stand all old new (Publish f.agreed.service_hash f.number (line f.agreed) publishing.Published) tt
+    joined all f new (line Two f.agreed) 1 (Two, tt, refl) is_new
+    (quiet-stand all old new (Publish f.agreed.service_hash f.number (line Two f.agreed) publishing.Published) tt
     stand sight)
-    (published-held f.agreed.service_hash f.number f.node (line f.agreed) old new m sight) (omega (arith, none))
+    (published-held f.agreed.service_hash f.number f.node (line Two f.agreed) old new m sight) (omega (arith, none))

@@ -10,6 +10,7 @@ use Rattle.iox_negotiate_table.specs.declared.entry.Entry.TheVariants.{Locked}
 use Rattle.iox_negotiate_table.specs.declared.step.ForeignStep.{ForeignStep}
 use Rattle.iox_negotiate_table.specs.declared.step.ForeignStep.TheVariants as step
 use Rattle.iox_negotiate_table.specs.Contents.{Contents, entry_at, with_lock, without_entry}
+use Rattle.iox_negotiate_table.specs.DescribeSettings.declared.description.Version.TheVariants.{One, Two}
 use Rattle.iox_negotiate_table.specs.Foreign.{Acts, DoneOrLacking, Done, foreign_lock, PublishesForeign, RegistersForeign}
 use Rattle.iox_negotiate_table.specs.Foreign.{published_number, after_leaving, after_removal}
 use Rattle.iox_negotiate_table.specs.Sights.{Sight}
@@ -111,7 +112,12 @@ module _ (hash : ServiceHash) (node number : ℕ) where
       idle : Done false (without_entry hash old) old result new → new ≡ old
       idle h = h.1
   own-lock-idle (step.Publish by agreed) old new result locked h
-      = idle (subst (λ e. PublishesForeign (foreign_lock by e) hash by agreed old result new) locked h)
+      = idle (subst (λ e. PublishesForeign Two (foreign_lock by e) hash by agreed old result new) locked h)
+    where
+      idle : (result ≡ Ok tt) × (new ≡ old) → new ≡ old
+      idle h = h.1
+  own-lock-idle (step.PublishV1 by agreed) old new result locked h
+      = idle (subst (λ e. PublishesForeign One (foreign_lock by e) hash by agreed old result new) locked h)
     where
       idle : (result ≡ Ok tt) × (new ≡ old) → new ≡ old
       idle h = h.1

@@ -19,6 +19,8 @@ use Rattle.iox_negotiate_table.specs.DescribeSettings.declared.static_config.eve
 use Rattle.iox_negotiate_table.specs.DescribeSettings.declared.static_config.publish_subscribe.Setting.TheVariants as publish_subscribe
 use Rattle.iox_negotiate_table.specs.DescribeSettings.declared.static_config.request_response.Setting.TheVariants as request_response
 use Rattle.iox_negotiate_table.specs.Describe.Line.{line}
+use Rattle.iox_negotiate_table.specs.DescribeSettings.declared.description.Version.{Version}
+use Rattle.iox_negotiate_table.specs.DescribeSettings.declared.description.Version.TheVariants.{One, Two}
 use Rattle.iox_negotiate_table.specs.NegotiateBase.Access.{Access, Look, Lock, MakeSegment, Publish, Unlock, OpenSegment, Leave}
 use Rattle.iox_negotiate_table.specs.NegotiateBase.Access.{RemoveDescription, RemoveSegment}
 use Rattle.iox_negotiate_table.specs.NegotiateBase.declared.answer.LockAnswer.{LockAnswer}
@@ -327,22 +329,23 @@ room-of (settings.RequestResponse c) within = (within 7 request_response.MaxNode
 room-of (settings.PublishSubscribe c) within = (within 2 publish_subscribe.MaxNodes (omega arith)).0
 room-of (settings.Event c) within = (within 3 event.MaxNodes (omega arith)).0
 
-publishes-foreign : (hash : ServiceHash) (old new : Contents) (node : ℕ) (result : Result (Unit {0}) AllocError) (agreed : Agreement)
+publishes-foreign : (version : Version) (hash : ServiceHash) (old new : Contents) (node : ℕ) (result : Result (Unit {0}) AllocError)
+    (agreed : Agreement)
     → IsTable old → (found : Option ℕ) → foreign_lock node (entry_at hash old) ≡ found
-    → PublishesForeign found hash node agreed old result new → IsTable new
-publishes-foreign hash old new node result agreed table None lock h = unchanged old new table h.1
-publishes-foreign hash old new node result agreed table (Some number) lock h = there h.0 result (λ is. (h.1.0 is).0.limits) h.2
+    → PublishesForeign version found hash node agreed old result new → IsTable new
+publishes-foreign version hash old new node result agreed table None lock h = unchanged old new table h.1
+publishes-foreign version hash old new node result agreed table (Some number) lock h = there h.0 result (λ is. (h.1.0 is).0.limits) h.2
   where
     seat : Segment
     seat = Open (first_foreign node (max_nodes_of agreed.settings))
 
-    whole : 1 ≤ max_nodes_of agreed.settings → IsTable (with_service hash number node agreed old)
+    whole : 1 ≤ max_nodes_of agreed.settings → IsTable (with_service version hash number node agreed old)
     whole room = publish-table hash (with_new_segment hash number seat old)
-        (new-segment-table hash old table number seat (omega (arith, room)) tt) (Foreign node) number (line agreed)
+        (new-segment-table hash old table number seat (omega (arith, room)) tt) (Foreign node) number (line version agreed)
         (foreign-locked node number (entry_at hash old) lock)
 
     there : (b : Bool) (result : Result (Unit {0}) AllocError) → (b ≡ true → AreWithinLimits agreed.settings)
-        → DoneOrLacking b (with_service hash number node agreed old) old result new → IsTable new
+        → DoneOrLacking b (with_service version hash number node agreed old) old result new → IsTable new
     there true (Ok done) within h = rw h (whole (room-of agreed.settings (within refl)))
     there true (Err lacking) within h = unchanged old new table h
     there false (Ok done) within h = unchanged old new table h
@@ -371,7 +374,9 @@ module _ (old new : Contents) (table : IsTable old) where
       = locks-foreign hash old new table node result (entry_at hash old) (not (nat_eq old.next (2 ^ 64 - 1))) refl h
   acts hash (step.GiveUp node) result h = gives-up hash old new table result (is_some (foreign_lock node (entry_at hash old))) h
   acts hash (step.Publish node agreed) result h
-      = publishes-foreign hash old new node result agreed table (foreign_lock node (entry_at hash old)) refl h
+      = publishes-foreign Two hash old new node result agreed table (foreign_lock node (entry_at hash old)) refl h
+  acts hash (step.PublishV1 node agreed) result h
+      = publishes-foreign One hash old new node result agreed table (foreign_lock node (entry_at hash old)) refl h
   acts hash (step.Register node) result h = registers-at hash old new table node result (published_number (entry_at hash old)) h
   acts hash (step.Leave node) result h = leaves-number hash old new table node (published_number (entry_at hash old)) h.1
   acts hash (step.Remove node) result h = removes-number hash old new table node (published_number (entry_at hash old)) h.1

@@ -1,7 +1,7 @@
 -- What was agreed under a number is agreed for good.
 use Rattle.std.specs.Prelude.{◌≡◌, ℕ, List, Option, None, Some, Ok}
 use Rattle.iox_negotiate_table.specs.DescribeSettings.Agreement.{Agreement}
-use Rattle.iox_negotiate_table.specs.Describe.Line.{line}
+use Rattle.iox_negotiate_table.specs.Describe.Line.{Spells}
 use Rattle.iox_negotiate_table.specs.Describe.Within.{IsWithinLimits}
 use Rattle.iox_negotiate_table.specs.NegotiateBase.declared.request.Opened.{Opened}
 use Rattle.iox_negotiate_table.specs.declared.entry.Entry.TheVariants.{Described}
@@ -9,9 +9,10 @@ use Rattle.iox_negotiate_table.specs.Contents.{Contents, entry_at}
 use Rattle.iox_negotiate.specs.Histories.{Event, Ran, IsReached}
 use Rattle.iox_negotiate.specs.Calls.{Call, Creates, Opening, Either, Goes}
 
--- this agreement is published under the number
+-- bytes that spell this agreement are published under the number
 abbrev pub IsPublished : ℕ → Agreement → Contents → Type 0
-IsPublished number agreed table = entry_at agreed.service_hash table ≡ Some (Described number (line agreed))
+IsPublished number agreed table =
+    (bytes : List ℕ) × Spells bytes agreed × (entry_at agreed.service_hash table ≡ Some (Described number bytes))
 
 -- This agreement, within the limits of a description, was published under the number in a table from which this one came.
 pub record WasAgreed (number : ℕ) (agreed : Agreement) (table : Contents) : Type 0 where

@@ -1,7 +1,7 @@
 -- Open factories, and what each of them can rely on.
 use Rattle.std.specs.Prelude.{◌≡◌, ◌≤◌, ◌+◌, ℕ, Bool, ◌&&◌, List, [], ◌∷◌, ◌⊎◌, nat_eq, if◌then◌else◌, unwrap_or}
 use Rattle.iox_negotiate_table.specs.DescribeSettings.Agreement.{Agreement}
-use Rattle.iox_negotiate_table.specs.Describe.Line.{line}
+use Rattle.iox_negotiate_table.specs.Describe.Line.{Spells}
 use Rattle.iox_negotiate_table.specs.Contents.{Contents}
 use Rattle.iox_negotiate_table.specs.Nodes.{factories_of}
 use Rattle.iox_negotiate_table.specs.Laws.{IsOpenIn}
@@ -26,10 +26,12 @@ abbrev pub IsAmong : Factory → List Factory → Type 0
 IsAmong factory [] = ⊥
 IsAmong factory (first ∷ factories) = (first ≡ factory) ⊎ IsAmong factory factories
 
--- What the factory carries is published under its number, its segment stands, its node is in, and no more nodes are in than
--- there is room for; and as many factories are registered of its node as are open, at least.
+-- Bytes that spell what the factory carries are published under its number, its segment stands, its node is in, and no more nodes
+-- are in than there is room for; and as many factories are registered of its node as are open, at least.
 pub record Stands (all : List Factory) (table : Contents) (factory : Factory) : Type 0 where
-  pub is_open : IsOpenIn factory.agreed.service_hash factory.number factory.node (line factory.agreed) table
+  pub bytes : List ℕ
+  pub spelled : Spells bytes factory.agreed
+  pub is_open : IsOpenIn factory.agreed.service_hash factory.number factory.node bytes table
   pub counted : times factory.number factory.node all ≤ unwrap_or (factories_of is_open.nodes factory.node) 0
 
 -- so it is with each open factory

@@ -2,6 +2,7 @@
 use Rattle.std.specs.Prelude.{◌≡◌, ◌<◌, ℕ, List, Some, None, ◌⊎◌}
 use Rattle.iox_negotiate_table.specs.DescribeBase.declared.hash.ServiceHash.{ServiceHash}
 use Rattle.iox_negotiate_table.specs.Describe.Line.{line}
+use Rattle.iox_negotiate_table.specs.DescribeSettings.declared.description.Version.TheVariants.{One, Two}
 use Rattle.iox_negotiate_table.specs.NegotiateBase.Access.{Lock, Publish, OpenSegment}
 use Rattle.iox_negotiate_table.specs.NegotiateBase.declared.answer.LockAnswer.TheVariants.{Taken}
 use Rattle.iox_negotiate_table.specs.NegotiateBase.declared.answer.PublishAnswer.TheVariants.{Published}
@@ -47,13 +48,16 @@ OneLife = (old new : Contents) (events : List Event) (hash later_hash : ServiceH
     → number_of later ≡ number_of entry
     → (later_hash ≡ hash) × Continues entry later
 
--- the event publishes these bytes under this number: an own node where an own node has the lock, a foreign node its own service's line
+-- the event publishes these bytes under this number: an own node where an own node has the lock, a foreign node a line of its own
+-- service, of either version
 abbrev pub PublishesAs : ServiceHash → ℕ → List ℕ → Contents → Event → Type 0
 PublishesAs hash number bytes old (Accesses (Publish under of text answer)) =
     (node : ℕ) × (entry_at hash old ≡ Some (Locked (Own node) number)) × (under ≡ hash) × (of ≡ number) × (text ≡ bytes)
     × (answer ≡ Published)
 PublishesAs hash number bytes old (Steps under (step.Publish node agreed)) =
-    (entry_at hash old ≡ Some (Locked (Foreign node) number)) × (under ≡ hash) × IsFor hash agreed × (bytes ≡ line agreed)
+    (entry_at hash old ≡ Some (Locked (Foreign node) number)) × (under ≡ hash) × IsFor Two hash agreed × (bytes ≡ line Two agreed)
+PublishesAs hash number bytes old (Steps under (step.PublishV1 node agreed)) =
+    (entry_at hash old ≡ Some (Locked (Foreign node) number)) × (under ≡ hash) × IsFor One hash agreed × (bytes ≡ line One agreed)
 PublishesAs hash number bytes old event = ⊥
 
 -- a description that stands after an event stood before it, or this event published it, in place of the lock of its own life

@@ -2,7 +2,7 @@
 use Rattle.std.specs.Prelude.{◌≡◌, ℕ, List, [], ◌∷◌, ◌++◌, None, Some}
 use Rattle.iox_negotiate_table.specs.DescribeBase.declared.hash.ServiceHash.{ServiceHash}
 use Rattle.iox_negotiate_table.specs.DescribeSettings.Agreement.{Agreement, max_nodes_of}
-use Rattle.iox_negotiate_table.specs.Describe.Line.{line}
+use Rattle.iox_negotiate_table.specs.Describe.Line.{Spells}
 use Rattle.iox_negotiate_table.specs.Describe.Within.{IsWithinLimits}
 use Rattle.iox_negotiate_table.specs.NegotiateBase.Access.{Access}
 use Rattle.iox_negotiate_table.specs.NegotiateBase.Runs.{Went}
@@ -28,18 +28,18 @@ AreWithin (call ∷ calls) = IsWithin call × AreWithin calls
 -- After any calls in a new table the segment of each published service has room for just the agreed number of nodes.
 abbrev pub RoomsAreAgreed : (ℕ → Type 0) → Type 0
 RoomsAreAgreed V = (id : ℕ) (calls : List (Call V)) (table : Contents) (held : List Factory) (hash : ServiceHash) (number : ℕ)
-    (agreed : Agreement) (nodes : Nodes)
-    → AreWithin calls → Called (empty_table id) [] calls table held → entry_at hash table ≡ Some (Described number (line agreed))
-    → IsWithinLimits agreed
+    (bytes : List ℕ) (agreed : Agreement) (nodes : Nodes)
+    → AreWithin calls → Called (empty_table id) [] calls table held → entry_at hash table ≡ Some (Described number bytes)
+    → Spells bytes agreed → IsWithinLimits agreed
     → segment_at hash number table ≡ Some (Open nodes) → nodes.max_nodes ≡ max_nodes_of agreed.settings
 
 -- and so it is after each access inside a call
 abbrev pub RoomsInsideCalls : (ℕ → Type 0) → Type 0
 RoomsInsideCalls V = (id : ℕ) (calls : List (Call V)) (table : Contents) (held : List Factory) (call : Call V)
     (lists : List (List ForeignStep)) (mid : Steps) (done rest : List Access)
-    (hash : ServiceHash) (number : ℕ) (agreed : Agreement) (nodes : Nodes)
+    (hash : ServiceHash) (number : ℕ) (bytes : List ℕ) (agreed : Agreement) (nodes : Nodes)
     → AreWithin calls → IsWithin call → Called (empty_table id) [] calls table held → Tells call (done ++ rest)
     → Went SteppedSight (record { table = table; lists = lists }) done mid
-    → entry_at hash mid.table ≡ Some (Described number (line agreed)) → IsWithinLimits agreed
+    → entry_at hash mid.table ≡ Some (Described number bytes) → Spells bytes agreed → IsWithinLimits agreed
     → segment_at hash number mid.table ≡ Some (Open nodes)
     → nodes.max_nodes ≡ max_nodes_of agreed.settings

@@ -4,6 +4,7 @@ use Rattle.std.proofs.Common.{refl, sym, ap, ◌∙◌, arith}
 use Rattle.iox_describe.specs.DescribeBase.declared.hash.ServiceHash.{ServiceHash}
 use Rattle.iox_describe.specs.DescribeSettings.Agreement.{Agreement, max_nodes_of}
 use Rattle.iox_describe.specs.Line.{line}
+use Rattle.iox_describe.specs.DescribeSettings.declared.description.Version.TheVariants.{Two}
 use Rattle.iox_negotiate_base.specs.Access.{Access, Look, Lock, MakeSegment, Publish, Unlock, RemoveSegment}
 use Rattle.iox_negotiate_base.specs.Creating.{Unlocks, Undoes, PublishGoes, Publishes, MakeGoes, Makes, LockGoes, Locks, CreatesSeen}
 use Rattle.iox_negotiate_base.specs.Failing.{brought_about, lock_gives, making_failure, publishing_failure, refusal_seen, created}
@@ -222,7 +223,7 @@ not-refused service failure h = cc
 
 publishes-service : (hash : ServiceHash) (number : ℕ) (agreed : Agreement) (made : List Access) (came : Attempt) (service : Opened)
     → Publishes hash number agreed made came → Ok service ≡ created came
-    → (service ≡ brought_about number agreed) × (made ≡ Publish hash number (line agreed) publishing.Published ∷ [])
+    → (service ≡ brought_about number agreed) × (made ≡ Publish hash number (line Two agreed) publishing.Published ∷ [])
 publishes-service hash number agreed (Publish under of bytes publishing.Published ∷ rest) came service (own, same, spelled, (none, is)) h =
     (service-is came service (brought_about number agreed) h is, cc)
 publishes-service hash number agreed (Publish under of bytes publishing.Fault ∷ rest) came service p h
@@ -236,10 +237,10 @@ makes-service : (hash : ServiceHash) (node number : ℕ) (agreed : Agreement) (m
     → Makes hash node number agreed made came → Ok service ≡ created came
     → (service ≡ brought_about number agreed)
     × (made ≡ MakeSegment hash number node (max_nodes_of agreed.settings) making.Made
-    ∷ Publish hash number (line agreed) publishing.Published ∷ [])
+    ∷ Publish hash number (line Two agreed) publishing.Published ∷ [])
 makes-service hash node number agreed (MakeSegment under of by room making.Made ∷ rest) came service (own, same, who, wide, then) h =
     let p = publishes-service hash number agreed rest came service then h in
-    let tail : rest ≡ Publish hash number (line agreed) publishing.Published ∷ [] = p.1 in
+    let tail : rest ≡ Publish hash number (line Two agreed) publishing.Published ∷ [] = p.1 in
     (p.0, cc)
 makes-service hash node number agreed (MakeSegment under of by room making.Fault ∷ rest) came service m h
     = absurd (no-service came service _ h m.4.1)
@@ -252,7 +253,7 @@ record IsPublished (hash : ServiceHash) (node : ℕ) (agreed : Agreement) (made 
   front : List Access
   agrees : service.description ≡ agreed
   all : made ≡ front ++ (MakeSegment hash service.number node (max_nodes_of agreed.settings) making.Made
-      ∷ Publish hash service.number (line agreed) publishing.Published ∷ [])
+      ∷ Publish hash service.number (line Two agreed) publishing.Published ∷ [])
 
 locks-service : (hash : ServiceHash) (node : ℕ) (agreed : Agreement) (made : List Access) (came : Attempt) (service : Opened)
     → Locks hash node agreed made came → Ok service ≡ created came → IsPublished hash node agreed made service

@@ -3,6 +3,7 @@ use Rattle.std.specs.Prelude.{◌≡◌, ℕ, List, [], ◌∷◌, Option, None,
 use Rattle.iox_describe.specs.DescribeBase.declared.hash.ServiceHash.{ServiceHash}
 use Rattle.iox_describe.specs.DescribeSettings.Agreement.{Agreement, max_nodes_of}
 use Rattle.iox_describe.specs.Line.{line}
+use Rattle.iox_describe.specs.DescribeSettings.declared.description.Version.TheVariants.{Two}
 use Rattle.iox_negotiate_base.specs.Access.{Access, Look, Lock, MakeSegment, Publish, Unlock, RemoveSegment}
 use Rattle.iox_negotiate_base.specs.Failing.{brought_about, refusal_seen, lock_gives, making_failure, publishing_failure, created}
 use Rattle.iox_negotiate_base.specs.Sight.{IsSight}
@@ -31,7 +32,7 @@ PublishGoes hash number agreed (Some failure) made attempt = Undoes hash number 
 -- The description is published; or no memory is found to write it, and what was made is undone.
 abbrev pub Publishes : ServiceHash → ℕ → Agreement → List Access → Attempt → Type 0
 Publishes hash number agreed (Publish under of bytes answer ∷ rest) attempt =
-    (under ≡ hash) × (of ≡ number) × (bytes ≡ line agreed) × PublishGoes hash number agreed (publishing_failure answer) rest attempt
+    (under ≡ hash) × (of ≡ number) × (bytes ≡ line Two agreed) × PublishGoes hash number agreed (publishing_failure answer) rest attempt
 Publishes hash number agreed (RemoveSegment under of answer ∷ rest) attempt =
     Undoes hash number (RemoveSegment under of answer ∷ rest) × (attempt ≡ Failed OutOfMemory)
 Publishes hash number agreed made attempt = ⊥

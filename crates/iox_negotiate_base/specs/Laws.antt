@@ -3,6 +3,7 @@ use Rattle.std.specs.Prelude.{◌≡◌, ℕ, ◌+◌, ◌≤◌, List, [], ◌�
 use Rattle.iox_describe.specs.DescribeBase.declared.hash.ServiceHash.{ServiceHash}
 use Rattle.iox_describe.specs.DescribeSettings.Agreement.{Agreement, max_nodes_of}
 use Rattle.iox_describe.specs.Line.{line}
+use Rattle.iox_describe.specs.DescribeSettings.declared.description.Version.TheVariants.{Two}
 use Rattle.iox_negotiate_base.specs.Access.{Access, Lock, MakeSegment, Publish, Unlock, RemoveSegment}
 use Rattle.iox_negotiate_base.specs.Creating.{CreatesIf}
 use Rattle.iox_negotiate_base.specs.Opening.{Opens, OpensOrCreates}
@@ -65,7 +66,7 @@ CreatedIsPublished = (hash : ServiceHash) (node : ℕ) (agreed : Agreement) (ref
     → CreatesIf hash node agreed refusal made (Ok service)
     → (front : List Access) × (service.description ≡ agreed)
     × (made ≡ front ++ (MakeSegment hash service.number node (max_nodes_of agreed.settings) Made
-    ∷ Publish hash service.number (line agreed) Published ∷ []))
+    ∷ Publish hash service.number (line Two agreed) Published ∷ []))
 
 -- an opening makes ten accesses at most
 abbrev pub OpensInTen : Type 0 → Type 0

@@ -13,6 +13,7 @@ open_name opening.IncompatibleMessagingPattern = codes "IncompatibleMessagingPat
 open_name opening.IncompatibleTypes = codes "IncompatibleTypes"
 open_name opening.IncompatibleAttributes = codes "IncompatibleAttributes"
 open_name opening.IncompatibleOverflowBehavior = codes "IncompatibleOverflowBehavior"
+open_name opening.IncompatibleSequenceNumbers = codes "IncompatibleSequenceNumbers"
 open_name opening.DoesNotSupportRequestedAmountOfPublishers = codes "DoesNotSupportRequestedAmountOfPublishers"
 open_name opening.DoesNotSupportRequestedAmountOfSubscribers = codes "DoesNotSupportRequestedAmountOfSubscribers"
 open_name opening.DoesNotSupportRequestedMinBufferSize = codes "DoesNotSupportRequestedMinBufferSize"

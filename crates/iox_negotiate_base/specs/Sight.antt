@@ -2,7 +2,7 @@
 use Rattle.std.specs.Prelude.{◌≡◌, ℕ, List}
 use Rattle.iox_describe.specs.DescribeBase.declared.hash.ServiceHash.{ServiceHash}
 use Rattle.iox_describe.specs.DescribeSettings.Agreement.{Agreement}
-use Rattle.iox_describe.specs.Line.{line}
+use Rattle.iox_describe.specs.Line.{Spells}
 use Rattle.iox_describe.specs.Within.{IsWithinLimits}
 use Rattle.iox_negotiate_base.specs.declared.answer.LookAnswer.{LookAnswer}
 use Rattle.iox_negotiate_base.specs.declared.answer.LookAnswer.TheVariants as look
@@ -14,7 +14,7 @@ use Rattle.iox_negotiate_base.specs.declared.sight.SightFailure.TheVariants.{Ser
 -- these bytes describe, under this hash, a service with this agreement
 pub record Describes (hash : ServiceHash) (bytes : List ℕ) (agreed : Agreement) : Type 0 where
   pub within : IsWithinLimits agreed
-  pub spelled : bytes ≡ line agreed
+  pub spelled : Spells bytes agreed
   pub own : agreed.service_hash ≡ hash
 
 -- What bytes show: the service that they describe; that they describe none; or memory is wanting to read them.

@@ -1,6 +1,7 @@
 //! From a lock to a published service, or back.
 ghost use Rattle.std.specs.Prelude.{◌≡◌, IfOk};
 ghost use Rattle.iox_describe.specs.Line.{line};
+ghost use Rattle.iox_describe.specs.DescribeSettings.declared.description.Version.TheVariants.{Two};
 ghost use Rattle.iox_negotiate_base.specs.Runs.{Does};
 ghost use Rattle.iox_negotiate_base.specs.Creating.{Unlocks, Undoes, PublishGoes, Publishes, MakeGoes, Makes, LockGoes, Locks};
 ghost use Rattle.iox_negotiate_base.specs.Failing.{refusal_seen, lock_gives, making_failure, publishing_failure, created};
@@ -81,7 +82,7 @@ fn publish<R: Request, S: Storage>(
 
 // The description of the service that is created, and its line.
 fn write<R: Request>(alloc: Global, request: &R) -> Result<(Description, Vec<u8>), AllocError>
-    ensures { IfOk result (λ written. (written.0 ≡ R.created request.now) × (written.1.items ≡ line (R.created request.now))) }
+    ensures { IfOk result (λ written. (written.0 ≡ R.created request.now) × (written.1.items ≡ line Two (R.created request.now))) }
 {
     let description = request.describe(alloc)?;
     let bytes = encode(alloc, &description)?;

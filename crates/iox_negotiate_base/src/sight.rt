@@ -61,7 +61,9 @@ fn standing(alloc: Global, hash: &ServiceHash, number: u64, bytes: &StoredDescri
             }
             Sight::Failed(SightFailure::ServiceInCorruptedState)
         }
-        Err(DescriptionError::Invalid) => Sight::Failed(SightFailure::ServiceInCorruptedState),
+        Err(DescriptionError::Invalid | DescriptionError::NotInVersion1) => Sight::Failed(
+            SightFailure::ServiceInCorruptedState,
+        ),
         Err(DescriptionError::OutOfMemory) => Sight::Failed(SightFailure::OutOfMemory),
     }
 }

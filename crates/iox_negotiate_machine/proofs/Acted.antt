@@ -59,7 +59,13 @@ module _ (pattern : MessagingPattern) (name : List ℕ) (old new : Contents) (ta
     lives = stands.lives;
     falling = falling-on old.next new.next taken less stands.falling;
     lies = last-then taken stands.lies (λ number so. (
-      record { described = aside.entry ∙ so.0.described; kind = so.0.kind; within = so.0.within },
+      record {
+        version = so.0.version;
+        said = so.0.said;
+        described = aside.entry ∙ so.0.described;
+        kind = so.0.kind;
+        within = so.0.within;
+      },
       record { seated = so.1.seated; stands = aside.segment number ∙ so.1.stands; nodes_stand = so.1.nodes_stand; room = so.1.room },
     ));
     segments = only stands.segments;
@@ -68,7 +74,13 @@ module _ (pattern : MessagingPattern) (name : List ℕ) (old new : Contents) (ta
     lives = stands.lives;
     falling = falling-on old.next new.next taken less stands.falling;
     lies = last-then taken stands.lies (λ number so. (
-      record { described = aside.entry ∙ so.0.described; kind = so.0.kind; within = so.0.within },
+      record {
+        version = so.0.version;
+        said = so.0.said;
+        described = aside.entry ∙ so.0.described;
+        kind = so.0.kind;
+        within = so.0.within;
+      },
       aside.segment number ∙ so.1,
     ));
     segments = only stands.segments;
@@ -84,7 +96,7 @@ grows event hash old new (PublishOf node number bytes locked by is) = rw is (ome
 grows event hash old new (NewSegment number node segment locked is) = rw is (omega arith)
 grows event hash old new (OfSegment number before segment stood room turns is) = rw is (omega arith)
 grows event hash old new (WithoutSegment number is) = rw is (omega arith)
-grows event hash old new (ServiceOf node number agreed locked by own is) = rw is (omega arith)
+grows event hash old new (ServiceOf version node number agreed locked by own is) = rw is (omega arith)
 grows event hash old new (Removal number is) = rw is (omega arith)
 
 -- a table that was reached, and one event more

@@ -12,6 +12,11 @@ use Rattle.iox_command.specs.NegotiateBase.DescribeBase.declared.message_type.Me
 use Rattle.iox_command.specs.NegotiateBase.DescribeBase.declared.pattern.MessagingPattern.{MessagingPattern}
 use Rattle.iox_command.specs.NegotiateBase.DescribeBase.declared.pattern.MessagingPattern.TheVariants as messaging
 use Rattle.iox_command.specs.NegotiateBase.DescribeSettings.Agreement.{Agreement as Description, max_nodes_of}
+use Rattle.iox_command.specs.NegotiateBase.DescribeSettings.Versions.{HasAll}
+use Rattle.iox_command.specs.NegotiateBase.DescribeSettings.declared.description.Version.{Version}
+use Rattle.iox_command.specs.NegotiateBase.DescribeSettings.declared.description.Version.TheVariants.{One, Two}
+use Rattle.iox_command.specs.NegotiateBase.DescribeSettings.declared.static_config.Settings.{Settings}
+use Rattle.iox_command.specs.NegotiateBase.DescribeSettings.declared.static_config.Settings.TheVariants as settings
 use Rattle.iox_command.specs.NegotiateBase.DescribeSettings.Agreement.{pattern_of as described_pattern}
 use Rattle.iox_command.specs.Patterns.{pattern_of}
 use Rattle.iox_command.specs.declared.service.ServiceOptions.{ServiceOptions}
@@ -21,7 +26,7 @@ use Rattle.iox_command.specs.declared.step.ForeignStep.TheVariants as step
 use Rattle.iox_machine.specs.Agreement.{Agreement, are_within_limits}
 use Rattle.iox_machine.specs.Asked.{settings_of}
 use Rattle.iox_machine.specs.Phase.{Node, Own, Foreign, Phase, Absent, BeingMade, Published, Emptied, same_pattern, is_in, entered, left}
-use Rattle.iox_machine.specs.Phase.{left_by, removed_by, acted}
+use Rattle.iox_machine.specs.Phase.{left_by, removed_by, acted, has_numbers}
 use Rattle.iox_machine.specs.State.{same_name}
 use Rattle.iox_negotiate.proofs.Changes.{equal-of, place-apart, place-away, same-place}
 use Rattle.iox_negotiate.proofs.Closing.{segment-gone}
@@ -104,6 +109,41 @@ places-apart hash number n differ same = on (sym (eq-eqb number n (ap (λ (p : L
 abbrev pub OwnHash : MessagingPattern → List ℕ → Type 0
 OwnHash pattern name = (other : MessagingPattern) → service_hash_of other name ≡ service_hash_of pattern name → other ≡ pattern
 
+-- ---- what a line of a version can say
+
+-- whether a line of the version has all of the settings
+abbrev is_said : Version → Settings → Bool
+is_said One settings = not (has_numbers settings)
+is_said Two settings = true
+
+said-all : (version : Version) (all : Settings) → is_said version all ≡ true → HasAll version all
+said-all One (settings.PublishSubscribe c) is = none c.sequence_numbers is
+  where
+    none : (b : Bool) → not b ≡ true → b ≡ false
+    none true is = no is
+    none false is = refl
+said-all One (settings.Event c) is = tt
+said-all One (settings.RequestResponse c) is = tt
+said-all Two all is = tt
+
+all-said : (version : Version) (all : Settings) → HasAll version all → is_said version all ≡ true
+all-said One (settings.PublishSubscribe c) has = ap not has
+all-said One (settings.Event c) has = refl
+all-said One (settings.RequestResponse c) has = refl
+all-said Two all has = refl
+
+either-way : {X : Type 0} (b : Bool) (x : X) → cond b x x ≡ x
+either-way true x = refl
+either-way false x = refl
+
+-- what a line can't say is as if it weren't sent
+unsaid-stays : {X : Type 0} (own numbers fits : Bool) (then now : X)
+    → cond (own && (not numbers && fits)) then now ≡ cond numbers now (cond (own && fits) then now)
+unsaid-stays true true fits then now = refl
+unsaid-stays true false fits then now = refl
+unsaid-stays false true fits then now = refl
+unsaid-stays false false fits then now = refl
+
 -- ---- a segment that is another
 
 module _ (pattern : MessagingPattern) (name : List ℕ) (old new : Contents) (taken : List ℕ) where
@@ -131,7 +171,7 @@ module _ (pattern : MessagingPattern) (name : List ℕ) (old new : Contents) (ta
       lives = lives;
       falling = falling;
       lies = last-then taken at (λ (one : ℕ) (same : one ≡ number). rw same (
-        record { described = is.described; kind = is.kind; within = is.within },
+        record { version = is.version; said = is.said; described = is.described; kind = is.kind; within = is.within },
         record {
           seated = after;
           stands = lookup-set (is_at (place_cmp (under.digest, number))) old.segments (segment.Open after) (rw stood refl);
@@ -149,7 +189,7 @@ module _ (pattern : MessagingPattern) (name : List ℕ) (old new : Contents) (ta
       lives = lives;
       falling = falling;
       lies = last-then taken at (λ (one : ℕ) (same : one ≡ number). rw same (
-        record { described = is.described; kind = is.kind; within = is.within },
+        record { version = is.version; said = is.said; described = is.described; kind = is.kind; within = is.within },
         lookup-set (is_at (place_cmp (under.digest, number))) old.segments (segment.Emptied (table_node_of by)) (rw stood refl),
       ));
       segments = only-there (segment.Emptied (table_node_of by));
@@ -265,28 +305,39 @@ module _ (types : MessageTypeDetails) (pattern : MessagingPattern) (name : List 
 
     -- ---- a service that is published
 
-    module _ (options : ServiceOptions) where
+    module _ (version : Version) (options : ServiceOptions) where
       abbrev described : MessagingPattern → Description
       described kind = description_of kind name (published_with types name options)
 
       abbrev PublishesAt : Result (Unit {0}) AllocError → Option Entry → Type 0
-      PublishesAt result entry = PublishesForeign (foreign_lock node entry) hash node (described (pattern_of options)) old result new
+      PublishesAt result entry =
+          PublishesForeign version (foreign_lock node entry) hash node (described (pattern_of options)) old result new
 
       abbrev fits : Bool
-      fits = same_pattern (pattern_of options) pattern && are_within_limits (settings_of types options)
+      fits =
+          is_said version (settings_of types options)
+          && (same_pattern (pattern_of options) pattern && are_within_limits (settings_of types options))
+
+      -- the phase after a step that publishes a line of the version
+      abbrev published_so : Phase → Phase
+      published_so (BeingMade life (Foreign by)) =
+          cond (nat_eq by node && fits) (Published life (published_with types name options) ((Foreign node, 1) ∷ []))
+          (BeingMade life (Foreign by))
+      published_so other = other
 
       unpublished : {entry : Entry} (phase : Phase) (result : Result (Unit {0}) AllocError) → PhaseStands pattern name old taken phase
           → entry_at hash old ≡ Some entry → foreign_lock node (Some entry) ≡ None → PublishesAt result (entry_at hash old)
           → After result phase phase
       unpublished {entry} phase result stands lies none h =
           kept result phase stands
-          (subst (λ (found : Option ℕ). PublishesForeign found hash node (described (pattern_of options)) old result new) none
+          (subst (λ (found : Option ℕ). PublishesForeign version found hash node (described (pattern_of options)) old result new) none
           (subst (λ (e : Option Entry). PublishesAt result e) lies h)).1
 
       -- what is published is of the service under the hash just if the machine says that it fits
-      fits-for : HasForm (described (pattern_of options)) → fits ≡ true → IsFor hash (described (pattern_of options))
+      fits-for : HasForm (described (pattern_of options)) → fits ≡ true → IsFor version hash (described (pattern_of options))
       fits-for form is =
-          let split = both _ _ is in
+          let said = both _ _ is in
+          let split = both _ _ said.1 in
           let same : service_hash_of (pattern_of options) name ≡ hash =
           ap (λ (kind : MessagingPattern). service_hash_of kind name) (pattern-is (pattern_of options) pattern split.0) in (
             record {
@@ -298,16 +349,19 @@ module _ (types : MessageTypeDetails) (pattern : MessagingPattern) (name : List 
             },
             same,
             ap (λ (kind : MessagingPattern). service_hash_of kind name) (kind-of types options) ∙ same,
+            said-all version (settings_of types options) said.0,
           )
 
-      for-fits : OwnHash pattern name → IsFor hash (described (pattern_of options)) → fits ≡ true
+      for-fits : OwnHash pattern name → IsFor version hash (described (pattern_of options)) → fits ≡ true
       for-fits own is =
-          and-true _ _ (subst (λ (kind : MessagingPattern). same_pattern kind pattern ≡ true) (sym (own (pattern_of options) is.1))
+          and-true _ _ (all-said version (settings_of types options) is.3)
+          (and-true _ _ (subst (λ (kind : MessagingPattern). same_pattern kind pattern ≡ true) (sym (own (pattern_of options) is.1))
           (pattern-itself pattern))
-          (limits-back types options is.0.limits)
+          (limits-back types options is.0.limits))
 
       published : (life number : ℕ) (by : Node) → OwnHash pattern name → PhaseStands pattern name old taken (BeingMade life by)
-          → IsFor hash (described (pattern_of options)) → new ≡ with_service hash number node (described (pattern_of options)) old
+          → IsFor version hash (described (pattern_of options))
+          → new ≡ with_service version hash number node (described (pattern_of options)) old
           → IsLast (λ at. at ≡ number) taken
           → PhaseStands pattern name new taken (Published life (published_with types name options) ((Foreign node, 1) ∷ []))
       published life number by own stands is new_is at = rw new_is (record {
@@ -315,8 +369,10 @@ module _ (types : MessageTypeDetails) (pattern : MessagingPattern) (name : List 
         falling = stands.falling;
         lies = last-then taken at (λ (one : ℕ) (same : one ≡ number). rw same (
           record {
+            version = version;
+            said = is.3;
             described = lies-there
-                ∙ ap (λ (kind : MessagingPattern). Some (Described number (line (described kind)))) (own (pattern_of options) is.1);
+                ∙ ap (λ (kind : MessagingPattern). Some (Described number (line version (described kind)))) (own (pattern_of options) is.1);
             kind = kind-of types options ∙ own (pattern_of options) is.1;
             within = subst (λ (kind : MessagingPattern). IsWithinLimits (described kind)) (own (pattern_of options) is.1) is.0;
           },
@@ -338,14 +394,15 @@ module _ (types : MessageTypeDetails) (pattern : MessagingPattern) (name : List 
             ∙ stands.segments n (undescribed hash old (last taken stands.lies).1 n refl);
       })
         where
-          lies-there : entry_at hash (with_service hash number node (described (pattern_of options)) old)
-              ≡ Some (Described number (line (described (pattern_of options))))
-          lies-there = lookup-set (is_at (digest_cmp hash.digest)) old.entries (Described number (line (described (pattern_of options))))
+          lies-there : entry_at hash (with_service version hash number node (described (pattern_of options)) old)
+              ≡ Some (Described number (line version (described (pattern_of options))))
+          lies-there = lookup-set (is_at (digest_cmp hash.digest)) old.entries
+              (Described number (line version (described (pattern_of options))))
               (rw (last taken stands.lies).1 refl)
 
       publishes : HasForm (described (pattern_of options)) → OwnHash pattern name → (phase : Phase) (result : Result (Unit {0}) AllocError)
           → PhaseStands pattern name old taken phase → PublishesAt result (entry_at hash old)
-          → After result phase (acted types pattern phase (step.Publish node options))
+          → After result phase (published_so phase)
       publishes form own (Absent lives) result stands h =
           kept result (Absent lives) stands (subst (λ (e : Option Entry). PublishesAt result e) stands.lies h).1
       publishes form own (BeingMade life (Own by)) result stands h =
@@ -358,7 +415,8 @@ module _ (types : MessageTypeDetails) (pattern : MessagingPattern) (name : List 
           there (nat_eq by node) (subst (λ (e : Option Entry). PublishesAt result e) (last taken stands.lies).1 h)
         where
           done : (b : Bool) (result : Result (Unit {0}) AllocError) → b ≡ fits
-              → DoneOrLacking b (with_service hash (last taken stands.lies).0 node (described (pattern_of options)) old) old result new
+              → DoneOrLacking b (with_service version hash (last taken stands.lies).0 node (described (pattern_of options)) old)
+              old result new
               → After result (BeingMade life (Foreign by))
               (cond b (Published life (published_with types name options) ((Foreign node, 1) ∷ [])) (BeingMade life (Foreign by)))
           done true (Ok happened) is h = (
@@ -370,7 +428,7 @@ module _ (types : MessageTypeDetails) (pattern : MessagingPattern) (name : List 
           done false (Ok happened) is h = ([], rw h stands)
           done false (Err lacking) is h = absurd h
 
-          there : (b : Bool) → PublishesForeign (cond b (Some (last taken stands.lies).0) None) hash node
+          there : (b : Bool) → PublishesForeign version (cond b (Some (last taken stands.lies).0) None) hash node
               (described (pattern_of options)) old result new
               → After result (BeingMade life (Foreign by))
               (cond (b && fits) (Published life (published_with types name options) ((Foreign node, 1) ∷ [])) (BeingMade life (Foreign by)))
@@ -378,8 +436,29 @@ module _ (types : MessageTypeDetails) (pattern : MessagingPattern) (name : List 
           there true h =
               done fits result refl
               (subst (λ (b : Bool). DoneOrLacking b
-              (with_service hash (last taken stands.lies).0 node (described (pattern_of options)) old) old result new)
+              (with_service version hash (last taken stands.lies).0 node (described (pattern_of options)) old) old result new)
               (same-bool h.0 fits (λ so. for-fits own (h.1.0 so)) (λ so. h.1.1 (fits-for form so))) h.2)
+
+    -- so it is in the machine
+    said-in-two : (options : ServiceOptions) (phase : Phase)
+        → published_so Two options phase ≡ acted types pattern phase (step.Publish node options)
+    said-in-two options (Absent lives) = refl
+    said-in-two options (BeingMade life (Own by)) = refl
+    said-in-two options (BeingMade life (Foreign by)) = refl
+    said-in-two options (Published life agreed nodes) = refl
+    said-in-two options (Emptied life agreed by) = refl
+
+    said-in-one : (options : ServiceOptions) (phase : Phase)
+        → published_so One options phase ≡ acted types pattern phase (step.PublishV1 node options)
+    said-in-one options (Absent lives) = refl
+    said-in-one options (BeingMade life (Own by)) =
+        sym (either-way (has_numbers (settings_of types options)) (BeingMade life (Own by)))
+    said-in-one options (BeingMade life (Foreign by)) =
+        unsaid-stays (nat_eq by node) (has_numbers (settings_of types options))
+        (same_pattern (pattern_of options) pattern && are_within_limits (settings_of types options))
+        (Published life (published_with types name options) ((Foreign node, 1) ∷ [])) (BeingMade life (Foreign by))
+    said-in-one options (Published life agreed nodes) = refl
+    said-in-one options (Emptied life agreed by) = refl
 
     -- ---- a node that comes
 
@@ -544,7 +623,7 @@ module _ (types : MessageTypeDetails) (pattern : MessagingPattern) (name : List 
     -- ---- a service that is removed
 
     removed : (table : IsTable old) (life : ℕ) (agreed : Agreement) (by : Node) (number : ℕ)
-        → entry_at hash old ≡ Some (Described number (line (description_of pattern name agreed)))
+        → {bytes : List ℕ} → entry_at hash old ≡ Some (Described number bytes)
         → PhaseStands pattern name old taken (Emptied life agreed by)
         → new ≡ without_segment hash number (without_entry hash old) → PhaseStands pattern name new taken (Absent life)
     removed table life agreed by number at stands is = rw is (record {
@@ -587,7 +666,7 @@ module _ (types : MessageTypeDetails) (pattern : MessagingPattern) (name : List 
         (subst (λ (s : Option Segment). new ≡ cond (is_left_by node s) (without_segment hash here.0 (without_entry hash old)) old)
         here.2 found)
       where
-        there : (by number : ℕ) (b : Bool) → entry_at hash old ≡ Some (Described number (line (description_of pattern name agreed)))
+        there : (by number : ℕ) (b : Bool) → {bytes : List ℕ} → entry_at hash old ≡ Some (Described number bytes)
             → PhaseStands pattern name old taken (Emptied life agreed (Foreign by))
             → new ≡ cond b (without_segment hash number (without_entry hash old)) old
             → After result (Emptied life agreed (Foreign by)) (cond b (Absent life) (Emptied life agreed (Foreign by)))
@@ -595,7 +674,7 @@ module _ (types : MessageTypeDetails) (pattern : MessagingPattern) (name : List 
             made result (Emptied life agreed (Foreign by)) (Absent life) ok (removed table life agreed (Foreign by) number at stands h)
         there by number false at stands h = kept result (Emptied life agreed (Foreign by)) stands h
 
-        whose : (by : Node) (number : ℕ) → entry_at hash old ≡ Some (Described number (line (description_of pattern name agreed)))
+        whose : (by : Node) (number : ℕ) → {bytes : List ℕ} → entry_at hash old ≡ Some (Described number bytes)
             → PhaseStands pattern name old taken (Emptied life agreed by)
             → new ≡ cond (is_left_by node (Some (segment.Emptied (table_node_of by))))
             (without_segment hash number (without_entry hash old)) old
@@ -610,7 +689,10 @@ module _ (types : MessageTypeDetails) (pattern : MessagingPattern) (name : List 
       → Acts hash (table_step_of types name named) old result new → After result phase (acted types pattern phase named)
   acts-there (step.Lock node) phase result table form own room stands h = locks node phase result room stands h
   acts-there (step.GiveUp node) phase result table form own room stands h = gives-up node table phase result stands h
-  acts-there (step.Publish node options) phase result table form own room stands h = publishes node options form own phase result stands h
+  acts-there (step.Publish node options) phase result table form own room stands h =
+      subst (After result phase) (said-in-two node options phase) (publishes node Two options form own phase result stands h)
+  acts-there (step.PublishV1 node options) phase result table form own room stands h =
+      subst (After result phase) (said-in-one node options phase) (publishes node One options form own phase result stands h)
   acts-there (step.Register node) phase result table form own room stands h = registers node phase result stands h
   acts-there (step.Leave node) phase result table form own room stands h = leaves node phase result stands h.0 h.1
   acts-there (step.Remove node) phase result table form own room stands h = removes node table phase result stands h.0 h.1

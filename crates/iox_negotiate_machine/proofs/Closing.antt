@@ -106,7 +106,7 @@ module _ (pattern : MessagingPattern) (name : List ℕ) (taken : List ℕ) (node
   itself = eq-eqb number number refl
 
   module _ (mid : Contents) (leaves : Leaves hash old mid) (stays : PhaseStands pattern name mid taken (Emptied life agreed (Own node)))
-      (described : entry_at hash mid ≡ Some (Described number (line (description_of pattern name agreed))))
+      (described : entry_at hash mid ≡ Some (Described number (line here.0.version (description_of pattern name agreed))))
       (seat : segment_at hash number mid ≡ Some (segment.Emptied (table_node.Own node))) where
     -- the description goes first
     removes-first : (answer : RemoveAnswer) (after : Contents) → Sight mid (RemoveDescription hash number answer) after
@@ -229,7 +229,7 @@ module _ (pattern : MessagingPattern) (name : List ℕ) (taken : List ℕ) (node
       emptied pattern name old mid taken life agreed number (segment.Open here.1.seated) stands.lives stands.falling at here.0 here.1.stands
       stands.segments (Own node) mid_is in
       removes-all mid leaves over (subst (λ (t : Contents). entry_at hash t ≡ Some
-      (Described number (line (description_of pattern name agreed)))) (sym mid_is)
+      (Described number (line here.0.version (description_of pattern name agreed)))) (sym mid_is)
       here.0.described)
       (subst (λ (t : Contents). segment_at hash number t ≡ Some (segment.Emptied (table_node.Own node))) (sym mid_is)
       (lookup-set (is_at (place_cmp (hash.digest, number))) old.segments (segment.Emptied (table_node.Own node)) (rw here.1.stands refl)))

@@ -2,7 +2,7 @@
 use Rattle.std.proofs.Common.{◌≡◌, ℕ, ◌-◌, ◌^◌, ◌≤◌, ◌<◌, Bool, true, false, cond, List, [], ◌∷◌, Option, None, Some, is_some, length}
 use Rattle.std.proofs.Common.{nat_lt, refl, sym, ap, subst, ◌∙◌, arith}
 use Rattle.std.specs.List.{AllByRecursion}
-use Rattle.iox_command.specs.NegotiateBase.Describe.Line.{line}
+use Rattle.iox_command.specs.NegotiateBase.Describe.Line.{Spells, line}
 use Rattle.iox_command.specs.NegotiateBase.DescribeBase.Hash.{service_hash_of}
 use Rattle.iox_command.specs.NegotiateBase.DescribeBase.declared.hash.ServiceHash.{ServiceHash}
 use Rattle.iox_command.specs.NegotiateBase.DescribeBase.declared.pattern.MessagingPattern.{MessagingPattern}
@@ -58,11 +58,11 @@ module _ (pattern : MessagingPattern) (name : List ℕ) (table : Contents) where
     Here numbers phase =
         (life : ℕ) × (agreed : Agreement) × (nodes : List (Node × ℕ)) × (phase ≡ Published life agreed nodes)
         × (is_in (Own node) nodes ≡ true)
-        × IsLast (λ one. one ≡ number) numbers × (bytes ≡ line (description_of pattern name agreed))
+        × IsLast (λ one. one ≡ number) numbers × Spells bytes (description_of pattern name agreed)
 
     there : (one life : ℕ) (agreed : Agreement) (nodes : List (Node × ℕ)) → IsDescribed pattern name table agreed one
         → (to : IsOpenTo pattern name table agreed nodes one)
-        → (one ≡ number) × (is_in (Own node) nodes ≡ true) × (bytes ≡ line (description_of pattern name agreed))
+        → (one ≡ number) × (is_in (Own node) nodes ≡ true) × Spells bytes (description_of pattern name agreed)
     there one life agreed nodes is to = (
       number_is,
       own-in node to.seated nodes to.nodes_stand
@@ -70,11 +70,16 @@ module _ (pattern : MessagingPattern) (name : List ℕ) (table : Contents) where
           (same-nodes to.seated is_open.nodes
           (sym (subst (λ (n : ℕ). segment_at hash n table ≡ Some (segment.Open to.seated)) number_is to.stands) ∙ is_open.stands))
           ∙ is_open.is_in,
-      sym (same-bytes one number (line (description_of pattern name agreed)) bytes (sym is.described ∙ is_open.published)),
+      (
+        is.version,
+        is.said,
+        sym (same-bytes one number (line is.version (description_of pattern name agreed)) bytes (sym is.described ∙ is_open.published)),
+      ),
     )
       where
         number_is : one ≡ number
-        number_is = same-number one number (line (description_of pattern name agreed)) bytes (sym is.described ∙ is_open.published)
+        number_is = same-number one number (line is.version (description_of pattern name agreed)) bytes
+            (sym is.described ∙ is_open.published)
 
     pub open-published : (numbers : List ℕ) (phase : Phase) → PhaseStands pattern name table numbers phase → Here numbers phase
     open-published numbers (Absent lives) stands = not-absent number bytes (sym stands.lies ∙ is_open.published)
@@ -87,7 +92,8 @@ module _ (pattern : MessagingPattern) (name : List ℕ) (table : Contents) where
     open-published (one ∷ before) (Emptied life agreed by) stands =
         not-emptied (table_node_of by) is_open.nodes
         (sym (subst (λ (n : ℕ). segment_at hash n table ≡ Some (segment.Emptied (table_node_of by)))
-        (same-number one number (line (description_of pattern name agreed)) bytes (sym stands.lies.0.described ∙ is_open.published))
+        (same-number one number (line stands.lies.0.version (description_of pattern name agreed)) bytes
+        (sym stands.lies.0.described ∙ is_open.published))
         stands.lies.1)
         ∙ is_open.stands)
 
@@ -117,7 +123,8 @@ module _ (pattern : MessagingPattern) (name : List ℕ) (table : Contents) where
         below count has =
             let same : count ≡ times number node held =
             counted-is (times number node held) count
-            (sym (counted hash number node (line (description_of pattern name agreed)) to.seated is.described to.stands) ∙ has) in
+            (sym (counted hash number node (line is.version (description_of pattern name agreed)) to.seated is.described to.stands)
+            ∙ has) in
             omega (arith, same, few, few-times number node held)
 
         by-count : (found : Option ℕ) → factories_of to.seated node ≡ found → HasFewFactories node (Published life agreed nodes)

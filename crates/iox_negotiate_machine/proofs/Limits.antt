@@ -100,7 +100,7 @@ publish_subscribe-within c is =
             (omega arith, ltb-true _ _ publishers.0),
             (
               (omega arith, ltb-true _ _ subscribers.0),
-              ((omega arith, ltb-true _ _ borrowed.0), ((omega arith, ltb-true _ _ buffer.0), (tt, tt))),
+              (tt, ((omega arith, ltb-true _ _ borrowed.0), ((omega arith, ltb-true _ _ buffer.0), (tt, tt)))),
             ),
           ),
         ),
@@ -113,8 +113,8 @@ publish_subscribe-back c within =
     and-true _ _ (lt-ltb _ _ (within 2 publish_subscribe_setting.MaxNodes (omega arith)).1)
     (and-true _ _ (lt-ltb _ _ (within 3 publish_subscribe_setting.MaxNodes (omega arith)).1)
     (and-true _ _ (lt-ltb _ _ (within 4 publish_subscribe_setting.MaxNodes (omega arith)).1)
+    (and-true _ _ (lt-ltb _ _ (within 7 publish_subscribe_setting.MaxNodes (omega arith)).1)
     (and-true _ _ (lt-ltb _ _ (within 6 publish_subscribe_setting.MaxNodes (omega arith)).1)
-    (and-true _ _ (lt-ltb _ _ (within 5 publish_subscribe_setting.MaxNodes (omega arith)).1)
     (lt-ltb _ _ (within 1 publish_subscribe_setting.MaxNodes (omega arith)).1)))))
 
 ruled-within : (types : MessageTypeDetails) (named : ServiceOptions)

@@ -5,6 +5,7 @@ use Rattle.std.proofs.lemmas.Bool.{eq-eqb, eqb-true, lt-ltb}
 use Rattle.std.specs.BTreeMap.{is_at}
 use Rattle.std.specs.declared.alloc.AllocError.{AllocError}
 use Rattle.iox_command.specs.NegotiateBase.Describe.Line.{line}
+use Rattle.iox_command.specs.NegotiateBase.DescribeSettings.declared.description.Version.TheVariants.{One, Two}
 use Rattle.iox_command.specs.NegotiateBase.Describe.Within.{IsWithinLimits}
 use Rattle.iox_command.specs.NegotiateBase.DescribeBase.Hash.{service_hash_of}
 use Rattle.iox_command.specs.NegotiateBase.DescribeBase.declared.hash.ServiceHash.{ServiceHash}
@@ -68,7 +69,9 @@ module _ (hash : ServiceHash) (node number : ℕ) where
   quiet-step (table_step.GiveUp by) old new result lies h =
       subst (λ (e : Option Entry). Done (is_some (foreign_lock by e)) (without_entry hash old) old result new) lies h
   quiet-step (table_step.Publish by agreed) old new result lies h =
-      subst (λ (e : Option Entry). PublishesForeign (foreign_lock by e) hash by agreed old result new) lies h
+      subst (λ (e : Option Entry). PublishesForeign Two (foreign_lock by e) hash by agreed old result new) lies h
+  quiet-step (table_step.PublishV1 by agreed) old new result lies h =
+      subst (λ (e : Option Entry). PublishesForeign One (foreign_lock by e) hash by agreed old result new) lies h
   quiet-step (table_step.Register by) old new result lies h =
       subst (λ (e : Option Entry). RegistersForeign (published_number e) hash by old result new) lies h
   quiet-step (table_step.Leave by) old new result lies h =
@@ -219,18 +222,18 @@ module _ (pattern : MessagingPattern) (name : List ℕ) (old : Contents) (taken 
     }
 
     published : (table after : Contents) → HasLock (Some first) table
-        → Sight table (Publish hash number (line description) publishing.Published) after
-        → after ≡ with_entry hash (Described number (line description)) table → IsPublished after
+        → Sight table (Publish hash number (line Two description) publishing.Published) after
+        → after ≡ with_entry hash (Described number (line Two description)) table → IsPublished after
     published table after lock sight is = (
       record {
         leaves = left-then hash old table after lock.leaves
-            (then-leaves (Publish hash number (line description) publishing.Published) (Some first) table after lock sight);
+            (then-leaves (Publish hash number (line Two description) publishing.Published) (Some first) table after lock sight);
         more = number ∷ lock.more;
         stands = rw is (record {
           lives = omega (arith, lock.lived);
           falling = lock.falling;
           lies = (
-            record { described = there; kind = kind; within = within },
+            record { version = Two; said = tt; described = there; kind = kind; within = within },
             record { seated = first_node node (max_nodes_of agreed.settings); stands = lock.seat; nodes_stand = alone; room = refl },
           );
           segments = λ n isnt. lock.others n (subst (λ (e : Option Entry). is_description_of n e ≡ false) there isnt);
@@ -239,21 +242,22 @@ module _ (pattern : MessagingPattern) (name : List ℕ) (old : Contents) (taken 
       refl,
     )
       where
-        there : entry_at hash (with_entry hash (Described number (line description)) table) ≡ Some (Described number (line description))
-        there = lookup-set (is_at (digest_cmp hash.digest)) table.entries (Described number (line description)) (rw lock.lies refl)
+        there : entry_at hash (with_entry hash (Described number (line Two description)) table)
+            ≡ Some (Described number (line Two description))
+        there = lookup-set (is_at (digest_cmp hash.digest)) table.entries (Described number (line Two description)) (rw lock.lies refl)
 
     publishes : (made : List Access) (attempt : Attempt) (start end : Steps) → HasLock (Some first) start.table
         → creating.Publishes hash number description made attempt → Went SteppedSight start made end → Makes attempt end.table
     publishes (Publish under of bytes answer ∷ rest) attempt start end lock (own, same, spelled, goes) (mid, sight, went) =
         there (may_publish hash number start.table) may there-sight
       where
-        exact : SteppedSight start (Publish hash number (line description) answer) mid
+        exact : SteppedSight start (Publish hash number (line Two description) answer) mid
         exact = subst (λ (b : List ℕ). SteppedSight start (Publish hash number b answer) mid) spelled
             (subst (λ (n : ℕ). SteppedSight start (Publish hash n bytes answer) mid) same
             (subst (λ (h : ServiceHash). SteppedSight start (Publish h of bytes answer) mid) own sight))
 
-        there-sight : Sight start.table (Publish hash number (line description) answer) mid.table
-        there-sight = quiet-access hash node number (Publish hash number (line description) answer) (answer ≡ publishing.OutOfMemory)
+        there-sight : Sight start.table (Publish hash number (line Two description) answer) mid.table
+        there-sight = quiet-access hash node number (Publish hash number (line Two description) answer) (answer ≡ publishing.OutOfMemory)
             start mid
             lock.lies exact
 
@@ -261,7 +265,7 @@ module _ (pattern : MessagingPattern) (name : List ℕ) (old : Contents) (taken 
         may = and-true _ _ (subst (λ (e : Option Entry). is_own_lock number e ≡ true) (sym lock.lies) itself)
             (subst (λ (s : Option Segment). is_some s ≡ true) (sym lock.seat) refl)
 
-        done : answer ≡ publishing.Published → mid.table ≡ with_entry hash (Described number (line description)) start.table
+        done : answer ≡ publishing.Published → mid.table ≡ with_entry hash (Described number (line Two description)) start.table
             → Makes attempt end.table
         done is after =
             let goes_on : creating.PublishGoes hash number description None rest attempt =
@@ -271,7 +275,7 @@ module _ (pattern : MessagingPattern) (name : List ℕ) (old : Contents) (taken 
               subst (λ (s : Steps). IsPublished s.table)
                   (sym (subst (λ (l : List Access). Went SteppedSight mid l end) goes_on.0 went))
                   (published start.table mid.table lock
-                  (subst (λ (a : PublishAnswer). Sight start.table (Publish hash number (line description) a) mid.table) is there-sight)
+                  (subst (λ (a : PublishAnswer). Sight start.table (Publish hash number (line Two description) a) mid.table) is there-sight)
                   after),
             )
 
@@ -281,7 +285,7 @@ module _ (pattern : MessagingPattern) (name : List ℕ) (old : Contents) (taken 
             subst (λ (a : PublishAnswer). creating.PublishGoes hash number description (publishing_failure a) rest attempt) is goes in
             inr (goes_on.1, undoes first rest mid end (subst (λ (t : Contents). HasLock (Some first) t) (sym after) lock) goes_on.0 went)
 
-        there : (b : Bool) → b ≡ true → sights.Publishes b hash number (line description) start.table answer mid.table
+        there : (b : Bool) → b ≡ true → sights.Publishes b hash number (line Two description) start.table answer mid.table
             → Makes attempt end.table
         there false is h = on (sym is)
         there true is (inl h) = done h.0 h.1

@@ -30,11 +30,13 @@ module _ (pattern : MessagingPattern) (name : List ℕ) (table : Contents) where
       (sight ≡ shown.Standing number (description_of pattern name agreed)) ⊎ (sight ≡ shown.Failed failure.OutOfMemory)
 
   -- it is read as what is agreed on, or no memory is found
-  reads : (agreed : Agreement) (number : ℕ) → IsDescribed pattern name table agreed number → (sight : Shown)
-      → IsRead hash number (line (description_of pattern name agreed)) sight → ShowsAgreed agreed number sight
+  reads : (agreed : Agreement) (number : ℕ) (is : IsDescribed pattern name table agreed number) (sight : Shown)
+      → IsRead hash number (line is.version (description_of pattern name agreed)) sight → ShowsAgreed agreed number sight
   reads agreed number is shown.Absent read = absurd read
   reads agreed number is (shown.Standing at given) read
-      = inl (there at given read.0 (same-line given (description_of pattern name agreed) read.1.within is.within (sym read.1.spelled)
+      = inl (there at given read.0
+      (same-line given (description_of pattern name agreed) (line is.version (description_of pattern name agreed))
+      (line is.version (description_of pattern name agreed)) read.1.within is.within read.1.spelled (is.version, is.said, refl) refl
       read.1.own))
     where
       there : (at : ℕ) (given : Description) → at ≡ number → given ≡ description_of pattern name agreed
@@ -44,15 +46,16 @@ module _ (pattern : MessagingPattern) (name : List ℕ) (table : Contents) where
   reads agreed number is (shown.Failed failure.HangsInCreation) read = absurd read
   reads agreed number is (shown.Failed failure.InsufficientPermissions) read = absurd read
   reads agreed number is (shown.Failed failure.ServiceInCorruptedState) read =
-      absurd (read (description_of pattern name agreed) (record { within = is.within; spelled = refl; own = refl }))
+      absurd (read (description_of pattern name agreed) (record { within = is.within; spelled = (is.version, is.said, refl); own = refl }))
   reads agreed number is (shown.Failed failure.OutOfMemory) read = inr refl
 
-  finds : (agreed : Agreement) (number : ℕ) → IsDescribed pattern name table agreed number → (answer : LookAnswer) (sight : Shown)
+  finds : (agreed : Agreement) (number : ℕ) (is : IsDescribed pattern name table agreed number) (answer : LookAnswer) (sight : Shown)
       → Looks (entry_at hash table) answer → IsSight hash answer sight → ShowsAgreed agreed number sight
   finds agreed number is answer sight looks seen =
       there (subst (λ (e : Option Entry). Looks e answer) is.described looks)
     where
-      there : Looks (Some (Described number (line (description_of pattern name agreed)))) answer → ShowsAgreed agreed number sight
+      there : Looks (Some (Described number (line is.version (description_of pattern name agreed)))) answer
+          → ShowsAgreed agreed number sight
       there (inl found) = reads agreed number is sight (subst (λ (a : LookAnswer). IsSight hash a sight) found seen)
       there (inr lacking) = inr (subst (λ (a : LookAnswer). IsSight hash a sight) lacking seen)
 

@@ -12,7 +12,7 @@ use Rattle.iox_command.specs.declared.step.ForeignStep.TheVariants as step
 use Rattle.iox_machine.specs.Agreement.{Agreement, are_within_limits}
 use Rattle.iox_machine.specs.Asked.{settings_of}
 use Rattle.iox_machine.specs.Phase.{Node, Own, Foreign, Phase, Absent, BeingMade, Published, Emptied, same_node, same_pattern, is_in}
-use Rattle.iox_machine.specs.Phase.{entered, left, left_by, acted}
+use Rattle.iox_machine.specs.Phase.{entered, left, left_by, acted, has_numbers, published_by}
 use Rattle.iox_negotiate.proofs.Maps.{no}
 use Rattle.iox_negotiate_machine.proofs.Seats.{Entry, aside, behind, come, node-is}
 use Rattle.iox_negotiate_machine.specs.CallLaws.{HasFewFactories}
@@ -54,6 +54,13 @@ module _ (types : MessageTypeDetails) (pattern : MessagingPattern) (life : ℕ) 
       (same_node by (Foreign node) && (same_pattern (pattern_of options) pattern && are_within_limits (settings_of types options)))
       (Published now (record { settings = settings_of types options; attributes = [] }) ((Foreign node, 1) ∷ [])) (BeingMade now by)
       (λ is. inl since) since
+  since-acted (BeingMade now by) (step.PublishV1 node options) since =
+      by-choice IsSince (has_numbers (settings_of types options)) (BeingMade now by) (published_by types pattern now by node options)
+      (λ is. since)
+      (by-choice IsSince
+      (same_node by (Foreign node) && (same_pattern (pattern_of options) pattern && are_within_limits (settings_of types options)))
+      (Published now (record { settings = settings_of types options; attributes = [] }) ((Foreign node, 1) ∷ [])) (BeingMade now by)
+      (λ is. inl since) since)
   since-acted (Published now other nodes) (step.Register node) since =
       by-choice IsSince (not (is_in (Foreign node) nodes) && nat_lt (length nodes) (max_nodes_of other.settings))
       (Published now other (entered (Foreign node) nodes)) (Published now other nodes) (λ is. since) since
@@ -105,6 +112,13 @@ module _ (types : MessageTypeDetails) (pattern : MessagingPattern) (node : ℕ) 
       (same_node by (Foreign other) && (same_pattern (pattern_of options) pattern && are_within_limits (settings_of types options)))
       (Published now (record { settings = settings_of types options; attributes = [] }) ((Foreign other, 1) ∷ [])) (BeingMade now by)
       (λ is. tt) tt
+  few-acted (BeingMade now by) (step.PublishV1 other options) few =
+      by-choice (HasFewFactories node) (has_numbers (settings_of types options)) (BeingMade now by)
+      (published_by types pattern now by other options) (λ is. tt)
+      (by-choice (HasFewFactories node)
+      (same_node by (Foreign other) && (same_pattern (pattern_of options) pattern && are_within_limits (settings_of types options)))
+      (Published now (record { settings = settings_of types options; attributes = [] }) ((Foreign other, 1) ∷ [])) (BeingMade now by)
+      (λ is. tt) tt)
   few-acted (Published now agreed nodes) (step.Register other) few =
       by-choice (HasFewFactories node) (not (is_in (Foreign other) nodes) && nat_lt (length nodes) (max_nodes_of agreed.settings))
       (Published now agreed (entered (Foreign other) nodes)) (Published now agreed nodes)

@@ -48,6 +48,7 @@ asked_publish_subscribe types attributes named = record {
   types = types;
   attributes = attributes;
   enable_safe_overflow = named.enable_safe_overflow;
+  sequence_numbers = named.sequence_numbers;
   max_publishers = named.max_publishers;
   max_subscribers = named.max_subscribers;
   subscriber_max_buffer_size = named.subscriber_max_buffer_size;
@@ -217,12 +218,13 @@ module _ (types : MessageTypeDetails) (attributes : Required) where
           next _ _ _ _ _ refl
           (next _ _ _ _ _ (have-required attributes agreed.attributes)
           (next _ _ _ _ _ (met-switch named.enable_safe_overflow c.enable_safe_overflow)
+          (next _ _ _ _ _ (met-switch named.sequence_numbers c.sequence_numbers)
           (next _ _ _ _ _ (met-number named.max_publishers c.max_publishers)
           (next _ _ _ _ _ (met-number named.max_subscribers c.max_subscribers)
           (next _ _ _ _ _ (met-number named.subscriber_max_buffer_size c.subscriber_max_buffer_size)
           (next _ _ _ _ _ (met-number named.history_size c.history_size)
           (next _ _ _ _ _ (met-number named.subscriber_max_borrowed_samples c.subscriber_max_borrowed_samples)
-          (next _ _ _ _ _ (met-number named.max_nodes c.max_nodes) refl))))))))
+          (next _ _ _ _ _ (met-number named.max_nodes c.max_nodes) refl)))))))))
 
   pub event-verdict : (named : EventOptions) (agreed : Agreement)
       → first_unmet (event_clauses.clauses_of (asked_event attributes named) agreed.attributes agreed.settings)

@@ -1,7 +1,7 @@
 -- What the open factories of a table are in the phases of the machine.
 use Rattle.std.specs.Prelude.{ℕ, ◌-◌, ◌^◌, ◌≡◌, ◌<◌, true, List, length}
 use Rattle.std.specs.List.{IsAmong}
-use Rattle.iox_command.specs.NegotiateBase.Describe.Line.{line}
+use Rattle.iox_command.specs.NegotiateBase.Describe.Line.{Spells}
 use Rattle.iox_command.specs.NegotiateBase.DescribeBase.Hash.{service_hash_of}
 use Rattle.iox_command.specs.NegotiateBase.DescribeBase.declared.pattern.MessagingPattern.{MessagingPattern}
 use Rattle.iox_machine.specs.Agreement.{Agreement}
@@ -16,14 +16,14 @@ use Rattle.iox_negotiate_table.specs.Laws.{IsOpenIn}
 
 module _ (T : Type 0) where
   -- What is open for a node in a table is a service that is published in the machine: the node is in it, its number is the one that was
-  -- taken last, and what lies there is the line of what is agreed on.
+  -- taken last, and what lies there spells what is agreed on.
   abbrev pub OpenIsPublished : Type 0
   OpenIsPublished = (names : List (List ℕ)) (pattern : MessagingPattern) (name : List ℕ) (node number : ℕ) (bytes : List ℕ)
       (taken : MessagingPattern → List ℕ → List ℕ) (table : Contents) (state : State T)
       → IsAmong names name → TableStands names taken table state → IsOpenIn (service_hash_of pattern name) number node bytes table
       → (life : ℕ) × (agreed : Agreement) × (nodes : List (Node × ℕ)) × (state.phases pattern name ≡ Published life agreed nodes)
       × (is_in (Own node) nodes ≡ true) × IsLast (λ last. last ≡ number) (taken pattern name)
-      × (bytes ≡ line (description_of pattern name agreed))
+      × Spells bytes (description_of pattern name agreed)
 
   -- Where the table counts just these open factories, and they are fewer than 2 ^ 64 - 1, each node may get one more of any service.
   abbrev pub FewAreOpen : Type 0

@@ -46,6 +46,8 @@ module _ (types : MessageTypeDetails) (name : List ℕ) where
   table_step_of (step.Lock node) = table_step.Lock node
   table_step_of (step.GiveUp node) = table_step.GiveUp node
   table_step_of (step.Publish node options) = table_step.Publish node (description_of (pattern_of options) name (published_with options))
+  table_step_of (step.PublishV1 node options) =
+      table_step.PublishV1 node (description_of (pattern_of options) name (published_with options))
   table_step_of (step.Register node) = table_step.Register node
   table_step_of (step.Leave node) = table_step.Leave node
   table_step_of (step.Remove node) = table_step.Remove node
@@ -53,6 +55,7 @@ module _ (types : MessageTypeDetails) (name : List ℕ) where
   -- What a step publishes has the form of a description. So it has of any name, types and numbers of the code (`parts_have_form`).
   abbrev pub HasStepForm : ForeignStep → Type 0
   HasStepForm (step.Publish node options) = HasForm (description_of (pattern_of options) name (published_with options))
+  HasStepForm (step.PublishV1 node options) = HasForm (description_of (pattern_of options) name (published_with options))
   HasStepForm other = Unit {0}
 
 -- what is replied to steps that were done, or of which one found no memory

@@ -6,6 +6,8 @@ use Rattle.iox_command.specs.NegotiateBase.Describe.Within.{IsWithinLimits}
 use Rattle.iox_command.specs.NegotiateBase.DescribeBase.Hash.{service_hash_of}
 use Rattle.iox_command.specs.NegotiateBase.DescribeBase.declared.pattern.MessagingPattern.{MessagingPattern}
 use Rattle.iox_command.specs.NegotiateBase.DescribeSettings.Agreement.{Agreement as Description, agreement, max_nodes_of, pattern_of}
+use Rattle.iox_command.specs.NegotiateBase.DescribeSettings.Versions.{HasAll}
+use Rattle.iox_command.specs.NegotiateBase.DescribeSettings.declared.description.Version.{Version}
 use Rattle.iox_machine.specs.Agreement.{Agreement}
 use Rattle.iox_machine.specs.AgreementLaws.{life_of}
 use Rattle.iox_machine.specs.Phase.{Node, Own, Foreign, Phase, Absent, BeingMade, Published, Emptied, same_node}
@@ -53,9 +55,12 @@ module _ (pattern : MessagingPattern) (name : List ℕ) where
   description_of agreed = agreement name (service_hash_of pattern name) agreed.settings agreed.attributes
 
   module _ (table : Contents) where
-    -- What nodes agree on is published under a number: its line lies under the hash, is within the limits, and has the pattern.
+    -- What nodes agree on is published under a number: its line lies under the hash, of a version that has all of it; it is within the
+    -- limits, and has the pattern.
     pub record IsDescribed (agreed : Agreement) (number : ℕ) : Type 0 where
-      pub described : entry_at (service_hash_of pattern name) table ≡ Some (Described number (line (description_of agreed)))
+      pub version : Version
+      pub said : HasAll version agreed.settings
+      pub described : entry_at (service_hash_of pattern name) table ≡ Some (Described number (line version (description_of agreed)))
       pub kind : pattern_of agreed.settings ≡ pattern
       pub within : IsWithinLimits (description_of agreed)
 

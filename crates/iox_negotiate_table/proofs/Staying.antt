@@ -5,6 +5,9 @@ use Rattle.std.specs.declared.alloc.AllocError.{AllocError}
 use Rattle.std.specs.Ordering.{nat_cmp}
 use Rattle.std.specs.BTreeMap.{is_at}
 use Rattle.iox_negotiate_base.specs.DescribeBase.declared.hash.ServiceHash.{ServiceHash}
+use Rattle.iox_negotiate_base.specs.DescribeSettings.Agreement.{Agreement}
+use Rattle.iox_negotiate_base.specs.DescribeSettings.declared.description.Version.{Version}
+use Rattle.iox_negotiate_base.specs.DescribeSettings.declared.description.Version.TheVariants.{One, Two}
 use Rattle.iox_negotiate_table.specs.declared.node.Node.TheVariants.{Foreign}
 use Rattle.iox_negotiate_table.specs.declared.entry.Entry.TheVariants.{Described}
 use Rattle.iox_negotiate_table.specs.declared.segment.Segment.{Segment}
@@ -108,6 +111,17 @@ module _ (Q : Nodes → Type 0) (of_own : (nodes : Nodes) (foreign : List ℕ) �
       closed false any is = changed old new (without_foreign by is_open.nodes) is_open is
           (of_own is_open.nodes (without_foreign by is_open.nodes).foreign is_open.seated) (omega (arith, shorter, is_open.few))
 
+  -- a foreign node has no lock where a service stands
+  not-published : (version : Version) (by : ℕ) (agreed : Agreement) (old new : Contents) (result : Result (Unit {0}) AllocError)
+      → IsSeated Q hash number bytes old → PublishesForeign version (foreign_lock by (entry_at hash old)) hash by agreed old result new
+      → IsSeated Q hash number bytes new
+  not-published version by agreed old new result is_open h
+      = unchanged old new is_open (publishes
+      (subst (λ e. PublishesForeign version (foreign_lock by e) hash by agreed old result new) is_open.published h))
+    where
+      publishes : PublishesForeign version (foreign_lock by (Some (Described number bytes))) hash by agreed old result new → new ≡ old
+      publishes h = h.1
+
   pub stays-seated : (step : ForeignStep) (old new : Contents) (result : Result (Unit {0}) AllocError)
       → IsSeated Q hash number bytes old → Acts hash step old result new
       → IsSeated Q hash number bytes new
@@ -119,12 +133,8 @@ module _ (Q : Nodes → Type 0) (of_own : (nodes : Nodes) (foreign : List ℕ) �
     where
       gives : Done (is_some (foreign_lock by (Some (Described number bytes)))) (without_entry hash old) old result new → new ≡ old
       gives h = h.1
-  stays-seated (step.Publish by agreed) old new result is_open h
-      = unchanged old new is_open (publishes
-      (subst (λ e. PublishesForeign (foreign_lock by e) hash by agreed old result new) is_open.published h))
-    where
-      publishes : PublishesForeign (foreign_lock by (Some (Described number bytes))) hash by agreed old result new → new ≡ old
-      publishes h = h.1
+  stays-seated (step.Publish by agreed) old new result is_open h = not-published Two by agreed old new result is_open h
+  stays-seated (step.PublishV1 by agreed) old new result is_open h = not-published One by agreed old new result is_open h
   stays-seated (step.Register by) old new result is_open h
       = registers (subst (λ e. RegistersForeign (published_number e) hash by old result new) is_open.published h)
     where

@@ -5,6 +5,9 @@ use Rattle.std.specs.declared.alloc.AllocError.{AllocError}
 use Rattle.iox_negotiate_base.specs.DescribeBase.Hash.{service_hash_of}
 use Rattle.iox_negotiate_base.specs.DescribeBase.declared.hash.ServiceHash.{ServiceHash}
 use Rattle.iox_negotiate_base.specs.DescribeSettings.Agreement.{Agreement, max_nodes_of, pattern_of}
+use Rattle.iox_negotiate_base.specs.DescribeSettings.Versions.{HasAll}
+use Rattle.iox_negotiate_base.specs.DescribeSettings.declared.description.Version.{Version}
+use Rattle.iox_negotiate_base.specs.DescribeSettings.declared.description.Version.TheVariants.{One, Two}
 use Rattle.iox_negotiate_base.specs.Describe.Line.{line}
 use Rattle.iox_negotiate_base.specs.Describe.Within.{IsWithinLimits}
 use Rattle.iox_negotiate_table.specs.declared.node.Node.TheVariants.{Foreign}
@@ -13,7 +16,7 @@ use Rattle.iox_negotiate_table.specs.declared.entry.Entry.TheVariants.{Locked, D
 use Rattle.iox_negotiate_table.specs.declared.segment.Segment.{Segment}
 use Rattle.iox_negotiate_table.specs.declared.segment.Segment.TheVariants.{Open}
 use Rattle.iox_negotiate_table.specs.declared.step.ForeignStep.{ForeignStep}
-use Rattle.iox_negotiate_table.specs.declared.step.ForeignStep.TheVariants.{Lock, GiveUp, Publish, Register, Leave, Remove}
+use Rattle.iox_negotiate_table.specs.declared.step.ForeignStep.TheVariants.{Lock, GiveUp, Publish, PublishV1, Register, Leave, Remove}
 use Rattle.iox_negotiate_table.specs.Nodes.{first_foreign}
 use Rattle.iox_negotiate_table.specs.Segments.{RegistersIn, after_foreign_leave, is_emptied_by}
 use Rattle.iox_negotiate_table.specs.Contents.{Contents, entry_at, segment_at, with_entry, without_entry, with_new_segment, with_segment}
@@ -42,22 +45,24 @@ published_number (Some (Described number bytes)) = Some number
 published_number entry = None
 
 -- The description is within the limits, and of the service that lies under this hash: its pattern and its name have the hash, and it
--- states no other.
-abbrev pub IsFor : ServiceHash → Agreement → Type 0
-IsFor hash agreed =
+-- states no other; and a line of the version has all of it.
+abbrev pub IsFor : Version → ServiceHash → Agreement → Type 0
+IsFor version hash agreed =
     IsWithinLimits agreed × (agreed.service_hash ≡ hash) × (service_hash_of (pattern_of agreed.settings) agreed.name ≡ hash)
+    × HasAll version agreed.settings
 
--- the service stands, with this foreign node in it
-abbrev pub with_service : ServiceHash → ℕ → ℕ → Agreement → Contents → Contents
-with_service hash number node agreed table =
-    with_entry hash (Described number (line agreed))
+-- the service stands with its line of the version, and this foreign node in it
+abbrev pub with_service : Version → ServiceHash → ℕ → ℕ → Agreement → Contents → Contents
+with_service version hash number node agreed table =
+    with_entry hash (Described number (line version agreed))
     (with_new_segment hash number (Open (first_foreign node (max_nodes_of agreed.settings))) table)
 
--- where the node has the lock, its description is published, if it is one of the service under this hash
-abbrev pub PublishesForeign : Option ℕ → ServiceHash → ℕ → Agreement → Contents → Result (Unit {0}) AllocError → Contents → Type 0
-PublishesForeign (Some number) hash node agreed old result new =
-    (fits : Bool) × (IsTrue fits ↔ IsFor hash agreed) × DoneOrLacking fits (with_service hash number node agreed old) old result new
-PublishesForeign None hash node agreed old result new = (result ≡ Ok tt) × (new ≡ old)
+-- where the node has the lock, a line of the version is published, if it is one of the service under this hash
+abbrev pub PublishesForeign : Version → Option ℕ → ServiceHash → ℕ → Agreement → Contents → Result (Unit {0}) AllocError → Contents → Type 0
+PublishesForeign version (Some number) hash node agreed old result new =
+    (fits : Bool) × (IsTrue fits ↔ IsFor version hash agreed)
+    × DoneOrLacking fits (with_service version hash number node agreed old) old result new
+PublishesForeign version None hash node agreed old result new = (result ≡ Ok tt) × (new ≡ old)
 
 -- the node comes into the segment
 abbrev pub RegistersAt : Option Segment → ServiceHash → ℕ → ℕ → Contents → Result (Unit {0}) AllocError → Contents → Type 0
@@ -95,7 +100,10 @@ Acts hash (Lock node) old result new =
     DoneOrLacking (not (is_some (entry_at hash old)) && not (nat_eq old.next (2 ^ 64 - 1))) (with_lock hash (Foreign node) old) old
     result new
 Acts hash (GiveUp node) old result new = Done (is_some (foreign_lock node (entry_at hash old))) (without_entry hash old) old result new
-Acts hash (Publish node agreed) old result new = PublishesForeign (foreign_lock node (entry_at hash old)) hash node agreed old result new
+Acts hash (Publish node agreed) old result new =
+    PublishesForeign Two (foreign_lock node (entry_at hash old)) hash node agreed old result new
+Acts hash (PublishV1 node agreed) old result new =
+    PublishesForeign One (foreign_lock node (entry_at hash old)) hash node agreed old result new
 Acts hash (Register node) old result new = RegistersForeign (published_number (entry_at hash old)) hash node old result new
 Acts hash (Leave node) old result new = (result ≡ Ok tt) × (new ≡ after_leaving (published_number (entry_at hash old)) hash node old)
 Acts hash (Remove node) old result new = (result ≡ Ok tt) × (new ≡ after_removal (published_number (entry_at hash old)) hash node old)

@@ -5,6 +5,7 @@ ghost use Rattle.iox_negotiate_table.specs.Contents.{entry_at, segment_at, with_
 ghost use Rattle.iox_negotiate_table.specs.Foreign.{Acts, DoneOrLacking, Done, foreign_lock, published_number, IsFor, PublishesForeign};
 ghost use Rattle.iox_negotiate_table.specs.Foreign.{with_service, RegistersAt, RegistersForeign, left_at, after_leaving, is_left_by};
 ghost use Rattle.iox_negotiate_table.specs.Foreign.{after_removal};
+ghost use Rattle.iox_negotiate_base.specs.DescribeSettings.Versions.{HasAll};
 
 use crate::entry::Entry;
 use crate::node::Node;
@@ -12,7 +13,9 @@ use crate::registry::Registry;
 use crate::segment::Segment;
 use crate::step::ForeignStep;
 use crate::table::Table;
-use iox_describe::{Description, ServiceHash, encode, is_within_limits, service_hash};
+use iox_describe::{
+    Description, ServiceHash, Version, encode_as, has_all, is_within_limits, service_hash,
+};
 use iox_negotiate_base::{LockAnswer, StoredDescription};
 use std::alloc::AllocError;
 
@@ -29,7 +32,10 @@ impl Table {
                 Ok(())
             }
             ForeignStep::Publish { node, description } => {
-                self.publish_foreign(hash, *node, description)
+                self.publish_foreign(Version::Two, hash, *node, description)
+            }
+            ForeignStep::PublishV1 { node, description } => {
+                self.publish_foreign(Version::One, hash, *node, description)
             }
             ForeignStep::Register { node } => self.register(hash, *node),
             ForeignStep::Leave { node } => {
@@ -80,34 +86,38 @@ impl Table {
 
     fn publish_foreign(
         &mut self,
+        version: Version,
         hash: &ServiceHash,
         node: u64,
         description: &Description,
     ) -> Result<(), AllocError>
-        ensures { PublishesForeign (foreign_lock node (entry_at hash.now self.old)) hash.now node description.now self.old result self.new }
+        ensures { PublishesForeign version (foreign_lock node (entry_at hash.now self.old)) hash.now node description.now self.old result
+            self.new }
     {
         let Some(number) = self.foreign_lock(hash, node) else {
             return Ok(());
         };
-        if !is_for(hash, description) {
+        if !is_for(version, hash, description) {
             return Ok(());
         }
-        self.publish_at(hash, number, node, description)
+        self.publish_at(version, hash, number, node, description)
     }
 
     // Puts description and segment of the foreign node's service in the place of its lock.
     fn publish_at(
         &mut self,
+        version: Version,
         hash: &ServiceHash,
         number: u64,
         node: u64,
         description: &Description,
     ) -> Result<(), AllocError>
-        requires { IsSome (entry_at hash.now self.old) }
-        ensures ok { OnOk result (self.new ≡ with_service hash.now number node description.now self.old) }
+        requires stands { IsSome (entry_at hash.now self.old) }
+        requires whole { HasAll version description.now.settings }
+        ensures ok { OnOk result (self.new ≡ with_service version hash.now number node description.now self.old) }
         ensures err { OnErr result (self.new ≡ self.old) }
     {
-        let bytes = encode(self.alloc, description)?;
+        let bytes = encode_as(self.alloc, version, description)?;
         let registry = Registry::of_foreign(self.alloc, node, description.max_nodes())?;
         self.insert_segment(hash, number, Segment::Open(registry))?;
         self.set_description(hash, number, StoredDescription::new(bytes));
@@ -185,10 +195,11 @@ impl Table {
 
 // Whether the description is within the limits, and of the service that lies under this hash: a description that was read may
 // state the hash of another service than its own.
-fn is_for(hash: &ServiceHash, description: &Description) -> bool
-    ensures { IsTrue result ↔ IsFor hash.now description.now }
+fn is_for(version: Version, hash: &ServiceHash, description: &Description) -> bool
+    ensures { IsTrue result ↔ IsFor version hash.now description.now }
 {
     is_within_limits(description)
         && *description.service_hash() == *hash
         && service_hash(description.pattern(), description.name()) == *hash
+        && has_all(version, description.settings())
 }

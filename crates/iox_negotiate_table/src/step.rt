@@ -12,6 +12,9 @@ pub enum ForeignStep {
     /// Where the node has the lock, and the description is of the service under this hash, by its pattern and its name and as it
     /// states itself, and within the limits, it is published, and the node is in.
     Publish { node: u64, description: Description },
+    /// The same with a line of the first version, which can't say that messages have sequence numbers: it doesn't fit where the
+    /// description says so.
+    PublishV1 { node: u64, description: Description },
     /// Where a service stands, the node is not in and there is room, it comes in.
     Register { node: u64 },
     /// Where the node is in, it leaves.

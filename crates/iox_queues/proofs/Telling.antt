@@ -1,13 +1,15 @@
 -- A step that was made is one event of the party that was asked, and ends one call at most, the one that was begun.
-use Rattle.std.proofs.Common.{◌≡◌, ℕ, ◌<◌, Bool, true, false, nat_lt, ◌&&◌, Option, Some, None, List, [], ◌++◌, length, set, refl}
-use Rattle.std.proofs.Common.{◌∙◌, ap}
+use Rattle.std.proofs.Common.{◌≡◌, ℕ, ◌<◌, Bool, true, false, nat_lt, ◌&&◌, Option, Some, None, List, [], ◌++◌, length, set, drop, refl}
+use Rattle.std.proofs.Common.{◌∙◌, ap, subst}
 use Rattle.std.proofs.Common.{append-nil}
 use Rattle.std.proofs.lemmas.Bool.{and_parts, ltb-true}
 use Rattle.iox_queues_steps.specs.Access.{answer_of}
 use Rattle.iox_queues_steps.specs.declared.access.Access.TheVariants.{Local}
 use Rattle.iox_queues_steps.specs.declared.schedule.Stepped.{Stepped}
 use Rattle.iox_queues.specs.Steps.{call_begun, call_is_over, call_next, call_take}
-use Rattle.iox_queues.specs.Machine.{SetState, StepsTo, begun, call_ended, ends, fits, happens, seat_at, stage_at, went}
+use Rattle.iox_queues.specs.Kept.{IsKept, Knows}
+use Rattle.iox_queues.specs.Told.{own}
+use Rattle.iox_queues.specs.Machine.{IsTold, SetState, StepsTo, begun, call_ended, ends, fits, happens, seat_at, stage_at, went}
 use Rattle.iox_queues.specs.Asked.{TellsStep, call_in_hand, call_of_step, calls_of, hands, party_of}
 use Rattle.iox_queues.specs.Spans.{AddsOne}
 use Rattle.iox_queues.specs.Turns.{EndsOne, LeavesCalls}
@@ -116,3 +118,10 @@ ended m (GoOn party) fit over =
 pub steps_tell : (m : SetState) (step : Move) (r : Stepped) (n : SetState) → StepsTo m step r n → TellsStep m step r n
 steps_tell m step r n h = steps_tell_calls SetState Move fits ends happens Call Finished calls_of m step (party_of step)
     (call_of_step m step) (λ fit. made_step m step) (goes m step) (ended m step) r n h
+
+pub all_told : (m : SetState) → IsKept m → IsTold m
+all_told m k = (
+  k.told,
+  λ party c answer is.
+      subst (Knows m.max (length m.words.cells) (own party (drop (seat_at m.seats party).first m.events))) is (k.knows party),
+)

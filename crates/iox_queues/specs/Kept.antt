@@ -1,7 +1,7 @@
 -- What every step of a set's machine keeps.
 use Rattle.std.specs.Prelude.{ℕ, ◌≡◌, ◌+◌, ◌<◌, ◌≤◌, ◌^◌, Bool, true, false, List, length, drop}
 use Rattle.std.specs.List.{list_any}
-use Rattle.iox_queues.specs.Machine.{SetState, IsBalanced, IsTold, seat_at, stage_at}
+use Rattle.iox_queues.specs.Machine.{SetState, AreTold, IsBalanced, seat_at, stage_at}
 use Rattle.iox_queues.specs.Asked.{ChangesByActs, StepsAreOfCalls, IsRecorded}
 use Rattle.iox_queues.specs.Sums.{cleared, taken_out}
 use Rattle.iox_queues.specs.Told.{AddNone, TakeNone, Tells, finds_none, own}
@@ -41,7 +41,7 @@ Knows max n events (Done c answer) = Tells max n c answer events
 -- is of one call, and places change by acts alone
 pub record IsKept (m : SetState) : Type 0 where
   pub balanced : IsBalanced m
-  pub told : IsTold m
+  pub told : AreTold m.max (length m.words.cells) m.events m.finished
   pub few : length m.words.cells < 2 ^ 64
   pub small : m.max < 2 ^ 64
   pub knows : (party : ℕ) → Knows m.max (length m.words.cells) (own party (drop (seat_at m.seats party).first m.events))

@@ -8,6 +8,7 @@ use Rattle.iox_queues.specs.Steps.{call_begun, call_next, call_take, call_is_idl
 use Rattle.iox_queues.specs.Sums.{increments, taken_out, cleared}
 use Rattle.iox_queues.specs.Told.{Tells, own}
 use Rattle.iox_queues.specs.Turns.{RunsBy, StepsBy}
+use Rattle.iox_queues.specs.declared.bits.call.Answer.{Answer}
 use Rattle.iox_queues.specs.declared.bits.call.Call.{Call}
 use Rattle.iox_queues.specs.declared.bits.call.Call.TheVariants as call
 use Rattle.iox_queues.specs.declared.bits.call.SetCall.{SetCall}
@@ -125,9 +126,11 @@ abbrev pub AreTold : ℕ → ℕ → List Event → List Finished → Type 0
 AreTold max n events [] = Unit {0}
 AreTold max n events (f ∷ finished) = IsToldBy max n events f × AreTold max n events finished
 
--- each call that ended did what it answered
+-- each call that ended did what it answered, so one in hand that has its answer
 abbrev pub IsTold : SetState → Type 0
 IsTold m = AreTold m.max (length m.words.cells) m.events m.finished
+    × ((party : ℕ) (c : Call) (answer : Answer) → stage_at m.seats party ≡ Done c answer
+    → Tells m.max (length m.words.cells) c answer (own party (drop (seat_at m.seats party).first m.events)))
 
 -- the words of an empty set of so many places
 abbrev pub start_words : ℕ → RingWords

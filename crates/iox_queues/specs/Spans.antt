@@ -70,6 +70,12 @@ pub record AreOfCalls (events : List Event) (ended : List Span) (going : ℕ →
   pub within : AreWithin events ended
   pub begun : (party first : ℕ) → going party ≡ Some first → first < length events
 
+-- each step is one of one call: the steps of a party are those of its calls, one call after the other
+pub record EachIsOfCall (events : List Event) (ended : List Span) (going : ℕ → Option ℕ) : Type 0 where
+  pub steps : (party : ℕ) → own party events ≡ spans party events ended ++ span_in_hand party events (going party)
+  pub within : AreWithin events ended
+  pub begun : (party first : ℕ) → going party ≡ Some first → first < length events
+
 -- one more event behind the others, of the party that was asked
 pub record AddsOne (before after : List Event) (party : ℕ) : Type 0 where
   pub event : Event

@@ -55,7 +55,7 @@ visited_call : (n i count : ℕ) → member_in_hand (visited n i count) ≡ Some
 visited_call n i count = either_call (is_shown count) (stage.Gather i count 0) _ (Some call.Update) refl (visits_call n (successor i))
 
 module _ (n width saw : ℕ) (got : Option Answer) where
-  same_call : (s : ContainerCall) (answer : ℕ) → member_is_over s ≡ false
+  pub same_call : (s : ContainerCall) (answer : ℕ) → member_is_over s ≡ false
       → member_in_hand (member_take n width saw got s answer) ≡ member_in_hand s
   same_call stage.Idle answer going = refl
   same_call (stage.Enter number owner) answer going = entered_call number owner got
@@ -77,7 +77,7 @@ module _ (n width saw : ℕ) (got : Option Answer) where
       (either_call (answer == seen) _ _ (Some call.Update) (visits_call n (successor i)) (visited_call n i answer))
   same_call (stage.Done c a) answer going = absurd (cc)
 
-begun_call : (c : MemberCall) → member_in_hand (member_begun c) ≡ Some c
+pub begun_call : (c : MemberCall) → member_in_hand (member_begun c) ≡ Some c
 begun_call (call.Add number owner) = refl
 begun_call (call.Remove owner index mode) = refl
 begun_call call.Update = refl

@@ -1,5 +1,6 @@
 -- Every step of a container's machine keeps what the machine keeps.
-use Rattle.std.proofs.Common.{◌≡◌, ℕ, ◌+◌, ◌*◌, ◌<◌, ◌≤◌, Bool, true, false, not, if◌then◌else◌, ◌==◌, ◌&&◌, nat_lt, None, Some}
+use Rattle.std.proofs.Common.{◌≡◌, ℕ, ◌+◌, ◌*◌, ◌<◌, ◌≤◌, Bool, true, false, not, if◌then◌else◌, ◌==◌, ◌&&◌, nat_lt, Option, None}
+use Rattle.std.proofs.Common.{Some}
 use Rattle.std.proofs.Common.{List, [], ◌∷◌, ◌++◌, length, slice_index, take, drop, refl, sym, ◌∙◌, ap, subst, arith, length-append}
 use Rattle.std.specs.Global.{Vec}
 use Rattle.std.proofs.Math.Seq.{drop-append_seam, take-append_seam}
@@ -20,9 +21,12 @@ use Rattle.iox_robust_steps.specs.ContainerMachine.{ContainerParts, HasFewMoves,
 use Rattle.iox_robust_steps.specs.ContainerMachine.{may_ask, may_call, member_begins, member_ended, member_fits, member_happens}
 use Rattle.iox_robust_steps.specs.ContainerMachine.{member_seat, member_stage, member_went, seat_after, width_of}
 use Rattle.iox_robust_steps.specs.ContainerTold.{times_counted}
-use Rattle.iox_robust_steps.specs.ContainerKept.{KnowsMember, MembersAreKept, MembersAreSound}
+use Rattle.iox_robust_steps.specs.ContainerOfSet.{AnsweredCall, answered_to, asked_for, asked_so_far}
+use Rattle.iox_robust_steps.specs.ContainerStays.{LetsPassSoFar, whose_after}
+use Rattle.iox_robust_steps.specs.ContainerKept.{FitsWhose, KnowsMember, MembersAreKept, MembersAreSound}
+use Rattle.iox_robust_steps.specs.Kept.{IsConsistent}
 use Rattle.iox_robust_steps.specs.Changes.{is_owner}
-use Rattle.iox_robust_steps.specs.Machine.{begun, is_holder, is_lost, may_begin, place_of, stage_at}
+use Rattle.iox_robust_steps.specs.Machine.{HasFewSteps, begun, is_holder, is_lost, may_begin, place_of, seat_at, stage_at}
 use Rattle.iox_robust_steps.specs.Machine as robust
 use Rattle.iox_robust_steps.specs.Steps.{call_begun, call_in_hand, call_is_idle}
 use Rattle.iox_robust_steps.specs.declared.call.Call.TheVariants as set_call
@@ -40,9 +44,12 @@ use Rattle.iox_robust_steps.specs.declared.state.Place.TheVariants as place
 use Rattle.iox_robust_steps.specs.declared.state.Seat.{Seat}
 use Rattle.iox_robust_steps.proofs.ContainerGoing.{MemberMade, leaves_all_members}
 use Rattle.iox_robust_steps.proofs.ContainerLeaves.{LeavesMembers, knows_member_else}
+use Rattle.iox_robust_steps.proofs.ContainerOfCalls.{member_begun_counted, member_went_counted}
+use Rattle.iox_robust_steps.proofs.ContainerOfSet.{AsksFor, else_asks, own_asks}
 use Rattle.iox_robust_steps.proofs.ContainerRuns.{KnowsAt, SetStays, acquires, asked, either_seat, ended_told, makes, saw_on, stays}
 use Rattle.iox_robust_steps.proofs.ContainerRuns.{told_append, told_on}
 use Rattle.iox_robust_steps.proofs.ContainerSeats.{each_member_seat}
+use Rattle.iox_robust_steps.proofs.ContainerStays.{each_append, each_on, ended_passes, goes, own_passes, stays_more, whose_more}
 use Rattle.iox_robust_steps.proofs.ContainerWords.{count_position, more_counted}
 use Rattle.iox_robust_steps.proofs.Ending.{same_cells}
 use Rattle.iox_robust_steps.proofs.Seats.{seat_here}
@@ -150,8 +157,75 @@ module _ (m : ContainerParts) (party : ℕ) (fit : member_fits m (GoOn party) �
             (λ (q : ℕ) (t : MemberSeat). t.saw ≡ times_counted (take t.since x.events)) m.seats party
             (seat_after seat next answer (length m.events)) there (λ q. (s.saw q, k.since q))
             (λ q differs h. saw_on m e (member_seat m.seats q) h.1 h.0) (saw_here s looks refl);
+        asks = each_member_seat
+            (λ (q : ℕ) (t : MemberSeat). answered_to q m.indices.finished ≡ asked_for q m.finished ++ asked_so_far t.stage)
+            (λ (q : ℕ) (t : MemberSeat). answered_to q x.indices.finished ≡ asked_for q x.finished ++ asked_so_far t.stage) m.seats party
+            (seat_after seat next answer (length m.events)) there s.asks
+            (λ q differs h. else_asks m.indices party q seat.first (length m.events) t (member_stage m.seats q) m.finished differs h)
+            (either_seat
+            (λ (t : MemberSeat). answered_to party x.indices.finished ≡ asked_for party x.finished ++ asked_so_far t.stage) looks
+            (record { stage = next; first = seat.first; saw = answer; since = length m.events }) (record seat { stage = next })
+            (asks_here few s) (asks_here few s));
+        stays = λ i within. stays_more n (width_of m) i None m.events e (s.stays i within)
+            (goes m party k (omega (arith, few, longer)) s t parts.1 (s.knows party) i within (whose_after i None m.events)
+            (s.whose i within)).0;
+        whose = λ i within. subst (λ (o : Option ℕ). FitsWhose o (slice_index x.words.cells i) (place_of x.indices.places i))
+            (sym (whose_more i None m.events e))
+            (goes m party k (omega (arith, few, longer)) s t parts.1 (s.knows party) i within (whose_after i None m.events)
+            (s.whose i within)).1;
+        passes = each_append n (m.events ++ e ∷ []) m.finished (member_ended party seat.first (length m.events) t)
+            (each_on n (width_of m) m.values (empty_words n (width_of m)) m.events e m.finished s.told s.passes)
+            (ended_passes n party seat.first m.events e t (s.passing party));
+        passing = each_member_seat (λ (q : ℕ) (t : MemberSeat). LetsPassSoFar n t.stage (own q (drop t.first m.events))
+            × (t.first ≤ length m.events))
+            (λ (q : ℕ) (t : MemberSeat). LetsPassSoFar n t.stage (own q (drop t.first x.events))) m.seats party
+            (seat_after seat next answer (length m.events)) there (λ q. (s.passing q, k.began q))
+            (λ q differs h. subst (λ (es : List Event). LetsPassSoFar n (member_stage m.seats q) es)
+            (sym (own_else_since q (member_seat m.seats q).first m.events e h.1 differs)) h.0)
+            (either_seat (λ (t : MemberSeat). LetsPassSoFar n t.stage (own party (drop t.first x.events))) looks
+            (record { stage = next; first = seat.first; saw = answer; since = length m.events }) (record seat { stage = next })
+            (passes_here few s) (passes_here few s));
       }
     where
+      set_few : HasFewMoves x → HasFewSteps m.indices
+      set_few few = omega (arith, few, longer, k.few)
+
+      asks_for : MembersAreSound n m → (t : ContainerCall)
+          → KnowsMember n (width_of m) m.values (empty_words n (width_of m)) m.words.cells m.indices.places party
+          (stage_at m.indices.seats party) seat.first m.events (own party (drop seat.first m.events)) t
+          → (c : IsConsistent m.indices)
+          → AsksFor m.indices party n (width_of m) seat.saw seat.first (length m.events) answer
+          (own party (drop (seat_at m.indices.seats party).first m.indices.events)) (c.knows party) t
+      asks_for s stage.Idle kn c = tt
+      asks_for s (stage.Enter number owner) kn c = kn.2
+      asks_for s (stage.Fill number owner index j) kn c = tt
+      asks_for s (stage.Show number owner index seen) kn c = tt
+      asks_for s (stage.Sink owner index mode) kn c = tt
+      asks_for s (stage.Hide owner index mode seen) kn c = tt
+      asks_for s (stage.Leave owner index mode) kn c = tt
+      asks_for s (stage.Drop owner index mode) kn c = kn.4
+      asks_for s (stage.Count c a) kn d = tt
+      asks_for s (stage.Raise c a seen) kn d = tt
+      asks_for s stage.Look kn c = tt
+      asks_for s (stage.Visit i) kn c = tt
+      asks_for s (stage.Gather i seen j) kn c = tt
+      asks_for s (stage.Done c a) kn d = tt
+
+      asks_here : HasFewMoves x → MembersAreSound n m
+          → answered_to party x.indices.finished ≡ asked_for party x.finished ++ asked_so_far next
+      asks_here few s =
+          let c : IsConsistent m.indices = k.indices.sound (set_few few) in
+          own_asks m.indices party n (width_of m) seat.saw seat.first (length m.events) answer
+          (own party (drop (seat_at m.indices.seats party).first m.indices.events)) (c.knows party) t
+          (asks_for s t (s.knows party) c) m.finished (s.asks party)
+
+      passes_here : HasFewMoves x → MembersAreSound n m
+          → LetsPassSoFar n next (own party (drop seat.first (m.events ++ e ∷ [])))
+      passes_here few s = subst (λ (es : List Event). LetsPassSoFar n next es)
+          (sym (own_more_since party seat.first m.events e (k.began party) refl))
+          (own_passes m party k (omega (arith, few, longer)) s seat.saw (answer_at (stage_at m.indices.seats party)) answer t parts.1
+          (s.knows party) (own party (drop seat.first m.events)) e refl (s.passing party))
+
       here : KnowsMember n (width_of m) m.values (empty_words n (width_of m)) x.words.cells x.indices.places party
           (stage_at x.indices.seats party) seat.first (m.events ++ e ∷ []) (own party (drop seat.first m.events) ++ e ∷ []) next
           → KnowsMember n (width_of m) m.values (empty_words n (width_of m)) x.words.cells x.indices.places party
@@ -191,6 +265,7 @@ module _ (m : ContainerParts) (party : ℕ) (fit : member_fits m (GoOn party) �
         (omega (arith, longer)) (omega (arith, k.since party, longer)));
     recorded = subst (λ (c : ℕ). Answered (empty_words c (width_of m)) x.events x.words) (sym set_stays.same_size)
         (answered_on (empty_words n (width_of m)) m.words m.events e refl k.recorded);
+    counted = member_went_counted m party fit k.counted;
     sound = λ few. subst (λ (c : ℕ). MembersAreSound c x) (sym set_stays.same_size) (went_sound few);
   }
 
@@ -302,8 +377,65 @@ module _ (m : ContainerParts) (party : ℕ) (c : MemberCall) (fit : member_fits 
             (record (member_seat m.seats party) { stage = member_begun c; first = length m.events }) is_there (λ q. (s.saw q, k.since q))
             (λ q differs h. saw_on m begin (member_seat m.seats q) h.1 h.0)
             (saw_on m begin (member_seat m.seats party) (k.since party) (s.saw party));
+        asks = each_member_seat
+            (λ (q : ℕ) (t : MemberSeat). answered_to q m.indices.finished ≡ asked_for q m.finished ++ asked_so_far t.stage)
+            (λ (q : ℕ) (t : MemberSeat). answered_to q (asked_by m.indices party c).finished
+            ≡ asked_for q m.finished ++ asked_so_far t.stage)
+            m.seats party (record (member_seat m.seats party) { stage = member_begun c; first = length m.events }) is_there s.asks
+            (λ q differs h. ap (answered_to q) (same_finished c) ∙ h)
+            (ap (answered_to party) (same_finished c) ∙ s.asks party
+            ∙ ap (λ (cs : List AnsweredCall). asked_for party m.finished ++ cs)
+            (idle_asked (member_stage m.seats party) idle ∙ sym (begun_asked c)));
+        stays = λ i within. stays_more size_of (width_of m) i None m.events begin (s.stays i within) tt;
+        whose = λ i within. subst (λ (o : Option ℕ). FitsWhose o (slice_index m.words.cells i)
+            (place_of (asked_by m.indices party c).places i)) (sym (whose_more i None m.events begin))
+            (subst (λ (ps : List Place). FitsWhose (whose_after i None m.events) (slice_index m.words.cells i) (place_of ps i))
+            (sym (same_places c)) (s.whose i within));
+        passes = each_on size_of (width_of m) m.values (empty_words size_of (width_of m)) m.events begin m.finished s.told s.passes;
+        passing = each_member_seat
+            (λ (q : ℕ) (t : MemberSeat). LetsPassSoFar size_of t.stage (own q (drop t.first m.events)) × (t.first ≤ length m.events))
+            (λ (q : ℕ) (t : MemberSeat). LetsPassSoFar size_of t.stage (own q (drop t.first y.events))) m.seats party
+            (record (member_seat m.seats party) { stage = member_begun c; first = length m.events }) is_there
+            (λ q. (s.passing q, k.began q))
+            (λ q differs h. subst (λ (es : List Event). LetsPassSoFar size_of (member_stage m.seats q) es)
+            (sym (own_else_since q (member_seat m.seats q).first m.events begin h.1 differs)) h.0)
+            (subst (λ (es : List Event). LetsPassSoFar size_of (member_begun c) es) (sym first_own) (none_passed c));
       }
     where
+      idle : member_is_idle (member_stage m.seats party) ≡ true
+      idle = (and_parts (member_is_idle (member_stage m.seats party)) (may_call m party c) begun_parts.1).0
+
+      same_finished : (c : MemberCall) → (asked_by m.indices party c).finished ≡ m.indices.finished
+      same_finished (call.Add number owner) = refl
+      same_finished (call.Remove owner index mode) = refl
+      same_finished call.Update = refl
+
+      begun_asked : (c : MemberCall) → asked_so_far (member_begun c) ≡ []
+      begun_asked (call.Add number owner) = refl
+      begun_asked (call.Remove owner index mode) = refl
+      begun_asked call.Update = refl
+
+      none_passed : (c : MemberCall) → LetsPassSoFar size_of (member_begun c) (begin ∷ [])
+      none_passed (call.Add number owner) = λ going. refl
+      none_passed (call.Remove owner index mode) = λ going. refl
+      none_passed call.Update = λ going. refl
+
+      idle_asked : (t : ContainerCall) → member_is_idle t ≡ true → asked_so_far t ≡ []
+      idle_asked stage.Idle h = refl
+      idle_asked (stage.Enter number owner) h = absurd (cc)
+      idle_asked (stage.Fill number owner index j) h = absurd (cc)
+      idle_asked (stage.Show number owner index seen) h = absurd (cc)
+      idle_asked (stage.Sink owner index mode) h = absurd (cc)
+      idle_asked (stage.Hide owner index mode seen) h = absurd (cc)
+      idle_asked (stage.Leave owner index mode) h = absurd (cc)
+      idle_asked (stage.Drop owner index mode) h = absurd (cc)
+      idle_asked (stage.Count d a) h = absurd (cc)
+      idle_asked (stage.Raise d a seen) h = absurd (cc)
+      idle_asked stage.Look h = absurd (cc)
+      idle_asked (stage.Visit i) h = absurd (cc)
+      idle_asked (stage.Gather i seen j) h = absurd (cc)
+      idle_asked (stage.Done d a) h = absurd (cc)
+
       first_own : own party (drop (length m.events) (m.events ++ begin ∷ [])) ≡ begin ∷ []
       first_own = ap (own party) (drop-append_seam m.events (begin ∷ [])) ∙ own_more party [] begin refl
 
@@ -324,6 +456,7 @@ module _ (m : ContainerParts) (party : ℕ) (c : MemberCall) (fit : member_fits 
         (λ q differs h. omega (arith, h, one_longer)) (omega (arith, k.since party, one_longer));
     recorded = subst (λ (c : ℕ). Answered (empty_words c (width_of m)) y.events m.words) (sym set_begun.same_size)
         (answered_on (empty_words size_of (width_of m)) m.words m.events begin refl k.recorded);
+    counted = member_begun_counted m party c fit k.counted;
     sound = λ few. subst (λ (c : ℕ). MembersAreSound c y) (sym set_begun.same_size) (begun_sound few);
   }
 

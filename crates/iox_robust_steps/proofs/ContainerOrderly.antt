@@ -1,6 +1,7 @@
 -- What a container's machine shows: a new one keeps what each keeps, and what is kept gives the laws.
 use Rattle.std.proofs.Common.{◌≡◌, ℕ, zero, suc, ◌+◌, ◌*◌, ◌^◌, ◌<◌, ◌≤◌, Bool, true, false, List, [], ◌∷◌, length}
-use Rattle.std.proofs.Common.{slice_index, take, drop, replicate, if◌then◌else◌, ◌==◌, Ok, Err, refl, sym, ◌∙◌, ap, subst, arith}
+use Rattle.std.proofs.Common.{slice_index, take, drop, replicate, if◌then◌else◌, ◌==◌, Ok, Err, Option, Some, None, refl, sym, ◌∙◌, ap}
+use Rattle.std.proofs.Common.{subst, arith}
 use Rattle.std.specs.Global.{Vec}
 use Rattle.std.proofs.lemmas.Bool.{eqb-true}
 use Rattle.std.proofs.lemmas.List.{get_or-replicate, length-replicate}
@@ -9,9 +10,12 @@ use Rattle.iox_queues.specs.Told.{own}
 use Rattle.iox_queues.specs.Values.{table_value}
 use Rattle.iox_queues.specs.declared.bits.machine.Event.{Event}
 use Rattle.iox_robust_steps.specs.ContainerSteps.{is_shown}
-use Rattle.iox_robust_steps.specs.ContainerMachine.{ContainerParts, HasFewMoves, empty_parts, empty_words, member_seat, width_of}
+use Rattle.iox_robust_steps.specs.ContainerMachine.{ContainerParts, HasFewMoves, empty_parts, empty_words, member_seat}
+use Rattle.iox_robust_steps.specs.ContainerMachine.{member_stage, width_of}
+use Rattle.iox_robust_steps.specs.ContainerOfSet.{asked_so_far}
+use Rattle.iox_robust_steps.specs.ContainerStays.{LetsPassSoFar, ShowsWhose, whose_after}
 use Rattle.iox_robust_steps.specs.ContainerTold.{AllAreNews, AreMembersTold, MemberTells, counted_by, is_change, times_counted}
-use Rattle.iox_robust_steps.specs.ContainerKept.{IsUnheld, KnowsMember, MembersAreKept, MembersAreOrderly, MembersAreSound}
+use Rattle.iox_robust_steps.specs.ContainerKept.{FitsWhose, IsUnheld, KnowsMember, MembersAreKept, MembersAreOrderly, MembersAreSound}
 use Rattle.iox_robust_steps.specs.Kept.{IsConsistent, IsQuiet}
 use Rattle.iox_robust_steps.specs.Machine.{HasFewSteps, place_of, stage_at, start}
 use Rattle.iox_robust_steps.specs.Steps.{lock_mark}
@@ -24,6 +28,8 @@ use Rattle.iox_robust_steps.specs.declared.container.MemberFinished.{MemberFinis
 use Rattle.iox_robust_steps.specs.declared.container.state.MemberSeat.{MemberSeat}
 use Rattle.iox_robust_steps.specs.declared.state.Place.{Place}
 use Rattle.iox_robust_steps.specs.declared.state.Place.TheVariants as place
+use Rattle.iox_robust_steps.proofs.ContainerOfCalls.{empty_counted}
+use Rattle.iox_robust_steps.proofs.ContainerOfSet.{all_reasons}
 use Rattle.iox_robust_steps.proofs.ContainerSeats.{all_resting}
 use Rattle.iox_robust_steps.proofs.Runs.{orderly}
 use Rattle.iox_robust_steps.proofs.Starts.{start_kept}
@@ -42,6 +48,7 @@ empty_kept capacity parties values small =
       began = λ q. omega (arith, ap (λ (s : MemberSeat). s.first) (all_resting parties q));
       since = λ q. omega (arith, ap (λ (s : MemberSeat). s.since) (all_resting parties q));
       recorded = refl;
+      counted = empty_counted capacity parties values;
       sound = λ few. record {
         write = refl;
         low = λ i within. omega (arith, zeros i within);
@@ -52,6 +59,12 @@ empty_kept capacity parties values small =
             (sym (all_resting parties q)) tt;
         told = tt;
         saw = λ q. subst (λ (s : MemberSeat). s.saw ≡ times_counted (take s.since [])) (sym (all_resting parties q)) refl;
+        asks = λ q. subst (λ (s : MemberSeat). [] ≡ asked_so_far s.stage) (sym (all_resting parties q)) refl;
+        stays = λ i within. tt;
+        whose = λ i within. ap is_shown (zeros i within);
+        passes = tt;
+        passing = λ q. subst (λ (s : MemberSeat). LetsPassSoFar capacity s.stage (own q (drop s.first [])))
+            (sym (all_resting parties q)) (λ going. refl);
       };
     }
   where
@@ -146,10 +159,22 @@ module _ (m : ContainerParts) (k : MembersAreKept m) (few : HasFewMoves m) where
     news_of saw since is finished told.1,
   )
 
+  -- the count of a place shows whose member is in
+  shows_whose : (i : ℕ) (o : Option ℕ) → FitsWhose o (slice_index m.words.cells i) (place_of m.indices.places i)
+      → ShowsWhose i o (slice_index m.words.cells i) m.indices.events
+  shows_whose i None h = h
+  shows_whose i (Some p) h = (h.0, inner.whole.holders i p h.1)
+
   pub members_orderly : MembersAreOrderly m
   members_orderly = record {
     indices = orderly m.indices k.indices inner_few;
     told = sound.told;
+    asks = sound.asks;
+    reasons = all_reasons m.indices inner.told m.finished (λ (q : ℕ). asked_so_far (member_stage m.seats q)) sound.asks;
+    stays = sound.stays;
+    whose = λ i within. shows_whose i (whose_after i None m.events) (sound.whose i within);
+    passes = sound.passes;
+    passing = sound.passing;
     held = λ i within shown. holder_of i shown within (place_of m.indices.places i) refl;
     none_in = λ locked i within. sound.out i within (quiet_unheld (place_of m.indices.places i)
         (inner.whole.quiet (eqb-true m.indices.words.read lock_mark locked) i within));

@@ -21,7 +21,7 @@ use Rattle.iox_robust_steps.specs.ContainerMachine.{member_seat, width_of}
 use Rattle.iox_robust_steps.specs.ContainerTold.{AreMembersTold, MemberTells, counted_by, times_counted}
 use Rattle.iox_robust_steps.specs.ContainerKept.{KnowsMember, MembersAreKept, MembersAreSound}
 use Rattle.iox_robust_steps.specs.Kept.{IsKept}
-use Rattle.iox_robust_steps.specs.Machine.{HasFewSteps, RobustSetState, begun, is_locked, place_of, stage_at, went}
+use Rattle.iox_robust_steps.specs.Machine.{HasFewSteps, RobustSetState, begun, stage_at, went}
 use Rattle.iox_robust_steps.specs.Machine as robust
 use Rattle.iox_robust_steps.specs.declared.call.Call.TheVariants as set_call
 use Rattle.iox_robust_steps.specs.declared.call.RobustCall.{RobustCall}
@@ -39,7 +39,7 @@ use Rattle.iox_robust_steps.proofs.Runs.{begun_keeps, went_keeps}
 use Rattle.iox_robust_steps.proofs.Seats.{seat_else}
 
 -- each step of the set is one event more
-went_length : (i : RobustSetState) (p : ℕ) → length (went i p).events ≡ length i.events + 1
+pub went_length : (i : RobustSetState) (p : ℕ) → length (went i p).events ≡ length i.events + 1
 went_length i p = length-append i.events (_ ∷ [])
 
 -- the words are those that the steps left

@@ -22,8 +22,9 @@ use Rattle.iox_robust_steps.specs.ContainerSteps.{answer_at}
 use Rattle.iox_robust_steps.specs.Steps.{call_in_hand, call_next, call_take, claims_from, is_marked_by, lock_mark, reserved, scans_from}
 use Rattle.iox_robust_steps.specs.Steps.{call_is_over}
 use Rattle.iox_robust_steps.specs.Told.{Tells}
-use Rattle.iox_robust_steps.specs.Kept.{CellFits, IsConsistent, IsKept, IsOwner, Knows}
-use Rattle.iox_robust_steps.specs.Machine.{HasFewSteps, RobustSetState, fits, is_lost, one_if_held, place_of, places_after, seat_at}
+use Rattle.iox_robust_steps.specs.Kept.{IsConsistent, IsKept, IsOwner, Knows}
+use Rattle.iox_robust_steps.specs.Machine.{CellFits, HasFewSteps, RobustSetState, fits, is_lost, one_if_held, place_of, places_after}
+use Rattle.iox_robust_steps.specs.Machine.{seat_at}
 use Rattle.iox_robust_steps.specs.Machine.{stage_at}
 use Rattle.iox_robust_steps.specs.Machine.{went}
 use Rattle.iox_robust_steps.specs.declared.call.Answer.{Answer}

@@ -21,8 +21,8 @@ use Rattle.iox_robust_steps.specs.Steps.{call_is_idle, call_next, call_take, cla
 use Rattle.iox_robust_steps.specs.Steps.{looks_from, reserved, scans_from, settles}
 use Rattle.iox_robust_steps.specs.Changes.{gave_by, is_owner, saw_filled, took_by}
 use Rattle.iox_robust_steps.specs.Told.{GiveNone, GiveOnly, MoveNone, SawOther, TakeNone, Tells, has_locked, is_locking}
-use Rattle.iox_robust_steps.specs.Machine.{is_halted, is_lost, one_if_held, place_of, places_after}
-use Rattle.iox_robust_steps.specs.Kept.{CellFits, IsOwner, IsQuiet, Knows, QuietBelow, Settles, WordsFit}
+use Rattle.iox_robust_steps.specs.Machine.{CellFits, is_halted, is_lost, one_if_held, place_of, places_after}
+use Rattle.iox_robust_steps.specs.Kept.{IsOwner, IsQuiet, Knows, QuietBelow, Settles, WordsFit}
 use Rattle.iox_robust_steps.specs.declared.call.Answer.TheVariants.{Acquired, Settled}
 use Rattle.iox_robust_steps.specs.declared.call.Call.{Call}
 use Rattle.iox_robust_steps.specs.declared.call.Call.TheVariants as call
@@ -632,7 +632,12 @@ module _ (n p : ℕ) (decisions : List (Vec Bool)) (words : RingWords) (places :
               (if b then stage.Done c (Settled Locked) else stage.Done c (Settled Unlocked))
           marked true g = settled_locked n (words.read == lock_mark) c _ g still
           marked false g = settled_unlocked n (words.read == lock_mark) c _ still
-              (record { before = es; look = of (Exchange Read count lock_mark) words.read; whole = refl; saw = ap not e })
+              (record {
+                before = es;
+                look = of (Exchange Read count lock_mark) words.read;
+                whole = refl;
+                saw = ap (λ (b : Bool). not b && not (words.read == lock_mark)) e ∙ ap not g;
+              })
 
   pub made : (s : RobustCall) → call_is_idle s ≡ false → is_halted lost s ≡ false → Knows n words places lost p es s
       → MadeStep n p words (after_access words (call_next s)) places (places_after places p s (answer_of words (call_next s))) lost

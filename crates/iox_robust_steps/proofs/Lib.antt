@@ -9,6 +9,7 @@ pub mod Theirs
 pub mod Holders
 pub mod Ending
 pub mod Freeing
+pub mod Recovering
 pub mod Runs
 pub mod Starts
 pub mod ContainerWords
@@ -18,6 +19,9 @@ pub mod ContainerGoing
 pub mod ContainerSet
 pub mod ContainerAsking
 pub mod ContainerRuns
+pub mod ContainerOfSet
+pub mod ContainerStays
+pub mod ContainerOfCalls
 pub mod ContainerKeeps
 pub mod ContainerCopies
 pub mod ContainerCalls

@@ -392,6 +392,7 @@ orderly m k few =
       holder = s.whole.holders;
       held = λ i p h. holder_is i p m.events (place_of m.places i) (s.whole.turns i) (s.whole.balance i) (s.whole.holders i) h;
       turns = s.whole.turns;
+      cells = s.whole.cells;
       holds = s.whole.balance;
       locked_by = s.locked_by;
       none_out = λ locked i. omega (arith, s.whole.balance i, none i (eqb-true m.words.read lock_mark locked) s);

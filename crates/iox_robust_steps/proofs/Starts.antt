@@ -9,8 +9,8 @@ use Rattle.std.proofs.lemmas.List.{get_or-replicate, get_or_past, length-replica
 use Rattle.iox_queues.specs.Told.{own}
 use Rattle.iox_robust_steps.specs.Steps.{call_in_hand}
 use Rattle.iox_robust_steps.specs.Told.{IsAskedSoFar, TakesTurns}
-use Rattle.iox_robust_steps.specs.Machine.{one_if_held, place_of, start, start_words}
-use Rattle.iox_robust_steps.specs.Kept.{CellFits, FreesSoFar, IsKept, IsQuiet, Knows}
+use Rattle.iox_robust_steps.specs.Machine.{CellFits, one_if_held, place_of, start, start_words}
+use Rattle.iox_robust_steps.specs.Kept.{FreesSoFar, IsKept, IsQuiet, Knows}
 use Rattle.iox_robust_steps.specs.declared.state.Place.{Place}
 use Rattle.iox_robust_steps.specs.declared.state.Place.TheVariants as place
 use Rattle.iox_robust_steps.specs.declared.state.Seat.{Seat}

@@ -1,8 +1,9 @@
 -- A recovery frees nothing but what it is to free of its owner, since it asks for nothing else.
-use Rattle.std.proofs.Common.{◌≡◌, ℕ, ◌⊎◌, inl, inr, Bool, true, false, if◌then◌else◌, ◌==◌, ◌||◌, nat_lt, List, [], ◌∷◌, sym, ◌∙◌, subst}
+use Rattle.std.proofs.Common.{◌≡◌, ℕ, ◌<◌, ◌⊎◌, inl, inr, Bool, true, false, if◌then◌else◌, ◌==◌, ◌||◌, nat_lt, List, [], ◌∷◌, sym, ◌∙◌}
+use Rattle.std.proofs.Common.{subst}
 use Rattle.std.proofs.Common.{drop, refl, take, ap}
 use Rattle.std.specs.Global.{Vec}
-use Rattle.std.proofs.lemmas.Bool.{and_parts, eqb-true, or_cases}
+use Rattle.std.proofs.lemmas.Bool.{and_parts, eqb-true, ltb-true, or_cases}
 use Rattle.iox_container.specs.declared.release.ReleaseMode.{ReleaseMode}
 use Rattle.iox_container.specs.declared.release.ReleaseMode.TheVariants.{LockIfLastIndex, Default}
 use Rattle.iox_container.specs.declared.release.ReleaseState.TheVariants.{Locked, Unlocked}
@@ -22,7 +23,7 @@ use Rattle.iox_robust_steps.specs.declared.machine.Finished.{Finished}
 
 module _ (n : ℕ) (decisions : List (Vec Bool)) (owner number : ℕ) where
   -- a stage of this recovery; one that is to free a cell saw its owner there, and was to free it
-  abbrev OfRecovery : RobustCall → Type 0
+  abbrev pub OfRecovery : RobustCall → Type 0
   OfRecovery stage.Idle = Unit {0}
   OfRecovery (stage.Acquire o) = ⊥
   OfRecovery (stage.Claim o place count) = ⊥
@@ -30,9 +31,9 @@ module _ (n : ℕ) (decisions : List (Vec Bool)) (owner number : ℕ) where
   OfRecovery (stage.Confirm o place) = ⊥
   OfRecovery (stage.Undo o place) = ⊥
   OfRecovery (stage.Free o index mode) = ⊥
-  OfRecovery (stage.Look o k mode place) = (o ≡ owner) × (k ≡ number)
+  OfRecovery (stage.Look o k mode place) = (o ≡ owner) × (k ≡ number) × (place < n)
   OfRecovery (stage.Clear o k mode place seen) =
-      (o ≡ owner) × (k ≡ number) × (decided decisions number place ≡ true) × ((seen ≡ owner) ⊎ (seen ≡ reserved owner))
+      (o ≡ owner) × (k ≡ number) × (decided decisions number place ≡ true) × ((seen ≡ owner) ⊎ (seen ≡ reserved owner)) × (place < n)
   OfRecovery (stage.Settle c) = Unit {0}
   OfRecovery (stage.Scan c place count) = Unit {0}
   OfRecovery (stage.Lock c count) = Unit {0}
@@ -47,8 +48,11 @@ module _ (n : ℕ) (decisions : List (Vec Bool)) (owner number : ℕ) where
   settles_of Default c = tt
 
   looks_of : (o k : ℕ) (mode : ReleaseMode) (place : ℕ) → o ≡ owner → k ≡ number → OfRecovery (looks_from n o k mode place)
-  looks_of o k mode place same number_is = either_of (nat_lt place n) (stage.Look o k mode place) _ (same, number_is)
-      (settles_of mode (call.Recover o k mode))
+  looks_of o k mode place same number_is = test (nat_lt place n) refl
+    where
+      test : (b : Bool) → nat_lt place n ≡ b → OfRecovery (if b then stage.Look o k mode place else settles mode (call.Recover o k mode))
+      test true e = (same, number_is, ltb-true place n e)
+      test false e = settles_of mode (call.Recover o k mode)
 
   next_of : (s : RobustCall) (answer : ℕ) → OfRecovery s → OfRecovery (call_take n decisions s answer)
   next_of stage.Idle answer k = tt
@@ -68,6 +72,7 @@ module _ (n : ℕ) (decisions : List (Vec Bool)) (owner number : ℕ) where
             k.1,
             subst (λ (i : ℕ). decided decisions i place ≡ true) k.1 both.1,
             seen (or_cases (answer == o) (answer == reserved o) both.0),
+            k.2,
           )
         where
           seen : ((answer == o) ≡ true) ⊎ ((answer == reserved o) ≡ true) → (answer ≡ owner) ⊎ (answer ≡ reserved owner)
@@ -109,6 +114,18 @@ module _ (n : ℕ) (decisions : List (Vec Bool)) (owner number : ℕ) where
     subst (FreesSo decisions owner number) (sym g.0) (frees_so s k),
     goes_free (call_take n decisions s e.answer) end events (next_of s e.answer k) g.1,
   )
+
+module _ (n : ℕ) (decisions : List (Vec Bool)) (owner number : ℕ) where
+  ends_of : (s end : RobustCall) (events : List Event) → OfRecovery n decisions owner number s
+      → Goes call_next (call_take n decisions) s events end → OfRecovery n decisions owner number end
+  ends_of s end [] k g = subst (OfRecovery n decisions owner number) (sym g) k
+  ends_of s end (e ∷ events) k g = ends_of (call_take n decisions s e.answer) end events (next_of n decisions owner number s e.answer k) g.1
+
+  -- a recovery in hand stands at a stage of its own
+  pub asked_of : (party : ℕ) (mode : ReleaseMode) (s : RobustCall) (events : List Event)
+      → IsAsked n decisions party (call.Recover owner number mode) s events → OfRecovery n decisions owner number s
+  asked_of party mode s events a = ends_of (call_begun n (call.Recover owner number mode)) s a.between
+      (looks_of n decisions owner number owner number mode 0 refl refl) a.goes
 
 module _ (n : ℕ) (decisions : List (Vec Bool)) where
   asked_frees : (party : ℕ) (c : Call) (s : RobustCall) (events : List Event) → IsAsked n decisions party c s events

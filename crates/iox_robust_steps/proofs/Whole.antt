@@ -11,8 +11,8 @@ use Rattle.iox_queues.specs.declared.bits.machine.Event.{Event}
 use Rattle.iox_robust_steps.specs.Steps.{lock_mark, reserved}
 use Rattle.iox_robust_steps.specs.Changes.{gave_by, times_given, times_taken, took_by}
 use Rattle.iox_robust_steps.specs.Told.{Holds}
-use Rattle.iox_robust_steps.specs.Machine.{is_lost, one_if_held, place_of}
-use Rattle.iox_robust_steps.specs.Kept.{CellFits, IsOwner, IsQuiet, WordsFit}
+use Rattle.iox_robust_steps.specs.Machine.{CellFits, is_lost, one_if_held, place_of}
+use Rattle.iox_robust_steps.specs.Kept.{IsOwner, IsQuiet, WordsFit}
 use Rattle.iox_robust_steps.specs.declared.state.Place.{Place}
 use Rattle.iox_robust_steps.specs.declared.state.Place.TheVariants as place
 use Rattle.iox_robust_steps.proofs.Counts.{more_given, more_taken, turns_on}

@@ -4,6 +4,7 @@ use Rattle.iox_queues_steps.specs.declared.access.Word.TheVariants.{Write, Read,
 use Rattle.iox_queues_steps.specs.declared.access.Access.{Access}
 use Rattle.iox_queues_steps.specs.declared.access.Access.TheVariants.{Load, Store, Exchange, Local}
 use Rattle.iox_queues.specs.declared.bits.machine.Event.{Event}
+use Rattle.iox_robust_steps.specs.Steps.{lock_mark}
 
 -- the number may name an owner
 abbrev pub is_owner : ℕ → Bool
@@ -52,13 +53,13 @@ abbrev pub saw_filled : ℕ → Event → Bool
 saw_filled i event = wanted_empty i event.access event.answer
 
 -- the step saw that an index is out, or about to be: it looked at the cell of one of n indices and found it filled, or wanted to change
--- the count and found another one
+-- the count and found another one, which isn't the mark of a locked set
 abbrev pub saw_other : ℕ → Access → ℕ → Bool
 saw_other n (Load Write) answer = false
 saw_other n (Load Read) answer = false
 saw_other n (Load (Cell place)) answer = nat_lt place n && not (answer == 0)
 saw_other n (Store word value) answer = false
 saw_other n (Exchange Write old new) answer = false
-saw_other n (Exchange Read old new) answer = not (answer == old)
+saw_other n (Exchange Read old new) answer = not (answer == old) && not (answer == lock_mark)
 saw_other n (Exchange (Cell place) old new) answer = false
 saw_other n Local answer = false

@@ -1,5 +1,5 @@
 -- What every step of a container's machine keeps.
-use Rattle.std.specs.Prelude.{ℕ, ◌≡◌, ◌+◌, ◌*◌, ◌^◌, ◌<◌, ◌≤◌, true, false, Ok, Some, List, [], length}
+use Rattle.std.specs.Prelude.{ℕ, ◌≡◌, ◌+◌, ◌*◌, ◌^◌, ◌<◌, ◌≤◌, true, false, Ok, Option, Some, None, List, [], length}
 use Rattle.std.specs.Prelude.{slice_index, take, drop}
 use Rattle.std.specs.Global.{Vec}
 use Rattle.iox_queues_steps.specs.Access.{RingWords}
@@ -9,6 +9,9 @@ use Rattle.iox_queues.specs.declared.bits.machine.Event.{Event}
 use Rattle.iox_robust_steps.specs.ContainerSteps.{answer_at, is_shown, value_cell}
 use Rattle.iox_robust_steps.specs.ContainerMachine.{ContainerParts, HasFewMoves, MembersAreRecorded, empty_words, member_seat, member_stage}
 use Rattle.iox_robust_steps.specs.ContainerMachine.{width_of}
+use Rattle.iox_robust_steps.specs.ContainerOfSet.{AsksSet, HaveReasons}
+use Rattle.iox_robust_steps.specs.ContainerStays.{EachLetsPass, LetsPassSoFar, MembersAreOfCalls, ShowsWhose, StaysTillTakenOut}
+use Rattle.iox_robust_steps.specs.ContainerStays.{whose_after}
 use Rattle.iox_robust_steps.specs.ContainerTold.{AllAreNews, AreMembersTold, GoesOut, MemberTells, WasSo, gathered_after}
 use Rattle.iox_robust_steps.specs.ContainerTold.{is_change}
 use Rattle.iox_robust_steps.specs.ContainerTold.{shown_at, times_counted}
@@ -85,8 +88,14 @@ KnowsMember n width values start cells places party s first events own (stage.Do
 abbrev pub IsUnheld : List Place → ℕ → Type 0
 IsUnheld places i = (p : ℕ) → place_of places i ≡ place.Held p → ⊥
 
+-- no member is in, or one of the party that holds the index
+abbrev pub FitsWhose : Option ℕ → ℕ → Place → Type 0
+FitsWhose None count x = is_shown count ≡ false
+FitsWhose (Some party) count x = (is_shown count ≡ true) × (x ≡ place.Held party)
+
 -- where the premise holds, in a container of n places: the counts count the steps, no member is in where nobody holds the index, each
--- call in hand knows its steps, each that ended is told, and the copies saw the count of changes that was
+-- call in hand knows its steps, each that ended is told, and the copies saw the count of changes that was; the set's calls are those of
+-- the container's; a member stays till it is taken out; and each call lets pass what it answers
 pub record MembersAreSound (n : ℕ) (m : ContainerParts) : Type 0 where
   pub write : m.words.write ≡ times_counted m.events
   pub low : (i : ℕ) → i < n → slice_index m.words.cells i ≤ length m.events
@@ -96,6 +105,11 @@ pub record MembersAreSound (n : ℕ) (m : ContainerParts) : Type 0 where
       (own q (drop (member_seat m.seats q).first m.events)) (member_stage m.seats q)
   pub told : AreMembersTold n (width_of m) m.values (empty_words n (width_of m)) m.events m.finished
   pub saw : (q : ℕ) → (member_seat m.seats q).saw ≡ times_counted (take (member_seat m.seats q).since m.events)
+  pub asks : (q : ℕ) → AsksSet m q
+  pub stays : (i : ℕ) → i < n → StaysTillTakenOut n (width_of m) i None m.events
+  pub whose : (i : ℕ) → i < n → FitsWhose (whose_after i None m.events) (slice_index m.words.cells i) (place_of m.indices.places i)
+  pub passes : EachLetsPass n m.events m.finished
+  pub passing : (q : ℕ) → LetsPassSoFar n (member_stage m.seats q) (own q (drop (member_seat m.seats q).first m.events))
 
 -- what stands however many steps were made, and what stands where the premise holds
 pub record MembersAreKept (m : ContainerParts) : Type 0 where
@@ -107,14 +121,25 @@ pub record MembersAreKept (m : ContainerParts) : Type 0 where
   pub began : (q : ℕ) → (member_seat m.seats q).first ≤ length m.events
   pub since : (q : ℕ) → (member_seat m.seats q).since ≤ length m.events
   pub recorded : MembersAreRecorded m
+  pub counted : MembersAreOfCalls m
   pub sound : HasFewMoves m → MembersAreSound m.indices.capacity m
 
--- what every list of steps keeps: of the set of indices all that its own machine keeps; each call that ended did what it answered; a
--- member is in only where a party holds the index, so none is in where the set is locked; and a change that began and ended since a
--- party's last copy moved the count of changes on from what that copy saw, so that the next copy doesn't answer that there was none
+-- what every list of steps keeps: of the set of indices all that its own machine keeps; what its answer says of each call that ended; a
+-- party's calls on the set are those of its additions and removals, whose answers they are; a member stays, with its value, till the
+-- party that put it in takes it out, by its removal, since each call lets pass by its own steps just what it answers; the count of a
+-- place says whose member is in, and that party holds the index, so none is in where the set is locked; and a change that began and ended
+-- since a party's last copy moved the count of changes on from what that copy saw, so that the next copy doesn't answer that there was none
 pub record MembersAreOrderly (m : ContainerParts) : Type 0 where
   pub indices : IsOrderly m.indices
   pub told : AreMembersTold m.indices.capacity (width_of m) m.values (empty_words m.indices.capacity (width_of m)) m.events m.finished
+  pub asks : (q : ℕ) → AsksSet m q
+  pub reasons : HaveReasons m.indices m.finished
+  pub stays : (i : ℕ) → i < m.indices.capacity → StaysTillTakenOut m.indices.capacity (width_of m) i None m.events
+  pub whose : (i : ℕ) → i < m.indices.capacity
+      → ShowsWhose i (whose_after i None m.events) (slice_index m.words.cells i) m.indices.events
+  pub passes : EachLetsPass m.indices.capacity m.events m.finished
+  pub passing : (q : ℕ)
+      → LetsPassSoFar m.indices.capacity (member_stage m.seats q) (own q (drop (member_seat m.seats q).first m.events))
   pub held : (i : ℕ) → i < m.indices.capacity → is_shown (slice_index m.words.cells i) ≡ true → (p : ℕ) × Holds p i m.indices.events
   pub none_in : is_locked m.indices ≡ true → (i : ℕ) → i < m.indices.capacity → is_shown (slice_index m.words.cells i) ≡ false
   pub news : (q : ℕ) → AllAreNews (member_seat m.seats q).saw (member_seat m.seats q).since m.words.write m.finished

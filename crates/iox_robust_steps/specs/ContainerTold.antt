@@ -115,7 +115,7 @@ pub record GoesOut (start : RingWords) (first : ℕ) (events : List Event) (plac
   pub out : is_shown (count_at start events place (moment + 1)) ≡ false
 
 -- what the answer of a call says, which began with the step `first` and made the steps `own`: an addition put its value in, and a
--- removal took its member out, and so many changes were counted; one that was refused counted none; a copy is true
+-- removal took its member out, and so many changes were counted; one that was refused counted none; a copy is true, where one was made
 abbrev pub MemberTells : ℕ → ℕ → List (Vec ℕ) → RingWords → ℕ → ℕ → List Event → List Event → MemberCall → MemberAnswer → Type 0
 MemberTells n width values start counted first events own (call.Add number owner) (Added (Ok index)) =
     (index < n) × ComesIn n width start first events index (table_value values number) × (times_counted own ≡ counted)
@@ -131,7 +131,7 @@ MemberTells n width values start counted first events own call.Update (Removed s
 MemberTells n width values start counted first events own call.Update (Updated true) = CopyIsTrue n width start first events own
 MemberTells n width values start counted first events own call.Update (Updated false) = Unit {0}
 
--- each call that ended did what it answered
+-- so of each call that ended, which lies among the steps made
 abbrev pub AreMembersTold : ℕ → ℕ → List (Vec ℕ) → RingWords → List Event → List MemberFinished → Type 0
 AreMembersTold n width values start events [] = Unit {0}
 AreMembersTold n width values start events (f ∷ finished) =

@@ -9,7 +9,8 @@ use Rattle.iox_queues.specs.declared.bits.machine.Event.{Event}
 use Rattle.iox_robust_steps.specs.Steps.{lock_mark, reserved}
 use Rattle.iox_robust_steps.specs.Changes.{saw_filled, times_given, times_taken}
 use Rattle.iox_robust_steps.specs.Told.{AreFreed, AreTold, FreedBelow, FreedBy, GiveOnly, Holds, MoveNone, TakeNone, TakesTurns, Tells}
-use Rattle.iox_robust_steps.specs.Machine.{HasFewSteps, IsLockedByRelease, IsRecorded, RobustSetState, is_locked, is_lost, one_if_held}
+use Rattle.iox_robust_steps.specs.Machine.{CellFits, HasFewSteps, IsLockedByRelease, IsRecorded, RobustSetState, is_locked, is_lost}
+use Rattle.iox_robust_steps.specs.Machine.{one_if_held}
 use Rattle.iox_robust_steps.specs.Machine.{place_of}
 use Rattle.iox_robust_steps.specs.Machine.{seat_at, stage_at}
 use Rattle.iox_robust_steps.specs.OfCalls.{StepsAreOfCalls}
@@ -19,13 +20,6 @@ use Rattle.iox_robust_steps.specs.declared.call.RobustCall.{RobustCall}
 use Rattle.iox_robust_steps.specs.declared.call.RobustCall.TheVariants as stage
 use Rattle.iox_robust_steps.specs.declared.state.Place.{Place}
 use Rattle.iox_robust_steps.specs.declared.state.Place.TheVariants as place
-
--- what the cell of an index holds that is taken so far: nothing, an owner that is about to take it, or the owner that did
-abbrev pub CellFits : Place → ℕ → Type 0
-CellFits place.Empty cell = cell ≡ 0
-CellFits (place.Claimed p) cell = 2 ^ 63 < cell
-CellFits (place.Counted p) cell = 2 ^ 63 < cell
-CellFits (place.Held p) cell = (0 < cell) × (cell < 2 ^ 63)
 
 -- the index isn't taken, and nobody who counted is about to take it
 abbrev pub IsQuiet : Place → Type 0

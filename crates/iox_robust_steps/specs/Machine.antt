@@ -1,6 +1,6 @@
 -- A set that knows its holders, as a machine: its steps, and what every list of them keeps.
 use Rattle.std.specs.Prelude.{ℕ, ◌≡◌, ◌+◌, ◌-◌, ◌^◌, ◌<◌, ◌⊎◌, Bool, true, false, not, if◌then◌else◌, ◌==◌, ◌&&◌, nat_lt, Option}
-use Rattle.std.specs.Prelude.{Some, None, List, [], ◌∷◌, ◌++◌, length, set, slice_get, slice_index_or, take, drop, replicate}
+use Rattle.std.specs.Prelude.{Some, None, List, [], ◌∷◌, ◌++◌, length, set, slice_get, slice_index, slice_index_or, take, drop, replicate}
 use Rattle.std.specs.List.{list_any}
 use Rattle.std.specs.Global.{Vec}
 use Rattle.iox_queues_steps.specs.Access.{RingWords, answer_of, after_access, word_of}
@@ -75,6 +75,13 @@ one_if_held place.Empty = 0
 one_if_held (place.Claimed p) = 0
 one_if_held (place.Counted p) = 0
 one_if_held (place.Held p) = 1
+
+-- what the cell of an index holds that is taken so far: nothing, an owner that is about to take it, or the owner that did
+abbrev pub CellFits : Place → ℕ → Type 0
+CellFits place.Empty cell = cell ≡ 0
+CellFits (place.Claimed p) cell = 2 ^ 63 < cell
+CellFits (place.Counted p) cell = 2 ^ 63 < cell
+CellFits (place.Held p) cell = (0 < cell) × (cell < 2 ^ 63)
 
 -- the recovery of this owner began
 abbrev pub is_lost : ℕ → List ℕ → Bool
@@ -206,14 +213,15 @@ IsLockedByRelease m =
     (some_has_locked m.finished ≡ true) ⊎ ((party : ℕ) × (is_locking (stage_at m.seats party) ≡ true))
 
 -- what every list of steps keeps: no index has two holders; the holder is the party that took it, and nobody gave it back; an index is
--- taken and given back by turns, so that between two takings lies its release or recovery; of a locked set none is taken, and only a call
--- that was to lock it locked it; each call that ended did what it answered, so one in hand that has its answer; and a recovery left its
--- owner no index that it was to free, for good
+-- taken and given back by turns, so that between two takings lies its release or recovery; its cell holds what fits how far it is taken;
+-- of a locked set none is taken, and only a call that was to lock it locked it; the own steps of each call that ended say what it answered,
+-- so of one in hand that has its answer; and a recovery left its owner no index that it was to free, for good
 pub record IsOrderly (m : RobustSetState) : Type 0 where
   pub one_holder : (i p q : ℕ) → Holds p i m.events → Holds q i m.events → p ≡ q
   pub holder : (i p : ℕ) → place_of m.places i ≡ place.Held p → Holds p i m.events
   pub held : (i p : ℕ) → Holds p i m.events → place_of m.places i ≡ place.Held p
   pub turns : (i k : ℕ) → TakesTurns i (take k m.events)
+  pub cells : (i : ℕ) → i < m.capacity → CellFits (place_of m.places i) (slice_index m.words.cells i)
   pub holds : (i : ℕ) → times_taken i m.events ≡ times_given i m.events + one_if_held (place_of m.places i)
   pub locked_by : is_locked m ≡ true → IsLockedByRelease m
   pub none_out : is_locked m ≡ true → (i : ℕ) → times_taken i m.events ≡ times_given i m.events

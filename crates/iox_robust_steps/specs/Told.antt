@@ -138,7 +138,7 @@ Tells n locked events (call.Recover owner number Default) (Settled Locked) = ⊥
 Tells n locked events (call.Recover owner number LockIfLastIndex) (Settled Unlocked) = TakeNone events × SawOther n events
 Tells n locked events (call.Recover owner number Default) (Settled Unlocked) = TakeNone events
 
--- each call that ended did what it answered
+-- so of each call that ended
 abbrev pub AreTold : ℕ → Bool → List Event → List Finished → Type 0
 AreTold n locked events [] = Unit {0}
 AreTold n locked events (f ∷ finished) =

@@ -33,10 +33,15 @@ pub struct MemberFinished {
 /// A container of members, whose parties go one step at a time, in any order that the caller wants.
 ///
 /// A table has the values that may be added, each of as many words as the first. Any party may stop anywhere. A removal fits only where
-/// the party that added the member removes it, so once. Where fewer than 2^64 - 1 steps were made, all stands that is said of a set of
-/// indices ([`RobustSetMachine`]); each call that ended did what it answered: each member that a copy shows was in, with just that
-/// value, at one moment of the copy, and a member in throughout is shown. A copy answers that nothing changed only where no change
-/// began and ended since the party's last copy.
+/// the party that added the member removes it, so once; no call recovers the members of a party. However many steps were made, each got
+/// what its word held, and is one of one call of its party.
+///
+/// Where fewer than 2^64 - 1 steps were made, all stands that is said of a set of indices ([`RobustSetMachine`]). An addition that
+/// wasn't refused put its value in at the index that it answers, where none was in, a removal took its member out, each by one step of its
+/// own, and each counted one change. An addition is refused as its call on the set was, and a removal answers what its own did. A member
+/// stays, with its value, till the party that put it in takes it out, by its removal. Each member that a copy shows was in, with just that
+/// value, at one moment of the copy, and a member in throughout is shown. A copy answers that nothing changed only where no change began
+/// and ended since the party's last copy.
 #[derive(Debug, Drop)]
 pub struct ContainerMachine {
     state: MemberState,
@@ -60,6 +65,7 @@ impl ContainerMachine {
     ghost use Rattle.iox_robust_steps.specs.ContainerMachine.{HasFewMoves, MemberRunsTo, MemberStepsTo, MemberTellsStep, empty_parts};
     ghost use Rattle.iox_robust_steps.specs.ContainerMachine.{MembersAreRecorded, MindsCopies, member_stage};
     ghost use Rattle.iox_robust_steps.specs.ContainerKept.{MembersAreOrderly};
+    ghost use Rattle.iox_robust_steps.specs.ContainerStays.{MembersAreOfCalls};
 
     /// An empty container of this capacity, with this many parties, to which these values may be added; with no value at all each is
     /// one of no words.
@@ -83,6 +89,7 @@ impl ContainerMachine {
         ensures tells { MemberTellsStep self.old step result self.new }
         ensures copies { MindsCopies self.old step result self.new }
         ensures recorded { MembersAreRecorded self.new }
+        ensures counted { MembersAreOfCalls self.new }
         ensures orderly { HasFewMoves self.new → MembersAreOrderly self.new }
     {
         self.state.step(step)
@@ -93,6 +100,7 @@ impl ContainerMachine {
     pub fn run(&mut self, schedule: &[MemberMove]) -> usize
         ensures runs { MemberRunsTo self.old schedule.now result self.new }
         ensures recorded { MembersAreRecorded self.new }
+        ensures counted { MembersAreOfCalls self.new }
         ensures orderly { HasFewMoves self.new → MembersAreOrderly self.new }
     {
         self.keeps();
@@ -112,6 +120,7 @@ impl ContainerMachine {
     // What every machine keeps.
     fn keeps(&self)
         ensures recorded { MembersAreRecorded self.now }
+        ensures counted { MembersAreOfCalls self.now }
         ensures orderly { HasFewMoves self.now → MembersAreOrderly self.now }
     {
         let _ = &self.state;
@@ -121,6 +130,7 @@ impl ContainerMachine {
     pub fn events(&self) -> &[Event]
         ensures value { result.now ≡ self.now.events }
         ensures recorded { MembersAreRecorded self.now }
+        ensures counted { MembersAreOfCalls self.now }
         ensures orderly { HasFewMoves self.now → MembersAreOrderly self.now }
     {
         self.state.events.as_slice()

@@ -12,7 +12,7 @@
 //!
 //! ```
 //! /// `iox_robust_steps`: a new set of eight indices on which the parties made these steps; recoveries free what they find. Where
-//! /// fewer than 2^64 - 1 steps were made, no index has two holders, and each call that ended did what it answered.
+//! /// fewer than 2^64 - 1 steps were made, no index has two holders, and an acquire took just the index that it answers.
 //! fn ran(
 //!     alloc: Global,
 //!     parties: usize,

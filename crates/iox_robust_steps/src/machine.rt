@@ -32,8 +32,9 @@ pub struct Finished {
 /// whose recovery began: what its parties have in hand is skipped, unless it has freed its index or has its answer. What recoveries
 /// decide on each index is handed in. Where fewer than 2^64 - 1 steps were made, no index has two holders, the holder is the party that
 /// took it, between two takings of an index lies its release or recovery, of a locked set no index is out, only a call that was to lock
-/// it locked it, it stays locked, each call that ended did what it answered, and a recovery left its owner no index that it was to free.
-/// It freed nothing else, however many steps were made.
+/// it locked it, it stays locked, by its own steps an acquire took just the index that it answers, a release gave back just its own, and
+/// what was refused took none; and a recovery left its owner no index that it was to free. It freed nothing else, at any step, however
+/// many were made.
 #[derive(Debug, Drop)]
 pub struct RobustSetMachine {
     state: State,
@@ -57,6 +58,7 @@ impl RobustSetMachine {
     ghost use Rattle.iox_robust_steps.specs.Machine.{stage_at};
     ghost use Rattle.iox_robust_steps.specs.Machine.{is_locked};
     ghost use Rattle.iox_robust_steps.specs.OfCalls.{StepsAreOfCalls, TellsStep};
+    ghost use Rattle.iox_robust_steps.specs.Recovering.{FreesOnlyItsOwn};
 
     /// A set of this many indices, of which none is taken, with this many parties, and with the decisions of recoveries: a
     /// recovery names a list of them by its number, which says of each index whether it is to be freed; where it says nothing the
@@ -79,6 +81,7 @@ impl RobustSetMachine {
     pub fn step(&mut self, step: Move) -> Stepped
         ensures steps { StepsTo self.old step result self.new }
         ensures tells { TellsStep self.old step result self.new }
+        ensures recovers { FreesOnlyItsOwn self.old step self.new }
         ensures recorded { IsRecorded self.new }
         ensures counted { StepsAreOfCalls self.new }
         ensures orderly { HasFewSteps self.new → IsOrderly self.new }

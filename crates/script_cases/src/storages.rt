@@ -1,6 +1,6 @@
 //! A storage that gives the answers of a line, whatever lies in it, and what builders come to over it.
 
-use iox_describe::{Description, ServiceHash, ServiceName, decode, encode};
+use iox_describe::{Description, ServiceHash, ServiceName, decode, encode, encode_v1};
 use iox_negotiate::{Builder, Negotiated, PortFactory, ServiceBuilder};
 use iox_negotiate_base::{
     LeaveAnswer, LockAnswer, LookAnswer, MakeSegmentAnswer, OpenSegmentAnswer, PublishAnswer,
@@ -384,13 +384,23 @@ fn sound_spaces(alloc: Global, pattern: &str, line: &[u8]) -> Result<usize, Allo
     Ok(sound)
 }
 
-// Whether these bytes are the line of a description of the service that another description is of.
+// The line of version 1 of what a line describes.
+fn first_line(alloc: Global, line: &[u8]) -> Result<Vec<u8>, AllocError> {
+    match decode(alloc, line) {
+        Ok(description) => encode_v1(alloc, &description).or(Err(AllocError)),
+        Err(_) => Err(AllocError),
+    }
+}
+
+// Whether these bytes are a line of a description of the service that another description is of.
 fn describes(alloc: Global, own: &Description, bytes: &[u8]) -> Result<bool, AllocError> {
     let Ok(read) = decode(alloc, bytes) else {
         return Ok(false);
     };
-    let spelled = encode(alloc, &read)?;
-    Ok(read.service_hash() == own.service_hash() && spelled.as_slice() == bytes)
+    let second = encode(alloc, &read)?;
+    let first = encode_v1(alloc, &read);
+    let is_spelled = second.as_slice() == bytes || first.is_ok_and(|line| line.as_slice() == bytes);
+    Ok(read.service_hash() == own.service_hash() && is_spelled)
 }
 
 // How many changes of one byte of a line, to one of a few others, are neither corrupted nor the line of such a service.
@@ -411,9 +421,20 @@ fn odd_bytes(alloc: Global, pattern: &str, line: &[u8]) -> Result<usize, AllocEr
     Ok(odd)
 }
 
-// How often a service could be opened, or otherwise was amiss, with a part of its line or a line that is nearly it.
-fn amiss_lines(alloc: Global, verb: &str, pattern: &str) -> Result<String, AllocError> {
+// How often a service could be opened, or otherwise was amiss, with a part of its line or a line that is nearly it; `1` says
+// that it is the line of version 1.
+fn amiss_lines(
+    alloc: Global,
+    verb: &str,
+    pattern: &str,
+    version: &str,
+) -> Result<String, AllocError> {
     let line = published_line(alloc, pattern, NAME)?;
+    let line = if version == "1" {
+        first_line(alloc, line.as_slice())?
+    } else {
+        line
+    };
     let line = line.as_slice();
     let count = match verb {
         "prefixes" => sound_prefixes(alloc, pattern, line)?,
@@ -427,12 +448,13 @@ fn amiss_lines(alloc: Global, verb: &str, pattern: &str) -> Result<String, Alloc
 /// storage's answer to each access.
 ///
 /// In place of a call `prefixes` says how many proper prefixes of the service's line could be opened, `spaces` how often a space
-/// could be put in, and `bytes` how many changed bytes were neither corrupted nor the line of another description of the service.
+/// could be put in, and `bytes` how many changed bytes were neither corrupted nor the line of another description of the service. A
+/// `1` behind the pattern asks for the line of version 1.
 pub fn answered(alloc: Global, line: &str) -> Result<String, AllocError> {
     let (verb, rest) = line.split_once(' ').unwrap_or((line, ""));
     let (pattern, answers) = rest.split_once(' ').unwrap_or((rest, ""));
     if verb == "prefixes" || verb == "spaces" || verb == "bytes" {
-        return amiss_lines(alloc, verb, pattern);
+        return amiss_lines(alloc, verb, pattern, answers);
     }
     let line = published_line(alloc, pattern, NAME)?;
     let other = published_line(alloc, pattern, "B")?;

@@ -60,6 +60,10 @@ pub enum PortCommand<'a, T> {
     Read {
         sample: u64,
     },
+    /// Asks for the number of a sample's message.
+    Sequence {
+        sample: u64,
+    },
     /// Ends the hold of a sample.
     Release {
         sample: u64,
@@ -103,6 +107,7 @@ impl<'a, T> PortCommand<'a, T> {
             PortCommand::GiveUp { publisher } => Command::GiveUp { publisher },
             PortCommand::Receive { subscriber } => Command::Receive { subscriber },
             PortCommand::Read { sample } => Command::Read { sample },
+            PortCommand::Sequence { sample } => Command::Sequence { sample },
             PortCommand::Release { sample } => Command::Release { sample },
             PortCommand::Update { port } => Command::Update { port },
             PortCommand::Leave { port } => Command::Leave { port },

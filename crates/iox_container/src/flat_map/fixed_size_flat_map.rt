@@ -1,6 +1,6 @@
 //! A flat map whose capacity is part of its type.
 ghost use Rattle.std.specs.Prelude.{◌≡◌, ◌≢◌, ℕ, ◌+◌, ◌<◌, ◌≤◌, ◌↔◌, [], ◌∷◌, length, replicate, IsTrue, IsOk, IsSome, IfOk, IfSome};
-ghost use Rattle.std.specs.Prelude.{IfNone, OnOk, OnErr, Ok, Err, Some, None, slice_get, option_copied, option_map};
+ghost use Rattle.std.specs.Prelude.{IfNone, OnOk, OnErr, Ok, Err, Some, None, false, slice_get, option_copied, option_map};
 ghost use Rattle.std.specs.Bool.{OnFalse};
 ghost use Rattle.std.specs.Borrow.{sem};
 ghost use Rattle.std.specs.Fn.{CalledAt};
@@ -134,6 +134,8 @@ impl<K: Eq, V, const CAPACITY: usize> FixedSizeFlatMap<K, V, CAPACITY> {
             ↔ ((value_of K.eq key self.old ≡ None) × (length (pairs self.old.values) ≡ CAPACITY)) }
         ensures accepted_by_pairs { IsOk result ↔ ((value_of K.eq key self.old ≡ None) × (length (pairs self.old.values) < CAPACITY)) }
         ensures ok { OnOk result (IfSome (slice_get self.old.free 0) (λ place. self.new ≡ stored self.old place (key, value))) }
+        ensures found { OnOk result (value_of K.eq key self.new ≡ Some value) }
+        ensures others { OnOk result ((other : K) → K.eq key other ≡ false → value_of K.eq other self.new ≡ value_of K.eq other self.old) }
         ensures err { OnErr result (self.new ≡ self.old) }
     {
         self.map.insert(key, value)
@@ -147,6 +149,8 @@ impl<K: Eq, V, const CAPACITY: usize> FixedSizeFlatMap<K, V, CAPACITY> {
         ensures value { result ≡ value_of K.eq key.now self.old }
         ensures some { IfSome (place_of K.eq key.now self.old) (λ found. self.new ≡ released self.old found.0) }
         ensures none { IfNone result (self.new ≡ self.old) }
+        ensures gone { value_of K.eq key.now self.new ≡ None }
+        ensures others { (other : K) → K.eq key.now other ≡ false → value_of K.eq other self.new ≡ value_of K.eq other self.old }
     {
         self.map.remove(key)
     }

@@ -117,6 +117,7 @@ impl<T, const CAPACITY: usize> FixedSizeSlotMap<T, CAPACITY> {
         ensures key { result ≡ slice_get self.old.free 0 }
         ensures some { IfSome result (λ key. self.new ≡ stored self.old key value) }
         ensures within { IfSome result (λ key. key < CAPACITY) }
+        ensures free { IfSome result (λ key. value_at self.old.values key ≡ None) }
         ensures rest { self.new.free ≡ drop 1 self.old.free }
         ensures none { IfNone result (self.new ≡ self.old) }
     {

@@ -1,6 +1,7 @@
 //! What is agreed for a publish-subscribe service.
 ghost use Rattle.std.specs.Prelude.{◌≡◌, ◌↔◌, IsTrue};
 
+use crate::description::Version;
 use crate::setting::{PatternSetting, Rule, SettingValue, adjusted, are_allowed, with_defaults};
 use iox_describe_base::limits::{NUMBER_OF_PORTS_END, NUMBER_OF_SAMPLES_END};
 use iox_describe_base::message_type::MessageTypeDetails;
@@ -20,6 +21,8 @@ pub struct StaticConfig {
     pub max_publishers: u64,
     /// How many subscribers it may have.
     pub max_subscribers: u64,
+    /// Whether the messages of each publisher have numbers, so that a subscriber can tell what it missed.
+    pub sequence_numbers: bool,
     /// How many samples of one publisher a subscriber may hold.
     pub subscriber_max_borrowed_samples: u64,
     /// How many messages of one publisher may wait for a subscriber.
@@ -48,6 +51,7 @@ impl StaticConfig {
             max_nodes: 0,
             max_publishers: 0,
             max_subscribers: 0,
+            sequence_numbers: false,
             subscriber_max_borrowed_samples: 0,
             subscriber_max_buffer_size: 0,
             types,
@@ -90,12 +94,37 @@ pub enum Setting {
     MaxPublishers,
     /// `max_subscribers`
     MaxSubscribers,
+    /// `sequence_numbers`
+    SequenceNumbers,
     /// `subscriber_max_borrowed_samples`
     SubscriberMaxBorrowedSamples,
     /// `subscriber_max_buffer_size`
     SubscriberMaxBufferSize,
     /// `types`
     Types,
+}
+
+impl Setting {
+    ghost use Rattle.iox_describe_settings.specs.PublishSubscribeSettings.{written};
+
+    /// The settings that a line of the version has, in rising order of the bytes of their keys.
+    pub fn written(version: Version) -> &'static [Setting]
+        ensures { result.now ≡ written version }
+    {
+        match version {
+            Version::One => &[
+                Setting::EnableSafeOverflow,
+                Setting::HistorySize,
+                Setting::MaxNodes,
+                Setting::MaxPublishers,
+                Setting::MaxSubscribers,
+                Setting::SubscriberMaxBorrowedSamples,
+                Setting::SubscriberMaxBufferSize,
+                Setting::Types,
+            ],
+            Version::Two => Self::all(),
+        }
+    }
 }
 
 impl PatternSetting for Setting {
@@ -105,6 +134,7 @@ impl PatternSetting for Setting {
     ghost use Rattle.iox_describe_settings.specs.declared.static_config.publish_subscribe.Setting.TheVariants.{HistorySize, MaxNodes};
     ghost use Rattle.iox_describe_settings.specs.declared.static_config.publish_subscribe.Setting.TheVariants.{MaxPublishers};
     ghost use Rattle.iox_describe_settings.specs.declared.static_config.publish_subscribe.Setting.TheVariants.{MaxSubscribers};
+    ghost use Rattle.iox_describe_settings.specs.declared.static_config.publish_subscribe.Setting.TheVariants.{SequenceNumbers};
     ghost use Rattle.iox_describe_settings.specs.declared.static_config.publish_subscribe.Setting.TheVariants.{SubscriberMaxBorrowedSamples};
     ghost use Rattle.iox_describe_settings.specs.declared.static_config.publish_subscribe.Setting.TheVariants.{SubscriberMaxBufferSize};
     ghost use Rattle.iox_describe_settings.specs.declared.static_config.publish_subscribe.Setting.TheVariants.{Types};
@@ -128,6 +158,7 @@ impl PatternSetting for Setting {
             Setting::MaxNodes,
             Setting::MaxPublishers,
             Setting::MaxSubscribers,
+            Setting::SequenceNumbers,
             Setting::SubscriberMaxBorrowedSamples,
             Setting::SubscriberMaxBufferSize,
             Setting::Types,
@@ -141,6 +172,7 @@ impl PatternSetting for Setting {
             Setting::MaxNodes => "max_nodes",
             Setting::MaxPublishers => "max_publishers",
             Setting::MaxSubscribers => "max_subscribers",
+            Setting::SequenceNumbers => "sequence_numbers",
             Setting::SubscriberMaxBorrowedSamples => "subscriber_max_borrowed_samples",
             Setting::SubscriberMaxBufferSize => "subscriber_max_buffer_size",
             Setting::Types => "types",
@@ -154,6 +186,7 @@ impl PatternSetting for Setting {
             Setting::MaxNodes => Rule::number(20, 1, Some(NUMBER_OF_PORTS_END)),
             Setting::MaxPublishers => Rule::number(2, 1, Some(NUMBER_OF_PORTS_END)),
             Setting::MaxSubscribers => Rule::number(8, 1, Some(NUMBER_OF_PORTS_END)),
+            Setting::SequenceNumbers => Rule::Switch(false),
             Setting::SubscriberMaxBorrowedSamples => Rule::number(
                 2,
                 1,
@@ -171,6 +204,7 @@ impl PatternSetting for Setting {
             Setting::MaxNodes => SettingValue::Number(config.max_nodes),
             Setting::MaxPublishers => SettingValue::Number(config.max_publishers),
             Setting::MaxSubscribers => SettingValue::Number(config.max_subscribers),
+            Setting::SequenceNumbers => SettingValue::Switch(config.sequence_numbers),
             Setting::SubscriberMaxBorrowedSamples => SettingValue::Number(
                 config.subscriber_max_borrowed_samples,
             ),
@@ -191,6 +225,8 @@ impl PatternSetting for Setting {
                 number,
             (Setting::MaxSubscribers, SettingValue::Number(number)) => config.max_subscribers =
                 number,
+            (Setting::SequenceNumbers, SettingValue::Switch(switch)) => config.sequence_numbers =
+                switch,
             (Setting::SubscriberMaxBorrowedSamples, SettingValue::Number(number)) =>
                 config.subscriber_max_borrowed_samples = number,
             (Setting::SubscriberMaxBufferSize, SettingValue::Number(number)) =>
@@ -203,7 +239,7 @@ impl PatternSetting for Setting {
     ghost in_order = { refl };
 
     ghost of_kind = { elim
-        [ EnableSafeOverflow ↦ λ c. tt | HistorySize ↦ λ c. tt | MaxNodes ↦ λ c. tt | MaxPublishers ↦ λ c. tt | MaxSubscribers ↦ λ c. tt | SubscriberMaxBorrowedSamples ↦ λ c. tt | SubscriberMaxBufferSize ↦ λ c. tt | Types ↦ λ c. tt ] };
+        [ EnableSafeOverflow ↦ λ c. tt | HistorySize ↦ λ c. tt | MaxNodes ↦ λ c. tt | MaxPublishers ↦ λ c. tt | MaxSubscribers ↦ λ c. tt | SequenceNumbers ↦ λ c. tt | SubscriberMaxBorrowedSamples ↦ λ c. tt | SubscriberMaxBufferSize ↦ λ c. tt | Types ↦ λ c. tt ] };
 
     ghost is_whole = { λ target config. refl };
 }

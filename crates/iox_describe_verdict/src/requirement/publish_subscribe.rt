@@ -29,6 +29,9 @@ pub enum ClauseError {
     /// The switch `enable_safe_overflow` differs.
     #[error("ClauseError::IncompatibleOverflowBehavior")]
     IncompatibleOverflowBehavior,
+    /// The switch `sequence_numbers` differs.
+    #[error("ClauseError::IncompatibleSequenceNumbers")]
+    IncompatibleSequenceNumbers,
     /// The service has fewer publishers than asked.
     #[error("ClauseError::DoesNotSupportRequestedAmountOfPublishers")]
     DoesNotSupportRequestedAmountOfPublishers,
@@ -58,6 +61,8 @@ pub struct Requirement {
     pub attributes: AttributeVerifier,
     /// The switch that it must have.
     pub enable_safe_overflow: Option<bool>,
+    /// The switch that it must have.
+    pub sequence_numbers: Option<bool>,
     /// The least number that it may have.
     pub max_publishers: Option<u64>,
     /// The least number that it may have.
@@ -84,6 +89,7 @@ impl Requirement {
             types,
             attributes,
             enable_safe_overflow: None,
+            sequence_numbers: None,
             max_publishers: None,
             max_subscribers: None,
             subscriber_max_buffer_size: None,
@@ -102,6 +108,7 @@ impl Requirement {
             types: self.types,
             attributes: self.attributes.try_clone(alloc)?,
             enable_safe_overflow: self.enable_safe_overflow,
+            sequence_numbers: self.sequence_numbers,
             max_publishers: self.max_publishers,
             max_subscribers: self.max_subscribers,
             subscriber_max_buffer_size: self.subscriber_max_buffer_size,
@@ -154,6 +161,7 @@ impl RequiredSetting for Setting {
     ghost use Rattle.iox_describe_settings.specs.declared.static_config.publish_subscribe.Setting.TheVariants.{HistorySize, MaxNodes};
     ghost use Rattle.iox_describe_settings.specs.declared.static_config.publish_subscribe.Setting.TheVariants.{MaxPublishers};
     ghost use Rattle.iox_describe_settings.specs.declared.static_config.publish_subscribe.Setting.TheVariants.{MaxSubscribers};
+    ghost use Rattle.iox_describe_settings.specs.declared.static_config.publish_subscribe.Setting.TheVariants.{SequenceNumbers};
     ghost use Rattle.iox_describe_settings.specs.declared.static_config.publish_subscribe.Setting.TheVariants.{SubscriberMaxBorrowedSamples};
     ghost use Rattle.iox_describe_settings.specs.declared.static_config.publish_subscribe.Setting.TheVariants.{SubscriberMaxBufferSize};
     ghost use Rattle.iox_describe_settings.specs.declared.static_config.publish_subscribe.Setting.TheVariants.{Types};
@@ -177,6 +185,7 @@ impl RequiredSetting for Setting {
             Setting::MaxNodes => requirement.max_nodes.map(SettingValue::Number),
             Setting::MaxPublishers => requirement.max_publishers.map(SettingValue::Number),
             Setting::MaxSubscribers => requirement.max_subscribers.map(SettingValue::Number),
+            Setting::SequenceNumbers => requirement.sequence_numbers.map(SettingValue::Switch),
             Setting::SubscriberMaxBorrowedSamples => requirement
                 .subscriber_max_borrowed_samples
                 .map(SettingValue::Number),
@@ -194,6 +203,7 @@ impl RequiredSetting for Setting {
             Setting::MaxNodes => ClauseError::DoesNotSupportRequestedAmountOfNodes,
             Setting::MaxPublishers => ClauseError::DoesNotSupportRequestedAmountOfPublishers,
             Setting::MaxSubscribers => ClauseError::DoesNotSupportRequestedAmountOfSubscribers,
+            Setting::SequenceNumbers => ClauseError::IncompatibleSequenceNumbers,
             Setting::SubscriberMaxBorrowedSamples =>
                 ClauseError::DoesNotSupportRequestedMinSubscriberBorrowedSamples,
             Setting::SubscriberMaxBufferSize => ClauseError::DoesNotSupportRequestedMinBufferSize,
@@ -202,5 +212,5 @@ impl RequiredSetting for Setting {
     }
 
     ghost named_is_of_kind = { elim
-        [ EnableSafeOverflow ↦ λ r. switch_is_of_kind (rule EnableSafeOverflow) tt r.enable_safe_overflow | HistorySize ↦ λ r. number_is_of_kind (rule HistorySize) tt r.history_size | MaxNodes ↦ λ r. number_is_of_kind (rule MaxNodes) tt r.max_nodes | MaxPublishers ↦ λ r. number_is_of_kind (rule MaxPublishers) tt r.max_publishers | MaxSubscribers ↦ λ r. number_is_of_kind (rule MaxSubscribers) tt r.max_subscribers | SubscriberMaxBorrowedSamples ↦ λ r. number_is_of_kind (rule SubscriberMaxBorrowedSamples) tt r.subscriber_max_borrowed_samples | SubscriberMaxBufferSize ↦ λ r. number_is_of_kind (rule SubscriberMaxBufferSize) tt r.subscriber_max_buffer_size | Types ↦ λ r. tt ] };
+        [ EnableSafeOverflow ↦ λ r. switch_is_of_kind (rule EnableSafeOverflow) tt r.enable_safe_overflow | HistorySize ↦ λ r. number_is_of_kind (rule HistorySize) tt r.history_size | MaxNodes ↦ λ r. number_is_of_kind (rule MaxNodes) tt r.max_nodes | MaxPublishers ↦ λ r. number_is_of_kind (rule MaxPublishers) tt r.max_publishers | MaxSubscribers ↦ λ r. number_is_of_kind (rule MaxSubscribers) tt r.max_subscribers | SequenceNumbers ↦ λ r. switch_is_of_kind (rule SequenceNumbers) tt r.sequence_numbers | SubscriberMaxBorrowedSamples ↦ λ r. number_is_of_kind (rule SubscriberMaxBorrowedSamples) tt r.subscriber_max_borrowed_samples | SubscriberMaxBufferSize ↦ λ r. number_is_of_kind (rule SubscriberMaxBufferSize) tt r.subscriber_max_buffer_size | Types ↦ λ r. tt ] };
 }

@@ -2,6 +2,7 @@
 ghost use Rattle.iox_domain.specs.DomainValues.declared.degradation.DegradationCause.TheVariants as cause;
 ghost use Rattle.iox_domain.specs.Attaching.{AttachesWithoutMemory, KeysStay};
 ghost use Rattle.iox_domain.specs.PortLawsLaws.{HeldStays, ReceivedIsHeld, AtMostOnce, NeedsNoMemory};
+ghost use Rattle.iox_domain.specs.Gaps.{GapsTell};
 ghost use Rattle.iox_domain.specs.Order.{InOrder};
 ghost use Rattle.iox_domain.specs.Tries.{SendReachesOnce, SendWaits};
 
@@ -40,6 +41,16 @@ pub fn needs_no_memory<T, U, B: Decides + Degrades>(_handlers: &B)
 /// answer. And what a receive takes is one message, whose slot its answer names.
 pub fn in_order<T, U, O: Overrides, B: Decides + Degrades>(_overriding: &O, _handlers: &B)
     ensures { InOrder T U (O.overrides _overriding.now)
+        (B.degrades _handlers.now cause.FailedToEstablishConnection)
+        (B.decides _handlers.now) }
+{}
+
+/// Through any calls from a new service on, what a publisher sent has numbers, one after the other, if its service numbers messages,
+/// and else none has one. Between two messages that a connection gave one after the other, with numbers m and n, its publisher sent
+/// just those n - m - 1 messages that have the numbers between, and the connection missed them: it dropped them or passed them over,
+/// since it gave none of them, and none waits there. So it is where the connection goes on, whatever override and handlers answer.
+pub fn gaps_tell<T, U, O: Overrides, B: Decides + Degrades>(_overriding: &O, _handlers: &B)
+    ensures { GapsTell T U (O.overrides _overriding.now)
         (B.degrades _handlers.now cause.FailedToEstablishConnection)
         (B.decides _handlers.now) }
 {}

@@ -14,9 +14,9 @@ pub fn service_stays<T, U, O: Overrides, B: Decides + Degrades>(_overriding: &O,
 {}
 
 /// Each publisher, from its coming until it is gone, is made for just what the service allows: whether a full mailbox lets its
-/// oldest message go, how many messages are kept for subscribers that come later, and how many of each connection may wait and be
-/// borrowed. And of no connection more wait, or are borrowed, than may. So it is whatever was called before, and whatever
-/// override and handlers answered. It is on a function that does nothing.
+/// oldest message go, how many messages are kept for subscribers that come later, how many of each connection may wait and be
+/// borrowed, and whether messages have numbers. And of no connection more wait, or are borrowed, than may. So it is whatever was
+/// called before, and whatever override and handlers answered. It is on a function that does nothing.
 pub fn sizes_agree<T, U, O: Overrides, B: Decides + Degrades>(_overriding: &O, _handlers: &B)
     ensures { SizesAgree T U (O.overrides _overriding.now)
         (B.degrades _handlers.now cause.FailedToEstablishConnection)

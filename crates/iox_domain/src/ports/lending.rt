@@ -155,7 +155,7 @@ impl<T: Copy, U: Copy> ServicePorts<T, U> {
         }
     }
 
-    /// What the header of the loan in a slot says, if a loan of the publisher is there.
+    /// What the header of the loan in a slot says, if a loan of the publisher is there. A loan has no number: its send gives it one.
     ///
     /// Ported from `iceoryx2::sample_mut_uninit::SampleMutUninit::header`.
     pub fn loan_header(&self, number: u64, slot: usize) -> Option<Header>
@@ -167,6 +167,7 @@ impl<T: Copy, U: Copy> ServicePorts<T, U> {
             node_id: port.owner.node_id,
             publisher_id: port.number,
             number_of_elements: elements,
+            sequence: None,
         })
     }
 

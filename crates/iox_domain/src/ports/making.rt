@@ -13,7 +13,7 @@ use iox_domain_ports::{
 };
 use iox_domain_values::{
     AllocationStrategy, Degrades, Overrides, PortIdentity, PortOwner, PublisherCreateError,
-    SubscriberCreateError, number_of_places,
+    SubscriberCreateError, before_first, number_of_places,
 };
 use std::alloc::{AllocError, Global};
 
@@ -30,6 +30,8 @@ pub struct PublisherConfig {
     pub unit: usize,
     /// What a loan of more values does.
     pub allocation: AllocationStrategy,
+    /// The number of its first message, where the service numbers them; 0 stands for 1.
+    pub first_sequence: u64,
 }
 
 /// What a subscriber is made with.
@@ -43,8 +45,9 @@ pub struct SubscriberConfig {
 
 impl<T: Copy, U: Copy> ServicePorts<T, U> {
     /// A publisher comes, and its number is the answer. It gets as many slots as it needs in the worst case, or fewer as `overriding`
-    /// answers; `blank` fills them, and a loan has this user header at first. It is connected to the subscribers that are listed; where
-    /// a connection isn't made `handler` is asked, and it comes nevertheless.
+    /// answers; `blank` fills them, and a loan has this user header at first. Where the service numbers messages, its first one gets the
+    /// number that the config names. It is connected to the subscribers that are listed; where a connection isn't made `handler` is
+    /// asked, and it comes nevertheless.
     ///
     /// Refused with `UnableToCreateDataSegment` if the slots of the worst case or `values` are 2^32 or more; else with
     /// `ExceedsMaxSupportedPublishers` if no place is free; else with `UnableToCreateDataSegment` where an allocation fails. Then
@@ -134,6 +137,7 @@ impl<T: Copy, U: Copy> ServicePorts<T, U> {
             self.sizes.max_subscribers as usize,
             config.allocation,
             config.unit,
+            before_first(self.sizes.sequence_numbers, config.first_sequence),
             self.sender_config(&config, slots),
             blank,
             user_header,

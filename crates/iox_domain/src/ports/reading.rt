@@ -5,7 +5,7 @@ ghost use Rattle.iox_domain.specs.Reading.{sample_in, header_in};
 use crate::ports::service_ports::ServicePorts;
 use iox_describe_base::Header;
 use iox_domain_ports::Taken;
-use iox_domain_ports::reading::{elements_at, payload_at, user_header_at};
+use iox_domain_ports::reading::{elements_at, payload_at, sequence_at, user_header_at};
 
 impl<T: Copy, U: Copy> ServicePorts<T, U> {
     /// The values of a sample that is held, as they were when it was sent. None where no such sample is held.
@@ -32,7 +32,8 @@ impl<T: Copy, U: Copy> ServicePorts<T, U> {
         }
     }
 
-    /// What the header of a sample that is held says. None where no such sample is held.
+    /// What the header of a sample that is held says: also the number of its message, where the service numbers them. None where no such
+    /// sample is held.
     ///
     /// Ported from `iceoryx2::sample::Sample::header`.
     pub fn header(&self, sample: Taken) -> Option<Header>
@@ -40,10 +41,12 @@ impl<T: Copy, U: Copy> ServicePorts<T, U> {
     {
         let port = self.publishers.get(sample.publisher)?;
         let elements = elements_at(port, sample.index, sample.slot)?;
+        let sequence = sequence_at(port, sample.index, sample.slot)?;
         Some(Header {
             node_id: port.owner.node_id,
             publisher_id: port.number,
             number_of_elements: elements,
+            sequence,
         })
     }
 }

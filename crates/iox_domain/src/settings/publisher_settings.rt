@@ -17,9 +17,11 @@ pub struct PublisherSettings {
     pub initial_max_slice_len: usize,
     /// What a loan of a longer slice does.
     pub allocation: AllocationStrategy,
+    /// The number of its first message, where the service numbers them; 0 stands for 1.
+    pub first_sequence: u64,
 }
 
-/// Two loans, sends that wait for room, slices of one value, and a room that doesn't grow.
+/// Two loans, sends that wait for room, slices of one value, a room that doesn't grow, and numbers from 1 on.
 impl Default for PublisherSettings {
     ghost is_default = { λ made. made ≡ publisher_defaults };
 
@@ -29,6 +31,7 @@ impl Default for PublisherSettings {
             strategy: BackpressureStrategy::default(),
             initial_max_slice_len: 1,
             allocation: AllocationStrategy::default(),
+            first_sequence: 1,
         }
     }
 }
@@ -65,6 +68,16 @@ impl PublisherSettings {
         ensures { result ≡ record self { allocation = value } }
     {
         self.allocation = value;
+        self
+    }
+
+    /// Names the number of its first message, where the service numbers them; 0 stands for 1.
+    ///
+    /// This port's own: an iceoryx2 message has no number.
+    pub fn first_sequence(mut self, value: u64) -> Self
+        ensures { result ≡ record self { first_sequence = value } }
+    {
+        self.first_sequence = value;
         self
     }
 }

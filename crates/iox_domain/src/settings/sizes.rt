@@ -38,6 +38,7 @@ fn sizes(config: &StaticConfig, expired_connection_buffer: u32) -> ServiceSizes
         subscriber_max_borrowed_samples: borrowed,
         history_size: config.history_size as u32,
         enable_safe_overflow: config.enable_safe_overflow,
+        sequence_numbers: config.sequence_numbers,
         expired_connections: expired_connection_buffer.max(borrowed),
     }
 }

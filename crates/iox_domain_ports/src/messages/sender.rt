@@ -97,6 +97,7 @@ impl<T: Copy, U: Copy> Sender<T, U> {
         let blank = SlotHeader {
             elements: 0,
             user_header,
+            sequence: None,
         };
         let headers = vec![in alloc; blank; config.slots]?;
         Ok(Sender {
@@ -123,6 +124,7 @@ impl<T: Copy, U: Copy> Sender<T, U> {
         self.headers[slot] = SlotHeader {
             elements,
             user_header: self.blank.user_header,
+            sequence: None,
         };
         Some(slot)
     }
@@ -252,28 +254,40 @@ impl<T: Copy, U: Copy> Sender<T, U> {
         self.values.values(slot)
     }
 
-    /// Begins the send of the written loan in this slot: it is no loan any longer, but in use until the send is finished, and the
-    /// newest of the history.
-    pub fn begin_send(&mut self, slot: usize)
+    /// Begins the send of the written loan in this slot, and gives its message this number: it is no loan any longer, but in use until
+    /// the send is finished, and the newest of the history.
+    pub fn begin_send(&mut self, slot: usize, sequence: Option<u64>)
         requires alone { self.old.uses.sending ≡ None }
         requires written { is_written_loan (loan_at slot self.old.uses) ≡ true }
         ensures { (loan : Loan T U) → loan_at slot self.old.uses ≡ Some loan
-            → self.new ≡ with_uses (begun (place_in slot self.old.uses) (sent_as loan) self.old.uses) self.old }
+            → self.new ≡ with_uses (begun (place_in slot self.old.uses) (sent_as sequence loan) self.old.uses) self.old }
     {
+        self.headers[slot].sequence = sequence;
         self.uses.begin_send(slot);
     }
 
     /// Sends a message again, in its slot of the current segment, whether it is in use or nothing is in this slot: it is in use until the
     /// send is finished. Neither history nor connections have it by this.
-    pub fn begin_again(&mut self, slot: usize, elements: u64, user_header: U, values: &[T])
+    pub fn begin_again(
+        &mut self,
+        slot: usize,
+        sequence: Option<u64>,
+        elements: u64,
+        user_header: U,
+        values: &[T],
+    )
         requires alone { self.old.uses.sending ≡ None }
         requires first { self.old.uses.first ≤ slot }
         requires within { slot < self.old.uses.first + self.old.uses.size }
         requires room { length values.now ≤ self.old.room }
-        requires only { StandsAlone (record { slot = slot; elements = elements; user_header = user_header; values = values.now })
+        requires only { StandsAlone
+            (record { slot = slot; sequence = sequence; elements = elements; user_header = user_header; values = values.now })
             self.old.uses }
-        ensures { self.new ≡ with_uses (record self.old.uses
-            { sending = Some (record { slot = slot; elements = elements; user_header = user_header; values = values.now }) }) self.old }
+        ensures { self.new ≡ with_uses (record self.old.uses {
+          sending = Some
+              (record { slot = slot; sequence = sequence; elements = elements; user_header = user_header; values = values.now });
+        })
+            self.old }
     {
         self.values.set_length(slot, values.len());
         self.values.copy(slot, values);
@@ -282,6 +296,7 @@ impl<T: Copy, U: Copy> Sender<T, U> {
         self.headers[slot] = SlotHeader {
             elements,
             user_header,
+            sequence,
         };
         self.uses.begin_again(slot);
     }
@@ -327,6 +342,19 @@ impl<T: Copy, U: Copy> Sender<T, U> {
             → result ≡ message.elements }
     {
         self.headers[slot].elements
+    }
+
+    /// The number of the message in this slot.
+    pub fn sequence(&self, slot: usize) -> Option<u64>
+        requires { slot < self.now.uses.first + self.now.uses.size }
+        ensures borrowed { (index at : ℕ) (message : Message T U)
+            → slice_get (connection_at index self.now.uses).borrowed at ≡ Some message → message.slot ≡ slot → result ≡ message.sequence }
+        ensures waiting { (index at : ℕ) (message : Message T U)
+            → slice_get (connection_at index self.now.uses).waiting at ≡ Some message → message.slot ≡ slot → result ≡ message.sequence }
+        ensures remembered { (at : ℕ) (message : Message T U) → slice_get self.now.uses.history at ≡ Some message → message.slot ≡ slot
+            → result ≡ message.sequence }
+    {
+        self.headers[slot].sequence
     }
 
     /// The user header of the message in this slot.

@@ -9,4 +9,6 @@ pub struct SlotHeader<U> {
     pub elements: u64,
     /// Its user header.
     pub user_header: U,
+    /// The number that its send gave it; None for a loan, and where messages have no numbers.
+    pub sequence: Option<u64>,
 }

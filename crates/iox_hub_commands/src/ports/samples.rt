@@ -1,9 +1,9 @@
-//! A sample is read, and released.
+//! A sample is read, and released, and the number of its message told.
 ghost use Rattle.iox_domain.specs.Homes as homes;
 ghost use Rattle.std.specs.Prelude.{◌≡◌, option_copied};
 ghost use Rattle.iox_container.specs.NumberTable.{value_at};
 ghost use Rattle.iox_hub_commands.specs.Numbering.{removed_if};
-ghost use Rattle.iox_hub_commands.specs.Reading.{values_under, is_held, ReleasesUnder};
+ghost use Rattle.iox_hub_commands.specs.Reading.{values_under, sequence_under, is_held, ReleasesUnder};
 ghost use Rattle.iox_hub_commands.specs.Tables.{without_sample};
 
 use crate::ports::made::Made;
@@ -25,6 +25,26 @@ impl Made {
         let held = self.samples.get(sample).copied()?;
         match calls::ports(home, held.port.domain) {
             Some(ports) => ports.payload(held.taken),
+            None => None,
+        }
+    }
+
+    /// The sequence number of a sample's message, which is none where its service doesn't number messages. None where no sample goes by the
+    /// number, or where its domain isn't here.
+    #[tactic(auto, using(crate::proofs::Sequences::header_sequence))]
+    pub fn sequence<T: Copy, U: Copy, H: Home<T, U>>(
+        &self,
+        home: &H,
+        sample: u64,
+    ) -> Option<Option<u64>>
+        ensures { result ≡ sequence_under (homes.ports_of H.domain_of) (value_at self.now.samples sample) home.now }
+    {
+        let held = self.samples.get(sample).copied()?;
+        match calls::ports(home, held.port.domain) {
+            Some(ports) => match ports.header(held.taken) {
+                Some(header) => Some(header.sequence),
+                None => None,
+            },
             None => None,
         }
     }

@@ -1,10 +1,11 @@
 //! Publishers of a domain without messages.
-ghost use Rattle.std.specs.Prelude.{◌≡◌};
+ghost use Rattle.std.specs.Prelude.{◌≡◌, length, slice_get, Some};
 ghost use Rattle.iox_domain_ports.specs.Publishers.{changed};
-ghost use Rattle.iox_lanes.specs.Emptied.{without_messages, AreWithout};
+ghost use Rattle.iox_lanes.specs.Emptied.{gone_on, gone_on_by, with_last, without_messages, AreWithout};
 
 use iox_domain_ports::{PublisherPort, Publishers};
 use iox_lanes_opening::leaving::forget_messages;
+use iox_lanes_threads::LanePublisher;
 
 // A publisher forgets its messages.
 #[tactic(auto, using(crate::proofs::Forgetting::is_without))]
@@ -29,5 +30,61 @@ pub(crate) fn forget_all<T: Copy, U: Copy>(publishers: &mut Publishers<T, U>, nu
 {
     for at in 0..numbers.len() {
         forget_at(publishers, numbers[at]);
+    }
+}
+
+// A publisher goes on behind this number.
+fn go_on<T: Copy, U: Copy>(port: &mut PublisherPort<T, U>, last: Option<u64>)
+    ensures { port.new ≡ with_last last port.old }
+{
+    port.last_sequence = last;
+}
+
+// So does the publisher of a number, if there is one.
+fn go_on_at<T: Copy, U: Copy>(publishers: &mut Publishers<T, U>, number: u64, last: Option<u64>)
+    ensures { publishers.new ≡ changed number (with_last last) publishers.old }
+{
+    if let Some(port) = publishers.get_mut(number) {
+        go_on(port, last);
+    }
+}
+
+// So does the publisher of a port in threads, behind the number that this gave last.
+fn go_on_behind<T: Copy, U: Copy>(
+    publishers: &mut Publishers<T, U>,
+    numbers: &[u64],
+    port: &LanePublisher,
+)
+    ensures { publishers.new ≡ gone_on_by numbers.now (Some port.now) publishers.old }
+{
+    if let Some(number) = numbers.get(port.place()) {
+        go_on_at(publishers, *number, port.last_sequence());
+    }
+}
+
+// So does that of the port at a place of these, if there is one.
+fn go_on_by<T: Copy, U: Copy>(
+    publishers: &mut Publishers<T, U>,
+    numbers: &[u64],
+    ports: &[LanePublisher],
+    at: usize,
+)
+    ensures { publishers.new ≡ gone_on_by numbers.now (slice_get ports.now at) publishers.old }
+{
+    if let Some(port) = ports.get(at) {
+        go_on_behind(publishers, numbers, port);
+    }
+}
+
+// So do the publishers of these ports.
+pub(crate) fn go_on_all<T: Copy, U: Copy>(
+    publishers: &mut Publishers<T, U>,
+    numbers: &[u64],
+    ports: &[LanePublisher],
+)
+    ensures { publishers.new ≡ gone_on numbers.now ports.now publishers.old (length ports.now) }
+{
+    for at in 0..ports.len() {
+        go_on_by(publishers, numbers, ports, at);
     }
 }

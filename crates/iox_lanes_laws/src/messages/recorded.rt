@@ -143,17 +143,13 @@ impl RecordedLanes {
         ensures { IfOk result (λ made. made ≡ message_of self.now.lanes.table self.now.lanes.moments place loan lane.now) }
     {
         self.lanes.are_of_one_service();
-        let index = loan.saturating_sub(lane.first_slot()) as usize;
-        let head = match lane.heads().get(index) {
-            Some(head) => head.words(),
-            None => &[],
-        };
+        let head = lane.head(self.alloc, loan)?;
         Message::new(
             self.alloc,
             self.lanes.moments(),
             place,
             loan,
-            head,
+            &head,
             self.lanes.table(),
         )
     }

@@ -3,6 +3,7 @@ ghost use Rattle.std.specs.Prelude.{◌≡◌, ◌+◌, ◌<◌, ◌≤◌, [], 
 ghost use Rattle.std.specs.Bool.{OnTrue};
 ghost use Rattle.iox_domain_ports.specs.MessagesSending.{with_uses};
 ghost use Rattle.iox_domain_ports.specs.DomainSlots.Uses.{connection_at};
+ghost use Rattle.iox_lanes_opening.specs.Middles.{middle_of, middle_count};
 ghost use Rattle.iox_lanes_opening.specs.Restoring.{IsWhole, IsQuiet, AreLeft, OnlyWaits};
 ghost use Rattle.iox_lanes_opening.specs.Restored.{IsRested, IsRestored, MayWaitAt, left_at, place_of, with_waiting};
 
@@ -20,6 +21,7 @@ use iox_queues_base::Words;
 /// memory is.
 pub fn restore<T: Words, U: Words>(
     lanes: &Lanes,
+    numbered: bool,
     from: u64,
     indices: &[usize],
     first: u64,
@@ -29,25 +31,27 @@ pub fn restore<T: Words, U: Words>(
 ) -> bool
     requires room { 0 < vec_capacity one.old }
     requires connections { from + length indices.now ≤ length lanes.now.links }
-    requires whole { IsWhole T.WORDS U.WORDS lanes.now.table }
+    requires whole { IsWhole T.WORDS (middle_count numbered U.WORDS) lanes.now.table }
     ensures same { result ≡ false → sender.new ≡ sender.old }
     ensures not { result ≡ false → IsRested sender.old → ⊥ }
     ensures rested { OnTrue result (IsRested sender.old) }
-    ensures restored { OnTrue result (IsRestored T.of_parts U.of_parts lanes.now from indices.now first history.now sender.old sender.new) }
+    ensures restored { OnTrue result (IsRestored T.of_parts (middle_of numbered U.of_parts) lanes.now from indices.now first history.now
+        sender.old sender.new) }
     ensures room { vec_capacity one.new ≡ vec_capacity one.old }
 {
     if !is_rested(sender) {
         return false;
     }
     forget_messages(sender);
-    restore_connections(lanes, from, indices, first, sender, one);
-    restore_history(lanes.table(), history, first, sender, one);
+    restore_connections(lanes, numbered, from, indices, first, sender, one);
+    restore_history(lanes.table(), numbered, history, first, sender, one);
     true
 }
 
 // What the lanes leave at each connection of a publisher at which nothing waits.
 fn restore_connections<T: Words, U: Words>(
     lanes: &Lanes,
+    numbered: bool,
     from: u64,
     indices: &[usize],
     first: u64,
@@ -56,27 +60,29 @@ fn restore_connections<T: Words, U: Words>(
 )
     requires room { 0 < vec_capacity one.old }
     requires connections { from + length indices.now ≤ length lanes.now.links }
-    requires whole { IsWhole T.WORDS U.WORDS lanes.now.table }
+    requires whole { IsWhole T.WORDS (middle_count numbered U.WORDS) lanes.now.table }
     requires quiet { IsQuiet sender.old }
-    requires left { AreLeft T.of_parts U.of_parts lanes.now.table first sender.old.uses }
+    requires left { AreLeft T.of_parts (middle_of numbered U.of_parts) lanes.now.table first sender.old.uses }
     requires empty { (index : ℕ) → (connection_at index sender.old.uses).waiting ≡ [] }
     ensures rest { sender.new ≡ with_uses (record sender.old.uses { connections = sender.new.uses.connections }) sender.old }
     ensures count { length sender.new.uses.connections ≡ length sender.old.uses.connections }
     ensures each { (index : ℕ) → connection_at index sender.new.uses
         ≡ with_waiting (connection_at index sender.old.uses) (connection_at index sender.new.uses).waiting }
     ensures waits { (index : ℕ) → MayWaitAt lanes.now from first index sender.old (place_of index indices.now)
-        → (connection_at index sender.new.uses).waiting ≡ left_at T.of_parts U.of_parts lanes.now from first (place_of index indices.now) }
-    ensures left { AreLeft T.of_parts U.of_parts lanes.now.table first sender.new.uses }
+        → (connection_at index sender.new.uses).waiting ≡ left_at T.of_parts (middle_of numbered U.of_parts) lanes.now from first
+        (place_of index indices.now) }
+    ensures left { AreLeft T.of_parts (middle_of numbered U.of_parts) lanes.now.table first sender.new.uses }
     ensures room { vec_capacity one.new ≡ vec_capacity one.old }
 {
     for index in 0..sender.indices() {
-        restore_at(lanes, from, indices, first, index, sender, one);
+        restore_at(lanes, numbered, from, indices, first, index, sender, one);
     }
 }
 
 // What the lanes leave at the connection of an index, at which nothing waits.
 fn restore_at<T: Words, U: Words>(
     lanes: &Lanes,
+    numbered: bool,
     from: u64,
     indices: &[usize],
     first: u64,
@@ -86,20 +92,29 @@ fn restore_at<T: Words, U: Words>(
 )
     requires room { 0 < vec_capacity one.old }
     requires connections { from + length indices.now ≤ length lanes.now.links }
-    requires whole { IsWhole T.WORDS U.WORDS lanes.now.table }
+    requires whole { IsWhole T.WORDS (middle_count numbered U.WORDS) lanes.now.table }
     requires quiet { IsQuiet sender.old }
-    requires left { AreLeft T.of_parts U.of_parts lanes.now.table first sender.old.uses }
+    requires left { AreLeft T.of_parts (middle_of numbered U.of_parts) lanes.now.table first sender.old.uses }
     requires empty { (connection_at index sender.old.uses).waiting ≡ [] }
     ensures waits { MayWaitAt lanes.now from first index sender.old (place_of index indices.now)
-        → (connection_at index sender.new.uses).waiting ≡ left_at T.of_parts U.of_parts lanes.now from first (place_of index indices.now) }
+        → (connection_at index sender.new.uses).waiting ≡ left_at T.of_parts (middle_of numbered U.of_parts) lanes.now from first
+        (place_of index indices.now) }
     ensures rest { OnlyWaits index sender.old sender.new }
-    ensures left { AreLeft T.of_parts U.of_parts lanes.now.table first sender.new.uses }
+    ensures left { AreLeft T.of_parts (middle_of numbered U.of_parts) lanes.now.table first sender.new.uses }
     ensures room { vec_capacity one.new ≡ vec_capacity one.old }
 {
     // The number of a connection is below how many there are, and that has 64 bits.
     let _links = lanes.links().len();
     if let Some(place) = place_of(indices, index) {
-        restore_waiting(lanes, from + place as u64, first, index, sender, one);
+        restore_waiting(
+            lanes,
+            numbered,
+            from + place as u64,
+            first,
+            index,
+            sender,
+            one,
+        );
     }
 }
 

@@ -5,11 +5,12 @@ ghost use Rattle.iox_domain_ports.specs.DomainSlots.declared.stage.Stage.TheVari
 ghost use Rattle.iox_domain_ports.specs.DomainSlots.Uses.{connection_at, with_connection, offered, newest};
 ghost use Rattle.iox_lanes_machine.specs.LanesBase.Numbers.{words_of};
 ghost use Rattle.iox_lanes_opening.specs.Leaving.{message_in};
+ghost use Rattle.iox_lanes_opening.specs.Middles.{middle_of, middle_count};
 ghost use Rattle.iox_lanes_opening.specs.Restoring.{IsOwn, AreLeft, MayBeSent, MayCome, OnlyWaits, OnlyRemembers, MayWaitAll};
 ghost use Rattle.iox_lanes_opening.specs.Restoring.{MayRememberAll, messages_in};
 ghost use Rattle.iox_lanes_machine.specs.Resting.{mail_at};
 
-use crate::leaving::words::{elements, payload, user_header};
+use crate::leaving::words::{elements, middle, payload};
 use iox_domain_ports::messages::Sender;
 use iox_domain_slots::Stage;
 use iox_lanes_base::words::WordTable;
@@ -20,14 +21,17 @@ use iox_queues_base::Words;
 // the lanes. `one` has room for one value, which is taken there.
 fn begin<T: Words, U: Words>(
     table: &WordTable,
+    numbered: bool,
     first: u64,
     slot: usize,
     sender: &mut Sender<T, U>,
     one: &mut Vec<T>,
 )
-    requires { MayBeSent T.of_parts U.of_parts T.WORDS U.WORDS table.now first slot (vec_capacity one.old) sender.old }
+    requires { MayBeSent T.of_parts (middle_of numbered U.of_parts) T.WORDS (middle_count numbered U.WORDS) table.now first slot
+        (vec_capacity one.old) sender.old }
     ensures sent { sender.new ≡ with_uses
-        (record sender.old.uses { sending = Some (message_in T.of_parts U.of_parts table.now first slot) }) sender.old }
+        (record sender.old.uses { sending = Some (message_in T.of_parts (middle_of numbered U.of_parts) table.now first slot) })
+        sender.old }
     ensures room { vec_capacity one.new ≡ vec_capacity one.old }
 {
     // Slots are so few that their numbers have 64 bits.
@@ -35,28 +39,31 @@ fn begin<T: Words, U: Words>(
     let at = first + slot as u64;
     one.clear();
     one.push_reserved(payload(table, at));
-    let header: U = user_header(table, at);
-    sender.begin_again(slot, elements(table, at), header, one);
+    let between: (Option<u64>, U) = middle(table, at, numbered);
+    sender.begin_again(slot, between.0, elements(table, at), between.1, one);
 }
 
 // It waits at the connection of an index, behind those that wait there.
 fn put<T: Words, U: Words>(
     table: &WordTable,
+    numbered: bool,
     first: u64,
     slot: usize,
     index: usize,
     sender: &mut Sender<T, U>,
     one: &mut Vec<T>,
 )
-    requires sent { MayBeSent T.of_parts U.of_parts T.WORDS U.WORDS table.now first slot (vec_capacity one.old) sender.old }
+    requires sent { MayBeSent T.of_parts (middle_of numbered U.of_parts) T.WORDS (middle_count numbered U.WORDS) table.now first slot
+        (vec_capacity one.old) sender.old }
     requires live { (connection_at index sender.old.uses).stage ≡ stage.Live }
     ensures put { sender.new ≡ with_uses
-        (with_connection index (offered sender.old.uses.overflows (message_in T.of_parts U.of_parts table.now first slot)
+        (with_connection index (offered sender.old.uses.overflows
+        (message_in T.of_parts (middle_of numbered U.of_parts) table.now first slot)
         (connection_at index sender.old.uses)) sender.old.uses) sender.old }
-    ensures left { AreLeft T.of_parts U.of_parts table.now first sender.new.uses }
+    ensures left { AreLeft T.of_parts (middle_of numbered U.of_parts) table.now first sender.new.uses }
     ensures room { vec_capacity one.new ≡ vec_capacity one.old }
 {
-    begin(table, first, slot, sender, one);
+    begin(table, numbered, first, slot, sender, one);
     let _room = sender.offer(index);
     sender.finish_send();
 }
@@ -64,20 +71,24 @@ fn put<T: Words, U: Words>(
 // It is the newest of the history.
 fn remember<T: Words, U: Words>(
     table: &WordTable,
+    numbered: bool,
     first: u64,
     slot: usize,
     sender: &mut Sender<T, U>,
     one: &mut Vec<T>,
 )
-    requires { MayBeSent T.of_parts U.of_parts T.WORDS U.WORDS table.now first slot (vec_capacity one.old) sender.old }
+    requires { MayBeSent T.of_parts (middle_of numbered U.of_parts) T.WORDS (middle_count numbered U.WORDS) table.now first slot
+        (vec_capacity one.old) sender.old }
     ensures remembered { sender.new
-        ≡ with_uses (record sender.old.uses
-        { history = newest sender.old.uses.kept (sender.old.uses.history ++ message_in T.of_parts U.of_parts table.now first slot ∷ []) })
+        ≡ with_uses (record sender.old.uses {
+          history = newest sender.old.uses.kept (sender.old.uses.history ++ message_in T.of_parts (middle_of numbered U.of_parts)
+              table.now first slot ∷ []);
+        })
         sender.old }
-    ensures left { AreLeft T.of_parts U.of_parts table.now first sender.new.uses }
+    ensures left { AreLeft T.of_parts (middle_of numbered U.of_parts) table.now first sender.new.uses }
     ensures room { vec_capacity one.new ≡ vec_capacity one.old }
 {
-    begin(table, first, slot, sender, one);
+    begin(table, numbered, first, slot, sender, one);
     sender.remember();
     sender.finish_send();
 }
@@ -105,27 +116,29 @@ fn own_slot<T: Copy, U: Copy>(
 // The same of a slot of the lanes that may be none of the publisher's, and of a connection that may not go on: then nothing happens.
 fn put_own<T: Words, U: Words>(
     table: &WordTable,
+    numbered: bool,
     first: u64,
     slot: u64,
     index: usize,
     sender: &mut Sender<T, U>,
     one: &mut Vec<T>,
 )
-    requires { MayCome T.of_parts U.of_parts T.WORDS U.WORDS table.now first (vec_capacity one.old) sender.old }
+    requires { MayCome T.of_parts (middle_of numbered U.of_parts) T.WORDS (middle_count numbered U.WORDS) table.now first
+        (vec_capacity one.old) sender.old }
     ensures put { IsOwn first slot table.now.sizes.slots sender.old.uses → (connection_at index sender.old.uses).stage ≡ stage.Live
         → sender.new ≡ with_uses
         (with_connection index
-        (offered sender.old.uses.overflows (message_in T.of_parts U.of_parts table.now first (slot - first))
+        (offered sender.old.uses.overflows (message_in T.of_parts (middle_of numbered U.of_parts) table.now first (slot - first))
         (connection_at index sender.old.uses)) sender.old.uses) sender.old }
     ensures rest { OnlyWaits index sender.old sender.new }
-    ensures left { AreLeft T.of_parts U.of_parts table.now first sender.new.uses }
+    ensures left { AreLeft T.of_parts (middle_of numbered U.of_parts) table.now first sender.new.uses }
     ensures room { vec_capacity one.new ≡ vec_capacity one.old }
 {
     let Some(own) = own_slot(table, first, slot, sender) else {
         return;
     };
     match sender.stage(index) {
-        Stage::Live => put(table, first, own, index, sender, one),
+        Stage::Live => put(table, numbered, first, own, index, sender, one),
         Stage::Vacant | Stage::Ended => {}
     }
 }
@@ -135,6 +148,7 @@ fn put_own<T: Words, U: Words>(
 /// memory is.
 pub fn restore_waiting<T: Words, U: Words>(
     lanes: &Lanes,
+    numbered: bool,
     connection: u64,
     first: u64,
     index: usize,
@@ -142,42 +156,45 @@ pub fn restore_waiting<T: Words, U: Words>(
     one: &mut Vec<T>,
 )
     requires connection { connection < length lanes.now.links }
-    requires come { MayCome T.of_parts U.of_parts T.WORDS U.WORDS lanes.now.table first (vec_capacity one.old) sender.old }
+    requires come { MayCome T.of_parts (middle_of numbered U.of_parts) T.WORDS (middle_count numbered U.WORDS) lanes.now.table first
+        (vec_capacity one.old) sender.old }
     requires empty { (connection_at index sender.old.uses).waiting ≡ [] }
     ensures waits { MayWaitAll lanes.now connection first index sender.old
         → (connection_at index sender.new.uses).waiting
-        ≡ messages_in T.of_parts U.of_parts lanes.now.table first (mail_at lanes.now connection) }
+        ≡ messages_in T.of_parts (middle_of numbered U.of_parts) lanes.now.table first (mail_at lanes.now connection) }
     ensures rest { OnlyWaits index sender.old sender.new }
-    ensures left { AreLeft T.of_parts U.of_parts lanes.now.table first sender.new.uses }
+    ensures left { AreLeft T.of_parts (middle_of numbered U.of_parts) lanes.now.table first sender.new.uses }
     ensures room { vec_capacity one.new ≡ vec_capacity one.old }
 {
     for at in 0..lanes.waiting(connection) {
         let slot = lanes.waiting_slot(connection, at);
-        put_own(lanes.table(), first, slot, index, sender, one);
+        put_own(lanes.table(), numbered, first, slot, index, sender, one);
     }
 }
 
 // The same as `remember` of a slot of the lanes that may be none of the publisher's: then nothing happens.
 fn remember_own<T: Words, U: Words>(
     table: &WordTable,
+    numbered: bool,
     first: u64,
     slot: u64,
     sender: &mut Sender<T, U>,
     one: &mut Vec<T>,
 )
-    requires { MayCome T.of_parts U.of_parts T.WORDS U.WORDS table.now first (vec_capacity one.old) sender.old }
+    requires { MayCome T.of_parts (middle_of numbered U.of_parts) T.WORDS (middle_count numbered U.WORDS) table.now first
+        (vec_capacity one.old) sender.old }
     ensures remembered { IsOwn first slot table.now.sizes.slots sender.old.uses
         → sender.new ≡ with_uses
         (record sender.old.uses {
           history = newest sender.old.uses.kept
-              (sender.old.uses.history ++ message_in T.of_parts U.of_parts table.now first (slot - first) ∷ []);
+              (sender.old.uses.history ++ message_in T.of_parts (middle_of numbered U.of_parts) table.now first (slot - first) ∷ []);
         }) sender.old }
     ensures rest { OnlyRemembers sender.old sender.new }
-    ensures left { AreLeft T.of_parts U.of_parts table.now first sender.new.uses }
+    ensures left { AreLeft T.of_parts (middle_of numbered U.of_parts) table.now first sender.new.uses }
     ensures room { vec_capacity one.new ≡ vec_capacity one.old }
 {
     if let Some(own) = own_slot(table, first, slot, sender) {
-        remember(table, first, own, sender, one);
+        remember(table, numbered, first, own, sender, one);
     }
 }
 
@@ -185,20 +202,22 @@ fn remember_own<T: Words, U: Words>(
 /// publisher: these begin at `first` in the lanes. `one` has room for one value, which is taken there; no memory is.
 pub fn restore_history<T: Words, U: Words>(
     table: &WordTable,
+    numbered: bool,
     history: &[u64],
     first: u64,
     sender: &mut Sender<T, U>,
     one: &mut Vec<T>,
 )
-    requires come { MayCome T.of_parts U.of_parts T.WORDS U.WORDS table.now first (vec_capacity one.old) sender.old }
+    requires come { MayCome T.of_parts (middle_of numbered U.of_parts) T.WORDS (middle_count numbered U.WORDS) table.now first
+        (vec_capacity one.old) sender.old }
     requires empty { sender.old.uses.history ≡ [] }
     ensures remembers { MayRememberAll table.now history.now first sender.old
-        → sender.new.uses.history ≡ messages_in T.of_parts U.of_parts table.now first history.now }
+        → sender.new.uses.history ≡ messages_in T.of_parts (middle_of numbered U.of_parts) table.now first history.now }
     ensures rest { OnlyRemembers sender.old sender.new }
-    ensures left { AreLeft T.of_parts U.of_parts table.now first sender.new.uses }
+    ensures left { AreLeft T.of_parts (middle_of numbered U.of_parts) table.now first sender.new.uses }
     ensures room { vec_capacity one.new ≡ vec_capacity one.old }
 {
     for at in 0..history.len() {
-        remember_own(table, first, history[at], sender, one);
+        remember_own(table, numbered, first, history[at], sender, one);
     }
 }

@@ -1,9 +1,10 @@
 //! A message out of the words of a slot.
-ghost use Rattle.std.specs.Prelude.{◌≡◌, ◌+◌, ◌≤◌, ◌<◌, length, take, drop};
+ghost use Rattle.std.specs.Prelude.{◌≡◌, ◌+◌, ◌≤◌, ◌<◌, length, take, drop, slice_index, Some};
 ghost use Rattle.iox_lanes_machine.specs.LanesBase.Numbers.{number_of, words_of};
 ghost use Rattle.iox_lanes_machine.specs.LanesBase.declared.words.word.SharedWord.TheVariants as word;
 ghost use Rattle.iox_lanes_machine.specs.LanesBase.declared.words.word.SlotWord.TheVariants as part;
 ghost use Rattle.iox_lanes_opening.specs.Leaving.{user_header_in, payload_in, elements_in};
+ghost use Rattle.iox_lanes_opening.specs.Middles.{middle_of, middle_count};
 
 use iox_lanes_base::words::{SharedWord, SlotWord, WordTable};
 use iox_queues_base::Words;
@@ -19,15 +20,41 @@ pub fn elements(table: &WordTable, slot: u64) -> u64
     })
 }
 
-/// The user header in a slot.
-pub fn user_header<U: Words>(table: &WordTable, slot: u64) -> U
+/// How many words lie between the three of a header and the payload: those of a user header, and before them the number, where messages
+/// have numbers. At most the largest number.
+pub fn middle_count<U: Words>(numbered: bool) -> usize
+    ensures { result ≡ middle_count numbered U.WORDS }
+{
+    if numbered {
+        U::WORDS.saturating_add(1)
+    } else {
+        U::WORDS
+    }
+}
+
+/// The number, where messages have numbers, and the user header in a slot.
+#[tactic(auto, using(crate::proofs::SlotWords::one_before))]
+pub fn middle<U: Words>(table: &WordTable, slot: u64, numbered: bool) -> (Option<u64>, U)
     requires slot { slot < table.now.sizes.slots }
     requires full { length table.now.words ≡ words_of table.now.sizes }
-    requires words { table.now.sizes.user_header_words ≡ U.WORDS }
-    ensures { result ≡ U.of_parts (user_header_in table.now slot) }
+    requires words { table.now.sizes.user_header_words ≡ middle_count numbered U.WORDS }
+    ensures { result ≡ middle_of numbered U.of_parts (user_header_in table.now slot) }
 {
     let from = header_from(table, slot);
-    U::of_words(words_from(table, from, U::WORDS))
+    let words = words_from(table, from, table.sizes().user_header_words as usize);
+    if numbered {
+        numbered_middle(words)
+    } else {
+        (None, U::of_words(words))
+    }
+}
+
+// The number that stands before the words of a user header, and this.
+fn numbered_middle<U: Words>(words: &[u64]) -> (Option<u64>, U)
+    requires { length words.now ≡ U.WORDS + 1 }
+    ensures { result ≡ (Some (slice_index words.now 0), U.of_parts (drop 1 words.now)) }
+{
+    (Some(words[0]), U::of_words(&words[1..]))
 }
 
 /// The value in a slot.

@@ -25,6 +25,8 @@ pub enum IntoLanesError {
     /// The ports are such as no calls leave: one is listed at another place than its own, or a publisher isn't made for what is agreed,
     /// or its messages don't keep to that, or two connections of a subscriber come from one publisher.
     Unsound,
+    /// The last number that some publisher gave a message is 2^63 or more.
+    SequenceTooLarge,
     /// No memory was found.
     OutOfMemory,
 }
@@ -43,6 +45,7 @@ impl IntoLanesError {
             IntoLanesError::Lingering => "IntoLanesError::Lingering",
             IntoLanesError::HasSlices => "IntoLanesError::HasSlices",
             IntoLanesError::Unsound => "IntoLanesError::Unsound",
+            IntoLanesError::SequenceTooLarge => "IntoLanesError::SequenceTooLarge",
             IntoLanesError::OutOfMemory => "IntoLanesError::OutOfMemory",
         }
     }

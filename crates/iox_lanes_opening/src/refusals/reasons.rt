@@ -5,6 +5,7 @@ ghost use Rattle.iox_lanes_opening.specs.Refusals.{is_blocked, may_grow, has_gro
 use crate::refusals::deciding::{has_handlers, is_retrying};
 use crate::refusals::into_lanes_error::IntoLanesError;
 use crate::refusals::lingering::is_lingering;
+use crate::refusals::sequences::has_too_large;
 use crate::refusals::slices::has_slices;
 use crate::refusals::soundness::is_unsound;
 use crate::refusals::up_to_date::is_up_to_date;
@@ -19,7 +20,8 @@ use iox_domain_values::AllocationStrategy;
 /// `HasHandlers`: an object that the caller made decides for some port. `Retrying`: a full mailbox doesn't drop its oldest message, and a
 /// send of some publisher would wait there. `Lingering`: a loan or a sample is out, a connection whose publisher left still stands, or a
 /// port that left isn't gone. `HasSlices`: the messages are slices, or some publisher deals in another number of values than one.
-/// `Unsound`: the ports are such as no calls leave. `OutOfMemory` is not told here.
+/// `Unsound`: the ports are such as no calls leave. `SequenceTooLarge`: the last number that some publisher gave a message is 2^63 or more.
+/// `OutOfMemory` is not told here.
 pub fn refusal<T: Copy, U: Copy>(domain: &Domain<T, U>) -> Option<IntoLanesError>
     ensures { result ≡ first_reason domain.now }
 {
@@ -46,6 +48,9 @@ pub fn refusal<T: Copy, U: Copy>(domain: &Domain<T, U>) -> Option<IntoLanesError
     }
     if is_unsound(&domain.state.ports) {
         return Some(IntoLanesError::Unsound);
+    }
+    if has_too_large(&domain.state.ports) {
+        return Some(IntoLanesError::SequenceTooLarge);
     }
     None
 }

@@ -6,8 +6,9 @@ ghost use Rattle.iox_domain.specs.DomainPorts.Subscribing.{attached_at};
 ghost use Rattle.iox_domain.specs.DomainSlots.Uses.{is_there};
 ghost use Rattle.iox_lanes_opening.specs.Listed.{holds_at, of_each_listed};
 ghost use Rattle.iox_lanes_opening.specs.Soundness.{are_placed, has_twice, is_misfit, is_publisher_placed, is_subscriber_placed};
-ghost use Rattle.iox_lanes_opening.specs.Soundness.{attaches_twice, comes_again, is_unsound, remembers_ill, share_publisher, share_slot};
-ghost use Rattle.iox_lanes_opening.specs.Soundness.{stands_again, waits_ill};
+ghost use Rattle.iox_lanes_opening.specs.Soundness.{attaches_twice, comes_again, is_misnumbered, is_unsound, remembers_ill};
+ghost use Rattle.iox_lanes_opening.specs.Soundness.{share_publisher};
+ghost use Rattle.iox_lanes_opening.specs.Soundness.{share_slot, stands_again, waits_ill};
 
 use iox_domain::ports::ServicePorts;
 use iox_domain_ports::{
@@ -124,10 +125,18 @@ fn has_misfit<T: Copy, U: Copy>(ports: &ServicePorts<T, U>) -> bool
 fn is_misfit<T: Copy, U: Copy>(sizes: ServiceSizes, port: &PublisherPort<T, U>) -> bool
     ensures { result ≡ is_misfit sizes port.now }
 {
-    0 < port.sender.first()
+    is_misnumbered(sizes, port)
+        || 0 < port.sender.first()
         || port.sender.kept() != sizes.history_size as usize
         || remembers_ill(sizes, port)
         || has_ill_connection(sizes, port)
+}
+
+// Whether a publisher numbers its messages though that isn't agreed, or doesn't though it is.
+fn is_misnumbered<T: Copy, U: Copy>(sizes: ServiceSizes, port: &PublisherPort<T, U>) -> bool
+    ensures { result ≡ is_misnumbered sizes port.now }
+{
+    port.last_sequence.is_some() != sizes.sequence_numbers
 }
 
 // Whether a publisher keeps more messages than agreed, or two in one slot.

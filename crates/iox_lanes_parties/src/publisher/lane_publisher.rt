@@ -4,8 +4,10 @@ ghost use Rattle.iox_lanes_base.specs.Publishing.{publisher_next, publisher_is_i
 ghost use Rattle.iox_lanes_parties.specs.PublisherKeeping.{loan_of, may_have, may_remember, may_resize};
 ghost use Rattle.iox_lanes_parties.specs.Publishers.{after_answer, found_at, found_last, with_slots, met_anew, begun_loan, begun_write};
 ghost use Rattle.iox_lanes_parties.specs.Publishers.{begun_send, begun_drop, new_publisher, words_of};
+ghost use Rattle.iox_lanes_parties.specs.Sequences.{with_number};
 
 use crate::publisher::slot_book::{LoanAnswer, LoanMark, SlotBook};
+use crate::sequences::put_number;
 use iox_lanes_base::calls::{PublisherCall, PublisherChange, Route, reroute};
 use iox_lanes_base::words::SharedAccess;
 use std::alloc::{AllocError, Global};
@@ -224,13 +226,15 @@ impl LanePublisher {
         self.call = PublisherCall::write(&self.payload, slot);
     }
 
-    /// Begins to send the slot of a loan with these words of header and user header.
-    pub fn begin_send(&mut self, slot: u64, head: &[u64])
+    /// Begins to send the slot of a loan with these words of header and user header, and with this number, if there is one, as the fourth
+    /// word of the header.
+    pub fn begin_send(&mut self, slot: u64, head: &[u64], number: Option<u64>)
         requires idle { publisher_is_idle self.old.call ≡ true }
         requires words { length head.now ≡ length self.old.head }
-        ensures { self.new ≡ begun_send slot head.now self.old }
+        ensures { self.new ≡ begun_send slot (with_number number head.now) self.old }
     {
         self.head.copy_from_slice(head);
+        put_number(&mut self.head, number);
         self.sends = true;
         self.call = PublisherCall::send(&self.head, slot);
     }

@@ -22,7 +22,8 @@ pub fn publish_subscribe(words: &Words) -> Option<PublishSubscribeOptions>
         + one(options.subscriber_max_buffer_size)
         + one(options.subscriber_max_borrowed_samples)
         + one(options.history_size)
-        + one(options.enable_safe_overflow);
+        + one(options.enable_safe_overflow)
+        + one(options.sequence_numbers);
     if words.are(named) {
         Some(options)
     } else {
@@ -40,6 +41,7 @@ fn named_publish_subscribe(words: &Words) -> Option<PublishSubscribeOptions>
     let subscriber_max_borrowed_samples = named_number(b"borrowed=", words)?;
     let history_size = named_number(b"history=", words)?;
     let enable_safe_overflow = named_switch(b"overflow=", words)?;
+    let sequence_numbers = named_switch(b"sequence=", words)?;
     Some(PublishSubscribeOptions {
         max_subscribers,
         max_publishers,
@@ -48,6 +50,7 @@ fn named_publish_subscribe(words: &Words) -> Option<PublishSubscribeOptions>
         subscriber_max_borrowed_samples,
         history_size,
         enable_safe_overflow,
+        sequence_numbers,
     })
 }
 

@@ -1,12 +1,12 @@
 //! One step of a foreign process.
 ghost use Rattle.std.specs.Prelude.{◌≡◌};
-ghost use Rattle.iox_line.specs.StepsReading.{step_verb_of, step_at, step_of};
+ghost use Rattle.iox_line.specs.StepsReading.{published, step_verb_of, step_at, step_of};
 
 use crate::services::service::service_options;
 use crate::text::Words;
 use crate::text::number::numbered;
 use crate::text::words::{is, split};
-use iox_command::ForeignStep;
+use iox_command::{ForeignStep, ServiceOptions};
 use iox_describe_base::MessagingPattern;
 
 /// What a step does. This port's own.
@@ -18,6 +18,8 @@ pub enum StepVerb {
     GiveUp,
     /// `publish`
     Publish,
+    /// `publish1`
+    PublishV1,
     /// `register`
     Register,
     /// `leave`
@@ -26,8 +28,8 @@ pub enum StepVerb {
     Remove,
 }
 
-/// The step that a word is: its verb, `:x` and the number of the node; to publish, also `:` and options of the pattern
-/// with a comma between each two. `None` if it is none.
+/// The step that a word is: its verb, `:x` and the number of the node; to publish, in either version, also `:` and options of
+/// the pattern with a comma between each two. `None` if it is none.
 pub fn step(pattern: MessagingPattern, word: &[u8]) -> Option<ForeignStep>
     ensures { result ≡ step_of pattern word.now }
 {
@@ -56,6 +58,8 @@ fn step_verb(text: &[u8]) -> Option<StepVerb>
         Some(StepVerb::Remove)
     } else if is(text, b"giveup") {
         Some(StepVerb::GiveUp)
+    } else if is(text, b"publish1") {
+        Some(StepVerb::PublishV1)
     } else {
         None
     }
@@ -74,10 +78,12 @@ fn step_at(pattern: MessagingPattern, verb: StepVerb, text: &[u8]) -> Option<For
             Some(ForeignStep::GiveUp(node))
         }
         StepVerb::Publish => {
-            let (node, options) = split(text, b':');
-            let node = numbered(b'x', node)?;
-            let options = service_options(pattern, &Words::pieces(options, b','))?;
+            let (node, options) = published(pattern, text)?;
             Some(ForeignStep::Publish(node, options))
+        }
+        StepVerb::PublishV1 => {
+            let (node, options) = published(pattern, text)?;
+            Some(ForeignStep::PublishV1(node, options))
         }
         StepVerb::Register => {
             let node = numbered(b'x', text)?;
@@ -92,4 +98,14 @@ fn step_at(pattern: MessagingPattern, verb: StepVerb, text: &[u8]) -> Option<For
             Some(ForeignStep::Remove(node))
         }
     }
+}
+
+/// The node that publishes, and the options after the colon behind it, if there is one.
+fn published(pattern: MessagingPattern, text: &[u8]) -> Option<(u64, ServiceOptions)>
+    ensures { result ≡ published pattern text.now }
+{
+    let (node, options) = split(text, b':');
+    let node = numbered(b'x', node)?;
+    let options = service_options(pattern, &Words::pieces(options, b','))?;
+    Some((node, options))
 }

@@ -63,6 +63,17 @@ impl ServiceBuilder<PublishSubscribe> {
         self
     }
 
+    /// Names whether the messages of each publisher have numbers, so that a subscriber can tell what it missed.
+    ///
+    /// This port's own.
+    /// Example: `builder.sequence_numbers(true)`
+    pub fn sequence_numbers(mut self, value: bool) -> Self
+        ensures { result ≡ record self { requirement = record self.requirement { sequence_numbers = Some value } } }
+    {
+        self.requirement.sequence_numbers = Some(value);
+        self
+    }
+
     /// Names the number of samples of a connection that a subscriber may hold at once: at least so many of a service that is opened,
     /// and so many of one that is created.
     /// Example: `builder.subscriber_max_borrowed_samples(2)`

@@ -23,6 +23,8 @@ pub enum PublishSubscribeOpenError {
     IncompatibleAttributes,
     /// The switch `enable_safe_overflow` differs.
     IncompatibleOverflowBehavior,
+    /// The switch `sequence_numbers` differs.
+    IncompatibleSequenceNumbers,
     /// The service has fewer publishers than asked.
     DoesNotSupportRequestedAmountOfPublishers,
     /// The service has fewer subscribers than asked.
@@ -67,6 +69,8 @@ impl PublishSubscribeOpenError {
                 "PublishSubscribeOpenError::IncompatibleAttributes",
             PublishSubscribeOpenError::IncompatibleOverflowBehavior =>
                 "PublishSubscribeOpenError::IncompatibleOverflowBehavior",
+            PublishSubscribeOpenError::IncompatibleSequenceNumbers =>
+                "PublishSubscribeOpenError::IncompatibleSequenceNumbers",
             PublishSubscribeOpenError::DoesNotSupportRequestedAmountOfPublishers =>
                 "PublishSubscribeOpenError::DoesNotSupportRequestedAmountOfPublishers",
             PublishSubscribeOpenError::DoesNotSupportRequestedAmountOfSubscribers =>
@@ -200,6 +204,10 @@ impl PublishSubscribeOpenOrCreateError {
             ) =>
                 "PublishSubscribeOpenOrCreateError::PublishSubscribeOpenError(IncompatibleOverflowBehavior)",
             PublishSubscribeOpenOrCreateError::PublishSubscribeOpenError(
+                PublishSubscribeOpenError::IncompatibleSequenceNumbers,
+            ) =>
+                "PublishSubscribeOpenOrCreateError::PublishSubscribeOpenError(IncompatibleSequenceNumbers)",
+            PublishSubscribeOpenOrCreateError::PublishSubscribeOpenError(
                 PublishSubscribeOpenError::DoesNotSupportRequestedAmountOfPublishers,
             ) =>
                 "PublishSubscribeOpenOrCreateError::PublishSubscribeOpenError(DoesNotSupportRequestedAmountOfPublishers)",
@@ -308,6 +316,8 @@ impl From<ClauseError> for PublishSubscribeOpenError {
                 PublishSubscribeOpenError::IncompatibleAttributes,
             ClauseError::IncompatibleOverflowBehavior =>
                 PublishSubscribeOpenError::IncompatibleOverflowBehavior,
+            ClauseError::IncompatibleSequenceNumbers =>
+                PublishSubscribeOpenError::IncompatibleSequenceNumbers,
             ClauseError::DoesNotSupportRequestedAmountOfPublishers =>
                 PublishSubscribeOpenError::DoesNotSupportRequestedAmountOfPublishers,
             ClauseError::DoesNotSupportRequestedAmountOfSubscribers =>

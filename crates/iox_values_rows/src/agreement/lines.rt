@@ -1,43 +1,65 @@
-//! The one line of a service, and texts that are nearly one. The lines come from functions, since a constant's text stands in the proof of
+//! The two lines of a service, and texts that are nearly one. The lines come from functions, since a constant's text stands in the proof of
 //! each function that names it.
 use crate::answers::{have_size, hold};
-use iox_describe::{DescriptionError, MessagingPattern, ServiceName, decode, encode, service_hash};
+use iox_describe::{
+    Description, DescriptionError, MessagingPattern, ServiceName, Settings, decode, encode,
+    encode_v1, service_hash,
+};
 use std::alloc::{AllocError, Global};
 
-/// Service `23` over slices of `u64` with a `u64` user header, at default settings.
+/// Service `23` over slices of `u64` with a `u64` user header, at default settings. This line and those of other patterns are of
+/// version 2.
 pub(crate) fn publish_subscribe_line() -> &'static str {
+    "{\"attributes\":[],\"name\":\"23\",\"pattern\":\"publish_subscribe\",\"service_hash\":\"40bd001563085fc35165329ea1ff5c5ecbdbbeef\",\"settings\":{\"enable_safe_overflow\":true,\"history_size\":0,\"max_nodes\":20,\"max_publishers\":2,\"max_subscribers\":8,\"sequence_numbers\":false,\"subscriber_max_borrowed_samples\":2,\"subscriber_max_buffer_size\":2,\"types\":{\"header\":{\"alignment\":8,\"name\":\"Header\",\"size\":24,\"variant\":\"FixedSize\"},\"payload\":{\"alignment\":8,\"name\":\"u64\",\"size\":8,\"variant\":\"Dynamic\"},\"user_header\":{\"alignment\":8,\"name\":\"u64\",\"size\":8,\"variant\":\"FixedSize\"}}},\"version\":2}"
+}
+
+/// The line of version 1 of the same service.
+pub(crate) fn first_publish_subscribe_line() -> &'static str {
     "{\"attributes\":[],\"name\":\"23\",\"pattern\":\"publish_subscribe\",\"service_hash\":\"40bd001563085fc35165329ea1ff5c5ecbdbbeef\",\"settings\":{\"enable_safe_overflow\":true,\"history_size\":0,\"max_nodes\":20,\"max_publishers\":2,\"max_subscribers\":8,\"subscriber_max_borrowed_samples\":2,\"subscriber_max_buffer_size\":2,\"types\":{\"header\":{\"alignment\":8,\"name\":\"Header\",\"size\":24,\"variant\":\"FixedSize\"},\"payload\":{\"alignment\":8,\"name\":\"u64\",\"size\":8,\"variant\":\"Dynamic\"},\"user_header\":{\"alignment\":8,\"name\":\"u64\",\"size\":8,\"variant\":\"FixedSize\"}}},\"version\":1}"
 }
 
 /// Event service `23` at default settings.
 pub(crate) fn event_line() -> &'static str {
-    "{\"attributes\":[],\"name\":\"23\",\"pattern\":\"event\",\"service_hash\":\"af06318c33c8e41c70083ee23dbe19426f1f9c5b\",\"settings\":{\"deadline\":null,\"event_id_max_value\":4294967295,\"max_listeners\":16,\"max_nodes\":36,\"max_notifiers\":16,\"notifier_created_event\":null,\"notifier_dead_event\":null,\"notifier_dropped_event\":null},\"version\":1}"
+    "{\"attributes\":[],\"name\":\"23\",\"pattern\":\"event\",\"service_hash\":\"af06318c33c8e41c70083ee23dbe19426f1f9c5b\",\"settings\":{\"deadline\":null,\"event_id_max_value\":4294967295,\"max_listeners\":16,\"max_nodes\":36,\"max_notifiers\":16,\"notifier_created_event\":null,\"notifier_dead_event\":null,\"notifier_dropped_event\":null},\"version\":2}"
 }
 
 /// Request-response service `23` over slices of `u64` with `u64` user headers, at default settings.
 pub(crate) fn request_response_line() -> &'static str {
-    "{\"attributes\":[],\"name\":\"23\",\"pattern\":\"request_response\",\"service_hash\":\"1bb85661d74e2a15ba3b959218f3c3f93c7ddb88\",\"settings\":{\"enable_fire_and_forget_requests\":true,\"enable_safe_overflow_for_requests\":true,\"enable_safe_overflow_for_responses\":true,\"max_active_requests_per_client\":4,\"max_borrowed_responses_per_pending_response\":2,\"max_clients\":8,\"max_loaned_requests\":2,\"max_nodes\":20,\"max_response_buffer_size\":2,\"max_servers\":2,\"request_types\":{\"header\":{\"alignment\":8,\"name\":\"Header\",\"size\":24,\"variant\":\"FixedSize\"},\"payload\":{\"alignment\":8,\"name\":\"u64\",\"size\":8,\"variant\":\"Dynamic\"},\"user_header\":{\"alignment\":8,\"name\":\"u64\",\"size\":8,\"variant\":\"FixedSize\"}},\"response_types\":{\"header\":{\"alignment\":8,\"name\":\"Header\",\"size\":24,\"variant\":\"FixedSize\"},\"payload\":{\"alignment\":8,\"name\":\"u64\",\"size\":8,\"variant\":\"Dynamic\"},\"user_header\":{\"alignment\":8,\"name\":\"u64\",\"size\":8,\"variant\":\"FixedSize\"}}},\"version\":1}"
+    "{\"attributes\":[],\"name\":\"23\",\"pattern\":\"request_response\",\"service_hash\":\"1bb85661d74e2a15ba3b959218f3c3f93c7ddb88\",\"settings\":{\"enable_fire_and_forget_requests\":true,\"enable_safe_overflow_for_requests\":true,\"enable_safe_overflow_for_responses\":true,\"max_active_requests_per_client\":4,\"max_borrowed_responses_per_pending_response\":2,\"max_clients\":8,\"max_loaned_requests\":2,\"max_nodes\":20,\"max_response_buffer_size\":2,\"max_servers\":2,\"request_types\":{\"header\":{\"alignment\":8,\"name\":\"Header\",\"size\":24,\"variant\":\"FixedSize\"},\"payload\":{\"alignment\":8,\"name\":\"u64\",\"size\":8,\"variant\":\"Dynamic\"},\"user_header\":{\"alignment\":8,\"name\":\"u64\",\"size\":8,\"variant\":\"FixedSize\"}},\"response_types\":{\"header\":{\"alignment\":8,\"name\":\"Header\",\"size\":24,\"variant\":\"FixedSize\"},\"payload\":{\"alignment\":8,\"name\":\"u64\",\"size\":8,\"variant\":\"Dynamic\"},\"user_header\":{\"alignment\":8,\"name\":\"u64\",\"size\":8,\"variant\":\"FixedSize\"}}},\"version\":2}"
 }
 
 /// An event service with a deadline, three nodes, one notifier, and an event for dead notifiers.
 pub(crate) fn named_event_line() -> &'static str {
-    "{\"attributes\":[],\"name\":\"E\",\"pattern\":\"event\",\"service_hash\":\"7151c7f46996d49977f91fc77e07abbc2c588465\",\"settings\":{\"deadline\":7,\"event_id_max_value\":4294967295,\"max_listeners\":16,\"max_nodes\":3,\"max_notifiers\":1,\"notifier_created_event\":null,\"notifier_dead_event\":9,\"notifier_dropped_event\":null},\"version\":1}"
+    "{\"attributes\":[],\"name\":\"E\",\"pattern\":\"event\",\"service_hash\":\"7151c7f46996d49977f91fc77e07abbc2c588465\",\"settings\":{\"deadline\":7,\"event_id_max_value\":4294967295,\"max_listeners\":16,\"max_nodes\":3,\"max_notifiers\":1,\"notifier_created_event\":null,\"notifier_dead_event\":9,\"notifier_dropped_event\":null},\"version\":2}"
 }
 
 /// A request-response service with two attributes of one key, over three `u32` as one value and slices of `i64`.
 pub(crate) fn named_request_response_line() -> &'static str {
-    "{\"attributes\":[[\"k\",\"v\"],[\"k\",\"\"]],\"name\":\"R\",\"pattern\":\"request_response\",\"service_hash\":\"41dc32c132eeadb87457313fbdd46352c02196d1\",\"settings\":{\"enable_fire_and_forget_requests\":true,\"enable_safe_overflow_for_requests\":true,\"enable_safe_overflow_for_responses\":true,\"max_active_requests_per_client\":4,\"max_borrowed_responses_per_pending_response\":2,\"max_clients\":8,\"max_loaned_requests\":2,\"max_nodes\":20,\"max_response_buffer_size\":2,\"max_servers\":2,\"request_types\":{\"header\":{\"alignment\":8,\"name\":\"Header\",\"size\":24,\"variant\":\"FixedSize\"},\"payload\":{\"alignment\":4,\"name\":\"[u32; 3]\",\"size\":12,\"variant\":\"FixedSize\"},\"user_header\":{\"alignment\":4,\"name\":\"u32\",\"size\":4,\"variant\":\"FixedSize\"}},\"response_types\":{\"header\":{\"alignment\":8,\"name\":\"Header\",\"size\":24,\"variant\":\"FixedSize\"},\"payload\":{\"alignment\":32,\"name\":\"i64\",\"size\":8,\"variant\":\"Dynamic\"},\"user_header\":{\"alignment\":1,\"name\":\"()\",\"size\":0,\"variant\":\"FixedSize\"}}},\"version\":1}"
+    "{\"attributes\":[[\"k\",\"v\"],[\"k\",\"\"]],\"name\":\"R\",\"pattern\":\"request_response\",\"service_hash\":\"41dc32c132eeadb87457313fbdd46352c02196d1\",\"settings\":{\"enable_fire_and_forget_requests\":true,\"enable_safe_overflow_for_requests\":true,\"enable_safe_overflow_for_responses\":true,\"max_active_requests_per_client\":4,\"max_borrowed_responses_per_pending_response\":2,\"max_clients\":8,\"max_loaned_requests\":2,\"max_nodes\":20,\"max_response_buffer_size\":2,\"max_servers\":2,\"request_types\":{\"header\":{\"alignment\":8,\"name\":\"Header\",\"size\":24,\"variant\":\"FixedSize\"},\"payload\":{\"alignment\":4,\"name\":\"[u32; 3]\",\"size\":12,\"variant\":\"FixedSize\"},\"user_header\":{\"alignment\":4,\"name\":\"u32\",\"size\":4,\"variant\":\"FixedSize\"}},\"response_types\":{\"header\":{\"alignment\":8,\"name\":\"Header\",\"size\":24,\"variant\":\"FixedSize\"},\"payload\":{\"alignment\":32,\"name\":\"i64\",\"size\":8,\"variant\":\"Dynamic\"},\"user_header\":{\"alignment\":1,\"name\":\"()\",\"size\":0,\"variant\":\"FixedSize\"}}},\"version\":2}"
 }
 
-/// Whether the bytes are read as a description that is spelled so.
+/// Whether the description has a line of version 1, and it is this.
+fn is_first_line(
+    alloc: Global,
+    description: &Description,
+    bytes: &[u8],
+) -> Result<bool, AllocError> {
+    match encode_v1(alloc, description) {
+        Ok(line) => Ok(line.as_slice() == bytes),
+        Err(DescriptionError::OutOfMemory) => Err(AllocError),
+        Err(_) => Ok(false),
+    }
+}
+
+/// Whether the bytes are read as a description that is spelled so, by its line of one version or the other.
 pub(crate) fn is_read(alloc: Global, bytes: &[u8]) -> Result<bool, AllocError> {
     match decode(alloc, bytes) {
         Ok(description) => {
             let line = encode(alloc, &description)?;
-            Ok(line.as_slice() == bytes)
+            Ok((line.as_slice() == bytes) != is_first_line(alloc, &description, bytes)?)
         }
-        Err(DescriptionError::Invalid) => Ok(false),
         Err(DescriptionError::OutOfMemory) => Err(AllocError),
+        Err(_) => Ok(false),
     }
 }
 
@@ -56,15 +78,33 @@ fn is_read_whole(alloc: Global, line: &str) -> Result<bool, AllocError> {
     Ok(beginnings_read(alloc, line)? == 1)
 }
 
+/// The line of version 1, from that of version 2 of a service that isn't of publish-subscribe.
+fn first_line(alloc: Global, line: &str) -> Result<String, AllocError> {
+    match line.strip_suffix("2}") {
+        Some(front) => format!(in alloc; "{front}1}}"),
+        None => Err(AllocError),
+    }
+}
+
+/// Whether its line of version 1 is read, and no beginning of it.
+fn is_first_read_whole(alloc: Global, line: &str) -> Result<bool, AllocError> {
+    is_read_whole(alloc, first_line(alloc, line)?.as_str())
+}
+
 #[test]
 fn each_line_is_read_and_no_beginning_of_it(rt: HostRuntime) -> Result<(), AllocError> {
     let alloc: Global = rt.alloc();
     let answers = [
         is_read_whole(alloc, publish_subscribe_line()),
+        is_read_whole(alloc, first_publish_subscribe_line()),
         is_read_whole(alloc, event_line()),
         is_read_whole(alloc, request_response_line()),
         is_read_whole(alloc, named_event_line()),
         is_read_whole(alloc, named_request_response_line()),
+        is_first_read_whole(alloc, event_line()),
+        is_first_read_whole(alloc, request_response_line()),
+        is_first_read_whole(alloc, named_event_line()),
+        is_first_read_whole(alloc, named_request_response_line()),
     ];
     hold(&rt, &answers)
 }
@@ -106,11 +146,13 @@ fn no_byte_of_a_line_can_be_another_that_stands_in_no_line(
 }
 
 /// What stands in the line of publish-subscribe, and what is put in its place and refused.
-const REFUSED: [&str; 32] = [
+const REFUSED: [&str; 38] = [
     // white space, and other forms of a number
     "{ => { ",
-    "\"version\":1} => \"version\":1}\n",
-    "\"version\":1 => \"version\":1.0",
+    "\"version\":2} => \"version\":2}\n",
+    "\"version\":2} => \"version\":2} ",
+    "\"version\":2 => \"version\": 2",
+    "\"version\":2 => \"version\":2.0",
     "\"max_nodes\":20 => \"max_nodes\":020",
     "\"max_nodes\":20 => \"max_nodes\":2e1",
     "\"history_size\":0 => \"history_size\":-0",
@@ -133,12 +175,17 @@ const REFUSED: [&str; 32] = [
     "40bd => 40BD",
     "40bd => 40bd0",
     "true => 1",
+    "\"sequence_numbers\":false => \"sequence_numbers\":null",
     "\"FixedSize\" => \"fixedsize\"",
     // keys that are repeated, missing, strange or in another order
     "\"name\":\"23\", => \"name\":\"23\",\"name\":\"23\",",
     "\"max_nodes\":20, => ",
-    "\"version\":1 => \"version\":2",
-    "\"version\":1 => \"version\":1,\"x\":1",
+    "\"version\":2 => \"version\":2,\"x\":1",
+    // other versions; version 1 with the switch of the second, and the second without it
+    "\"version\":2 => \"version\":0",
+    "\"version\":2 => \"version\":3",
+    "\"version\":2 => \"version\":1",
+    "\"sequence_numbers\":false, => ",
     "\"history_size\":0,\"max_nodes\":20 => \"max_nodes\":20,\"history_size\":0",
     "\"publish_subscribe\" => \"event\"",
     // attributes that are none
@@ -146,8 +193,20 @@ const REFUSED: [&str; 32] = [
     "\"attributes\":[] => \"attributes\":{}",
 ];
 
+/// The same in its line of version 1.
+const FIRST_REFUSED: [&str; 7] = [
+    "{ => { ",
+    "\"version\":1} => \"version\":1}\n",
+    "\"version\":1} => \"version\":1} ",
+    "\"version\":1 => \"version\": 1",
+    "\"version\":1 => \"version\":2",
+    "\"max_subscribers\":8 => \"max_subscribers\":8,\"sequence_numbers\":false",
+    "\"max_subscribers\":8 => \"max_subscribers\":8,\"sequence_numbers\":true",
+];
+
 /// What may stand there.
-const READ: [&str; 4] = [
+const READ: [&str; 5] = [
+    "\"sequence_numbers\":false => \"sequence_numbers\":true",
     "\"max_nodes\":20 => \"max_nodes\":16777215",
     "\"history_size\":0 => \"history_size\":4294967295",
     "\"size\":24 => \"size\":18446744073709551615",
@@ -155,20 +214,25 @@ const READ: [&str; 4] = [
 ];
 
 /// Whether the line is read with a text in the place of the first such text. Nothing is asked of a row that isn't one.
-fn is_spelled(alloc: Global, row: &str) -> Result<bool, AllocError> {
+fn is_spelled(alloc: Global, line: &str, row: &str) -> Result<bool, AllocError> {
     let Some((from, to)) = row.split_once(" => ") else {
         return Err(AllocError);
     };
-    let Some((before, after)) = publish_subscribe_line().split_once(from) else {
+    let Some((before, after)) = line.split_once(from) else {
         return Err(AllocError);
     };
     is_read(alloc, format!(in alloc; "{before}{to}{after}")?.as_bytes())
 }
 
 /// The first row that is read though it should not be, or the other way round.
-fn wrong_row(alloc: Global, rows: &[&str], read: bool) -> Result<Option<usize>, AllocError> {
+fn wrong_row(
+    alloc: Global,
+    line: &str,
+    rows: &[&str],
+    read: bool,
+) -> Result<Option<usize>, AllocError> {
     for (place, row) in rows.iter().enumerate() {
-        if is_spelled(alloc, *row)? != read {
+        if is_spelled(alloc, line, *row)? != read {
             return Ok(Some(place));
         }
     }
@@ -177,16 +241,73 @@ fn wrong_row(alloc: Global, rows: &[&str], read: bool) -> Result<Option<usize>, 
 
 #[test]
 fn other_spellings_are_refused(rt: HostRuntime) -> Result<(), AllocError> {
-    let wrong = wrong_row(rt.alloc(), &REFUSED, false)?;
+    let wrong = wrong_row(rt.alloc(), publish_subscribe_line(), &REFUSED, false)?;
+    assert!(rt; wrong == None, "{wrong:?}");
+    Ok(())
+}
+
+#[test]
+fn other_spellings_of_version_1_are_refused(rt: HostRuntime) -> Result<(), AllocError> {
+    let wrong = wrong_row(
+        rt.alloc(),
+        first_publish_subscribe_line(),
+        &FIRST_REFUSED,
+        false,
+    )?;
     assert!(rt; wrong == None, "{wrong:?}");
     Ok(())
 }
 
 #[test]
 fn numbers_at_their_ends_and_escaped_letters_are_read(rt: HostRuntime) -> Result<(), AllocError> {
-    let wrong = wrong_row(rt.alloc(), &READ, true)?;
+    let wrong = wrong_row(rt.alloc(), publish_subscribe_line(), &READ, true)?;
     assert!(rt; wrong == None, "{wrong:?}");
     Ok(())
+}
+
+/// Whether the messages of the described service have numbers.
+fn has_numbers(description: &Description) -> bool {
+    match description.settings() {
+        Settings::PublishSubscribe(config) => config.sequence_numbers,
+        _ => false,
+    }
+}
+
+/// Whether a line of version 1 is read with the switch off, and written in both versions.
+fn first_line_is_read_as_off(alloc: Global) -> Result<bool, DescriptionError> {
+    let description = decode(alloc, first_publish_subscribe_line().as_bytes())?;
+    let first = encode_v1(alloc, &description)?;
+    let second = encode(alloc, &description)?;
+    Ok(
+        !has_numbers(&description)
+            && first.as_slice() == first_publish_subscribe_line().as_bytes()
+            && second.as_slice() == publish_subscribe_line().as_bytes(),
+    )
+}
+
+/// What writing version 1 comes to for the service with numbers, whose line of version 2 was read.
+fn first_line_of_numbers(alloc: Global) -> Result<Vec<u8>, DescriptionError> {
+    let Some((before, after)) = publish_subscribe_line().split_once("false") else {
+        return Err(DescriptionError::Invalid);
+    };
+    let line = format!(in alloc; "{before}true{after}")?;
+    let description = decode(alloc, line.as_bytes())?;
+    if !has_numbers(&description) {
+        return Err(DescriptionError::Invalid);
+    }
+    encode_v1(alloc, &description)
+}
+
+#[test]
+fn version_1_is_read_as_off_and_refuses_numbers(rt: HostRuntime) {
+    let alloc: Global = rt.alloc();
+    let read = first_line_is_read_as_off(alloc);
+    assert!(rt; read == Ok(true), "{read:?}");
+    let refused = first_line_of_numbers(alloc).err();
+    assert!(rt;
+        refused == Some(DescriptionError::NotInVersion1),
+        "{refused:?}"
+    );
 }
 
 /// Whether the hash of publish-subscribe has these digits.

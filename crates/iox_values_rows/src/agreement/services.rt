@@ -1,7 +1,7 @@
 //! Services of each pattern in a table, from their creation to their end, and again; and texts that are none of a service.
 use crate::agreement::lines::{
-    event_line, named_event_line, named_request_response_line, publish_subscribe_line,
-    request_response_line,
+    event_line, first_publish_subscribe_line, named_event_line, named_request_response_line,
+    publish_subscribe_line, request_response_line,
 };
 use crate::agreement::sizes::{attributes, requirements};
 use crate::agreement::tables::is_made;
@@ -157,41 +157,79 @@ fn a_service_is_published_with_its_line(rt: HostRuntime) {
     assert!(rt; published == [true; 5], "{published:?}");
 }
 
-/// What opening the service `23` in this table comes to where this text was published in its place: the refusal, if there is one.
+/// What opening the service `23` in this table comes to where this text was published in its place and a switch may be named: the
+/// refusal, if there is one.
 fn refusal_in(
     alloc: Global,
     table: &mut Table,
     text: &[u8],
+    numbers: Option<bool>,
 ) -> Option<Option<PublishSubscribeOpenError>> {
     let name = ServiceName::new(b"23").ok()?;
     let hash = service_hash(MessagingPattern::PublishSubscribe, &name);
     if !is_made(table, &hash, (1, 5, 20), text) {
         return None;
     }
-    match of_line() {
-        Ok(asked) => Some(asked.open(alloc, table).err()),
-        Err(_) => None,
-    }
+    let asked = of_line().ok()?;
+    let asked = match numbers {
+        Some(switch) => asked.sequence_numbers(switch),
+        None => asked,
+    };
+    Some(asked.open(alloc, table).err())
 }
 
 /// The same in a new table.
-fn refusal_of(alloc: Global, text: &[u8]) -> Option<Option<PublishSubscribeOpenError>> {
-    refusal_in(alloc, &mut Table::new(alloc, 1), text)
+fn refusal_of(
+    alloc: Global,
+    text: &[u8],
+    numbers: Option<bool>,
+) -> Option<Option<PublishSubscribeOpenError>> {
+    refusal_in(alloc, &mut Table::new(alloc, 1), text, numbers)
 }
 
-/// Whether opening is refused as corrupted where a text of the line was changed.
-fn is_corrupted(alloc: Global, from: &str, to: &str) -> Result<bool, AllocError> {
-    let Some((before, after)) = publish_subscribe_line().split_once(from) else {
+/// Whether opening is refused as corrupted where this text was published.
+fn is_corrupted_text(alloc: Global, text: &[u8]) -> bool {
+    let corrupted = PublishSubscribeOpenError::ServiceInCorruptedState;
+    refusal_of(alloc, text, None) == Some(Some(corrupted))
+}
+
+/// Whether opening is refused as corrupted where a text of this line was changed.
+fn is_corrupted(alloc: Global, line: &str, from: &str, to: &str) -> Result<bool, AllocError> {
+    let Some((before, after)) = line.split_once(from) else {
         return Ok(false);
     };
     let text = format!(in alloc; "{before}{to}{after}")?;
-    let corrupted = PublishSubscribeOpenError::ServiceInCorruptedState;
-    Ok(refusal_of(alloc, text.as_bytes()) == Some(Some(corrupted)))
+    Ok(is_corrupted_text(alloc, text.as_bytes()))
 }
 
 /// Whether opening is not refused where the line is the service's own.
-fn is_whole(alloc: Global) -> bool {
-    refusal_of(alloc, publish_subscribe_line().as_bytes()) == Some(None)
+fn is_whole(alloc: Global, line: &str) -> bool {
+    refusal_of(alloc, line.as_bytes(), None) == Some(None)
+}
+
+/// The first beginning of a line under which opening isn't refused as corrupted: the whole line, by its length.
+fn first_beginning_opened(alloc: Global, line: &str) -> Option<usize> {
+    for length in 0..=line.len() {
+        if !is_corrupted_text(alloc, line.as_bytes().get(..length).unwrap_or_default()) {
+            return Some(length);
+        }
+    }
+    None
+}
+
+/// The line of version 2 of the same service with numbers of messages.
+fn numbers_line(alloc: Global) -> Result<String, AllocError> {
+    match publish_subscribe_line().split_once("false") {
+        Some((before, after)) => format!(in alloc; "{before}true{after}"),
+        None => Err(AllocError),
+    }
+}
+
+/// Whether opening with this switch, if one is named, is refused for it just where the line says otherwise.
+fn is_met(alloc: Global, line: &str, numbers: Option<bool>, met: bool) -> bool {
+    let unmet = PublishSubscribeOpenError::IncompatibleSequenceNumbers;
+    let wanted = if met { None } else { Some(unmet) };
+    refusal_of(alloc, line.as_bytes(), numbers) == Some(wanted)
 }
 
 // A space; another hash than that under which it lies; nothing at all.
@@ -199,12 +237,44 @@ fn is_whole(alloc: Global) -> bool {
 fn a_text_that_is_not_the_services_line_is_corrupted(rt: HostRuntime) -> Result<(), AllocError> {
     let alloc: Global = rt.alloc();
     let answers = [
-        is_corrupted(alloc, "{", "{ "),
-        is_corrupted(alloc, "40bd", "40be"),
-        is_corrupted(alloc, publish_subscribe_line(), ""),
-        Ok(is_whole(alloc)),
+        is_corrupted(alloc, publish_subscribe_line(), "{", "{ "),
+        is_corrupted(alloc, publish_subscribe_line(), "2}", "2} "),
+        is_corrupted(alloc, publish_subscribe_line(), "40bd", "40be"),
+        Ok(is_whole(alloc, publish_subscribe_line())),
+        is_corrupted(alloc, first_publish_subscribe_line(), "{", "{ "),
+        is_corrupted(alloc, first_publish_subscribe_line(), "1}", "1} "),
+        is_corrupted(alloc, first_publish_subscribe_line(), "40bd", "40be"),
+        Ok(is_whole(alloc, first_publish_subscribe_line())),
     ];
     hold(&rt, &answers)
+}
+
+#[test]
+fn each_beginning_of_either_line_is_corrupted(rt: HostRuntime) {
+    let alloc: Global = rt.alloc();
+    let lines = [publish_subscribe_line(), first_publish_subscribe_line()];
+    for line in lines {
+        let opened = first_beginning_opened(alloc, line);
+        assert!(rt; opened == Some(line.len()), "{opened:?}");
+    }
+}
+
+#[test]
+fn a_line_of_version_1_is_opened_as_one_without_numbers(rt: HostRuntime) -> Result<(), AllocError> {
+    let alloc: Global = rt.alloc();
+    let numbers = numbers_line(alloc)?;
+    let answers = [
+        is_met(alloc, first_publish_subscribe_line(), None, true),
+        is_met(alloc, first_publish_subscribe_line(), Some(false), true),
+        is_met(alloc, first_publish_subscribe_line(), Some(true), false),
+        is_met(alloc, publish_subscribe_line(), Some(false), true),
+        is_met(alloc, publish_subscribe_line(), Some(true), false),
+        is_met(alloc, numbers.as_str(), None, true),
+        is_met(alloc, numbers.as_str(), Some(false), false),
+        is_met(alloc, numbers.as_str(), Some(true), true),
+    ];
+    assert!(rt; answers == [true; 8], "{answers:?}");
+    Ok(())
 }
 
 /// A call of a builder: with the attributes that it asks for, or with some that are handed in.

@@ -43,22 +43,22 @@ pub(crate) fn requirements(
 /// How many bytes the name has, how many attributes there are, how many bytes each value has, and how many the line.
 type Row = (usize, usize, usize, usize);
 
-// A line without attributes has 531 bytes beside its name; each attribute has 71 beside its value, and a comma but for the last.
+// A line without attributes has 556 bytes beside its name; each attribute has 71 beside its value, and a comma but for the last.
 const ROWS: [Row; 14] = [
-    (1, 0, 0, 532),
-    (2, 0, 0, 533),
-    (7, 1, 0, 538 + 71),
-    (64, 1, 1, 595 + 77),
-    (255, 1, 256, 786 + 71 + 1_536),
-    (1, 2, 0, 532 + 143),
-    (1, 2, 2, 532 + 143 + 24),
-    (1, 7, 7, 532 + 503 + 294),
-    (255, 7, 256, 786 + 503 + 10_752),
-    (1, 8, 0, 532 + 575),
-    (1, 8, 64, 532 + 575 + 3_072),
-    (255, 8, 256, 786 + 575 + 12_288),
-    (255, 8, 256, 786 + 575 + 12_288),
-    (255, 8, 256, 786 + 575 + 12_288),
+    (1, 0, 0, 557),
+    (2, 0, 0, 558),
+    (7, 1, 0, 563 + 71),
+    (64, 1, 1, 620 + 77),
+    (255, 1, 256, 811 + 71 + 1_536),
+    (1, 2, 0, 557 + 143),
+    (1, 2, 2, 557 + 143 + 24),
+    (1, 7, 7, 557 + 503 + 294),
+    (255, 7, 256, 811 + 503 + 10_752),
+    (1, 8, 0, 557 + 575),
+    (1, 8, 64, 557 + 575 + 3_072),
+    (255, 8, 256, 811 + 575 + 12_288),
+    (255, 8, 256, 811 + 575 + 12_288),
+    (255, 8, 256, 811 + 575 + 12_288),
 ];
 
 /// The description of a row.

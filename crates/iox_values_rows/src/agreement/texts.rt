@@ -26,12 +26,13 @@ fn are_told<E: Debug + Display>(
 }
 
 /// All errors of the clauses of publish-subscribe.
-fn publish_subscribe_clauses() -> [publish_subscribe::ClauseError; 10] {
+fn publish_subscribe_clauses() -> [publish_subscribe::ClauseError; 11] {
     [
         publish_subscribe::ClauseError::IncompatibleMessagingPattern,
         publish_subscribe::ClauseError::IncompatibleTypes,
         publish_subscribe::ClauseError::IncompatibleAttributes,
         publish_subscribe::ClauseError::IncompatibleOverflowBehavior,
+        publish_subscribe::ClauseError::IncompatibleSequenceNumbers,
         publish_subscribe::ClauseError::DoesNotSupportRequestedAmountOfPublishers,
         publish_subscribe::ClauseError::DoesNotSupportRequestedAmountOfSubscribers,
         publish_subscribe::ClauseError::DoesNotSupportRequestedMinBufferSize,
@@ -87,7 +88,11 @@ fn errors_of_descriptions_display_as_type_and_variant(rt: HostRuntime) -> Result
         are_told(
             alloc,
             "DescriptionError",
-            &[DescriptionError::Invalid, DescriptionError::OutOfMemory],
+            &[
+                DescriptionError::Invalid,
+                DescriptionError::NotInVersion1,
+                DescriptionError::OutOfMemory,
+            ],
         ),
         are_told(alloc, "LimitError", &[LimitError::OutsideLimits]),
         are_told(alloc, "AttributeError", &[AttributeError::OutOfMemory]),
@@ -112,7 +117,10 @@ fn errors_of_negotiation_display_as_type_and_variant(rt: HostRuntime) -> Result<
         are_told(
             alloc,
             "PublishSubscribeOpenError",
-            &[PublishSubscribeOpenError::IncompatibleTypes],
+            &[
+                PublishSubscribeOpenError::IncompatibleTypes,
+                PublishSubscribeOpenError::IncompatibleSequenceNumbers,
+            ],
         ),
         are_told(
             alloc,

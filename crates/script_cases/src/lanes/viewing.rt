@@ -49,6 +49,7 @@ fn found(words: &mut SplitWhitespace<'_>) -> Option<Found> {
             node_id: place,
             publisher_id: third,
             fails: kind == "failing",
+            last: None,
         },
         "swapped" => Found::Swapped {
             subscriber: publisher,

@@ -12,14 +12,14 @@ only_told : {T E : Type 0} {x e : E} (r : Result T E) (P : T → Type 0) → IsE
 only_told (Ok v) P is e = absurd is
 only_told (Err y) P is e = is ∙ e
 
-pub returns-in_err-define : goal.returns-in_err-define
-returns-in_err-define c =
+pub returns-in_err-define-clause-read : goal.returns-in_err-define-clause-read
+returns-in_err-define-clause-read c =
     λ pairs within is.
     let items = items_are c.in-Some.list.now.items pairs (view c.args.value.now) is c.in-Some.ensures in
     let all = subst (λ values. map view values ≡ map attribute_tree pairs) (sym c.deref-item-items.ensures.value) items in
     let n = next c.deref-item-items.result.now pairs c.loop-item.attributes c.loop-item.item-index c.item-item.result all within
     (c.loop-item.invariant pairs within is) c.loop-item-test.true c.item-item.is in
-    let lacks = c.in_err-define.ensures (get_or pairs c.loop-item.item-index (attribute [] [])) n.good n.room n.is in
+    let lacks = c.in_err-define.ensures.read (get_or pairs c.loop-item.item-index (attribute [] [])) n.good n.room n.is in
     only_told _ _ c.from_residual.ensures.1 lacks
 
 pub loop-item-preserved : goal.loop-item-preserved
@@ -29,10 +29,10 @@ loop-item-preserved c =
     let all = subst (λ values. map view values ≡ map attribute_tree pairs) (sym c.deref-item-items.ensures.value) items in
     let n = next c.deref-item-items.result.now pairs c.loop-item.attributes c.loop-item.item-index c.item-item.result all within
     (c.loop-item.invariant pairs within is) c.loop-item-test.true c.item-item.is in
-    c.in_ok-define.ensures (get_or pairs c.loop-item.item-index (attribute [] [])) n.good n.room n.is ∙ n.grown
+    c.in_ok-define.ensures.read (get_or pairs c.loop-item.item-index (attribute [] [])) n.good n.room n.is ∙ n.grown
 
-pub returns : goal.returns
-returns c =
+pub returns-clause-read : goal.returns-clause-read
+returns-clause-read c =
     λ pairs within is.
     let items = items_are c.in-Some.list.now.items pairs (view c.args.value.now) is c.in-Some.ensures in
     let all = subst (λ values. map view values ≡ map attribute_tree pairs) (sym c.deref-item-items.ensures.value) items in

@@ -6,7 +6,7 @@ use Rattle.serde_json.specs.Data.{Data}
 use Rattle.serde_json.specs.Read.{read}
 use Rattle.serde_json.specs.View.{view}
 use Rattle.iox_describe.specs.declared.error.DescriptionError.{DescriptionError}
-use Rattle.iox_describe.specs.declared.error.DescriptionError.TheVariants.{Invalid, OutOfMemory}
+use Rattle.iox_describe.specs.declared.error.DescriptionError.TheVariants.{Invalid, NotInVersion1, OutOfMemory}
 use Rattle.iox_describe.specs.Line.{tree}
 use Rattle.iox_describe.proofs.Plain.{line-read, line-utf8}
 use Rattle.iox_describe.proofs.reader.value_of.Goals as goal
@@ -20,19 +20,27 @@ only_memory (Err e) P h never = elim h [ inl memory ↦ memory | inr refused ↦
 some_none : (d : Data) → Some d ≡ None → ⊥
 some_none d e = cc
 
-pub returns-in_err-from_slice : goal.returns-in_err-from_slice
-returns-in_err-from_slice c =
-    λ a within is.
+pub returns-in_err-from_slice-clause-read : goal.returns-in_err-from_slice-clause-read
+returns-in_err-from_slice-clause-read c =
+    λ version a within is.
     only_memory _ _ c.from_residual.ensures.1
     (λ other.
-    some_none (tree a)
-    (sym (line-read a within)
+    some_none (tree version a)
+    (sym (line-read version a within)
     ∙ ap read (sym is)
-    ∙ c.in_err-from_slice.ensures.err other (subst IsUtf8 (sym is) (line-utf8 a within))))
+    ∙ c.in_err-from_slice.ensures.err other (subst IsUtf8 (sym is) (line-utf8 version a within))))
 
-pub returns : goal.returns
-returns c =
-    λ a within is.
-    let read_so : Some (view c.in_ok-from_slice.field-0) ≡ Some (tree a)
-    = sym c.in_ok-from_slice.ensures.ok.1 ∙ ap read is ∙ line-read a within in
-    let same : view c.in_ok-from_slice.field-0 ≡ tree a = cc in same
+pub returns-clause-read : goal.returns-clause-read
+returns-clause-read c =
+    λ version a within is.
+    let read_so : Some (view c.in_ok-from_slice.field-0) ≡ Some (tree version a)
+    = sym c.in_ok-from_slice.ensures.ok.1 ∙ ap read is ∙ line-read version a within in
+    let same : view c.in_ok-from_slice.field-0 ≡ tree version a = cc in same
+
+never_told : {T : Type 0} (M : Type 0) (r : Result T DescriptionError) → IsErrAnd r (λ e. (e ≡ OutOfMemory) ⊎ ((e ≡ Invalid) × (¬ M)))
+    → r ≡ Err NotInVersion1 → ⊥
+never_told M (Ok v) h is = absurd h
+never_told M (Err e) h is = elim h [ inl memory ↦ absurd cc | inr refused ↦ absurd cc ]
+
+pub returns-in_err-from_slice-clause-known : goal.returns-in_err-from_slice-clause-known
+returns-in_err-from_slice-clause-known c = never_told _ _ c.from_residual.ensures.1

@@ -25,6 +25,7 @@ pub fn publish_subscribe(
         types,
         attributes: AttributeVerifier::new(),
         enable_safe_overflow: options.enable_safe_overflow,
+        sequence_numbers: options.sequence_numbers,
         max_publishers: options.max_publishers,
         max_subscribers: options.max_subscribers,
         subscriber_max_buffer_size: options.subscriber_max_buffer_size,

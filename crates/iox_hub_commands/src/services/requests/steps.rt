@@ -101,6 +101,10 @@ fn step(named: &Named, name: &ServiceName, types: &MessageTypeDetails) -> Foreig
             node: *node,
             description: description(name, options, types),
         },
+        Named::PublishV1(node, options) => ForeignStep::PublishV1 {
+            node: *node,
+            description: description(name, options, types),
+        },
         Named::Register(node) => ForeignStep::Register { node: *node },
         Named::Leave(node) => ForeignStep::Leave { node: *node },
         Named::Remove(node) => ForeignStep::Remove { node: *node },

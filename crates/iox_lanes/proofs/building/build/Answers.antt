@@ -1,4 +1,5 @@
 use Rattle.std.proofs.Common.{rules, ◌≡◌, length, subst, ◌∙◌, ap}
+use Rattle.iox_lanes_opening.specs.Middles.{middle_count, middle_words}
 use Rattle.iox_lanes.specs.Alone.{KeepAlone}
 use Rattle.iox_lanes.specs.Built.{HaveSlots}
 use Rattle.iox_lanes.specs.Failing.{asked, failing}
@@ -24,7 +25,8 @@ returns-clause-exact g c =
     let counted : c.deref.result.now ≡ c.in_ok-publishers.publishers.items = search rules in
     let publishers : c.len.result ≡ length c.in_ok-publishers.publishers.items = search rules in
     let subscribers : c.len-2.result ≡ length c.in_ok-subscribers.subscribers.items = search rules in
-    are_exact g.T.Words.WORDS g.U.Words.WORDS c.args.domain.now.state.ports c.sizes_of.result _ c.deref.result.now
+    are_exact g.T.Words.WORDS (middle_count c.args.domain.now.state.ports.sizes.sequence_numbers g.U.Words.WORDS)
+    c.args.domain.now.state.ports c.sizes_of.result _ c.deref.result.now
     c.in_ok-publishers.publishers.items c.len.result c.len-2.result (length c.in_ok-subscribers.subscribers.items) c.into_lanes.result
     c.sizes_of.ensures.exact counted publishers subscribers c.into_lanes.ensures.found (search rules)
 
@@ -52,12 +54,15 @@ returns-clause-built g c =
     let ordering : c.deref-5.result.now ≡ c.in_ok-subscribers.subscribers.items = search rules in
     let publisher_count : c.len.result ≡ length c.in_ok-publishers.publishers.items = search rules in
     let subscriber_count : c.len-2.result ≡ length c.in_ok-subscribers.subscribers.items = search rules in
-    are_built g.T.Words.parts g.U.Words.parts g.T.Words.WORDS g.U.Words.WORDS c.args.domain.now c.in_ok-publishers.publishers.items
+    are_built g.T.Words.parts (middle_words c.args.domain.now.state.ports.sizes.sequence_numbers g.U.Words.parts) g.T.Words.WORDS
+    (middle_count c.args.domain.now.state.ports.sizes.sequence_numbers g.U.Words.WORDS) c.args.domain.now
+    c.in_ok-publishers.publishers.items
     c.in_ok-subscribers.subscribers.items c.sizes_of.result _
     c.in_ok-lanes.lanes.lanes c.find_publishers.new.lanes.lanes c.find_orders.new.lanes.lanes c.into_lanes.result
     (subst (λ n. AreAgreed c.args.domain.now.state.ports.sizes n (length c.in_ok-subscribers.subscribers.items) g.T.Words.WORDS
-    g.U.Words.WORDS c.sizes_of.result) publisher_count
-    (subst (λ n. AreAgreed c.args.domain.now.state.ports.sizes c.len.result n g.T.Words.WORDS g.U.Words.WORDS c.sizes_of.result)
+    (middle_count c.args.domain.now.state.ports.sizes.sequence_numbers g.U.Words.WORDS) c.sizes_of.result) publisher_count
+    (subst (λ n. AreAgreed c.args.domain.now.state.ports.sizes c.len.result n g.T.Words.WORDS
+    (middle_count c.args.domain.now.state.ports.sizes.sequence_numbers g.U.Words.WORDS) c.sizes_of.result)
     subscriber_count c.sizes_of.ensures.agreed))
     c.into_lanes.ensures.found (search rules)
     (subst (λ p. HaveSlots c.args.domain.now.state.ports.publishers p c.sizes_of.result.slots) counted c.sizes_of.ensures.room)
@@ -66,10 +71,13 @@ returns-clause-built g c =
     (subst (λ p. KeepAlone c.args.domain.now.state.ports p c.deref-3.result.now) publishers c.in_ok-find_publishers.ensures.alone))
     c.in_ok-lanes.ensures.start
     (subst (λ s. c.find_publishers.new.lanes.lanes
-    ≡ publishers_behind g.T.Words.parts g.U.Words.parts g.T.Words.WORDS g.U.Words.WORDS c.args.domain.now
+    ≡ publishers_behind g.T.Words.parts (middle_words c.args.domain.now.state.ports.sizes.sequence_numbers g.U.Words.parts)
+    g.T.Words.WORDS (middle_count c.args.domain.now.state.ports.sizes.sequence_numbers g.U.Words.WORDS) c.args.domain.now
     c.in_ok-publishers.publishers.items s c.in_ok-lanes.lanes.lanes (length c.in_ok-publishers.publishers.items)) subscribers
     (subst (λ p. c.find_publishers.new.lanes.lanes
-    ≡ publishers_behind g.T.Words.parts g.U.Words.parts g.T.Words.WORDS g.U.Words.WORDS c.args.domain.now p c.deref-3.result.now
+    ≡ publishers_behind g.T.Words.parts (middle_words c.args.domain.now.state.ports.sizes.sequence_numbers g.U.Words.parts)
+    g.T.Words.WORDS (middle_count c.args.domain.now.state.ports.sizes.sequence_numbers g.U.Words.WORDS) c.args.domain.now p
+    c.deref-3.result.now
     c.in_ok-lanes.lanes.lanes (length p)) publishers c.in_ok-find_publishers.ensures.behind))
     (subst (λ s. c.find_orders.new.lanes.lanes
     ≡ readers_behind c.in_ok-publishers.publishers.items c.args.domain.now.state.ports.subscribers s

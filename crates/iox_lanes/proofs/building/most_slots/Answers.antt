@@ -1,4 +1,4 @@
-use Rattle.std.proofs.Common.{arith, ◌≡◌, ap, ◌∙◌, slice_index, length}
+use Rattle.std.proofs.Common.{arith, ◌≡◌, ap, ◌∙◌, slice_index}
 use Rattle.std.proofs.lemmas.Option.{get_or_from_slice_get, slice_get_within}
 use Rattle.iox_domain.specs.DomainPorts.Publishers.{port_of}
 use Rattle.iox_lanes.specs.Built.{slots_if, HasSlotsAt}

@@ -1,10 +1,18 @@
 use Rattle.std.proofs.Common.{◌≡◌, length, subst, sym}
 use Rattle.iox_lanes_laws.specs.Numbered.{found_messages}
 use Rattle.iox_lanes_laws.specs.Recorded.{AreAsHeld, ArePast}
+use Rattle.iox_lanes_opening.specs.Middles.{middle_count, middle_words}
 use Rattle.iox_lanes.specs.Exact.{sizes_for}
 use Rattle.iox_lanes.specs.Failing.{FailAsAsked}
 use Rattle.iox_lanes.specs.Finding.{WasFound}
+use Rattle.iox_lanes.specs.Holding.{LanesHold}
 use Rattle.iox_lanes.proofs.domain_lanes.into_lanes.Goals as goal
+
+pub returns-in-Ok-clause-lanes : goal.returns-in-Ok-clause-lanes
+returns-in-Ok-clause-lanes g c =
+    subst (λ made. LanesHold g.T.Words.parts (middle_words c.args.domain.state.ports.sizes.sequence_numbers g.U.Words.parts)
+    g.T.Words.WORDS (middle_count c.args.domain.state.ports.sizes.sequence_numbers g.U.Words.WORDS) c.args.domain made.lanes.lanes
+    made.publishers.items made.subscribers.items made.connections.items) (sym c.with.ensures) c.in-Ok.ensures.holds
 
 pub returns-in-Ok-clause-fails : goal.returns-in-Ok-clause-fails
 returns-in-Ok-clause-fails g c
@@ -12,7 +20,8 @@ returns-in-Ok-clause-fails g c
 
 pub returns-in-Ok-clause-exact : goal.returns-in-Ok-clause-exact
 returns-in-Ok-clause-exact g c =
-    subst (λ made. WasFound (sizes_for g.T.Words.WORDS g.U.Words.WORDS c.args.domain.state.ports made.publishers.items
+    subst (λ made. WasFound (sizes_for g.T.Words.WORDS (middle_count c.args.domain.state.ports.sizes.sequence_numbers g.U.Words.WORDS)
+    c.args.domain.state.ports made.publishers.items
     (length made.subscribers.items)) made.lanes.lanes) (sym c.with.ensures) c.in-Ok.ensures.exact
 
 pub returns-in-Ok-clause-messages : goal.returns-in-Ok-clause-messages

@@ -2,6 +2,7 @@ use Rattle.std.proofs.Common.{◌≡◌, length, refl, subst, sym}
 use Rattle.iox_lanes_laws.specs.Numbered.{found_messages}
 use Rattle.iox_lanes_machine.specs.Resting.{AllBetween}
 use Rattle.iox_lanes_machine.specs.WholeReads.{CameTo}
+use Rattle.iox_lanes_opening.specs.Middles.{middle_count, middle_words}
 use Rattle.iox_lanes.specs.Exact.{sizes_for}
 use Rattle.iox_lanes.specs.Failing.{FailAsAsked}
 use Rattle.iox_lanes.specs.Finding.{WasFound}
@@ -14,22 +15,28 @@ use Rattle.iox_lanes.proofs.domain_lanes.open.Goals as goal
 
 pub returns-clause-holds : goal.returns-clause-holds
 returns-clause-holds g c =
-    subst (λ made. LanesHold g.T.Words.parts g.U.Words.parts g.T.Words.WORDS g.U.Words.WORDS c.args.domain.now made.lanes.lanes
+    subst (λ made. LanesHold g.T.Words.parts (middle_words c.args.domain.now.state.ports.sizes.sequence_numbers g.U.Words.parts)
+    g.T.Words.WORDS (middle_count c.args.domain.now.state.ports.sizes.sequence_numbers g.U.Words.WORDS) c.args.domain.now
+    made.lanes.lanes
     made.publishers.items made.subscribers.items made.connections.items) (sym c.in_ok-kept.ensures.made)
-    (lanes_hold g.T.Words.parts g.U.Words.parts g.T.Words.WORDS g.U.Words.WORDS c.args.domain.now
+    (lanes_hold g.T.Words.parts (middle_words c.args.domain.now.state.ports.sizes.sequence_numbers g.U.Words.parts) g.T.Words.WORDS
+    (middle_count c.args.domain.now.state.ports.sizes.sequence_numbers g.U.Words.WORDS) c.args.domain.now
     c.in_ok-opened.opened.publishers.items c.in_ok-opened.opened.subscribers.items c.in_ok-opened.opened.connections.items
     c.in_ok-opened.opened.lanes c.in_ok-opened.ensures.built c.requires c.in_ok-opened.ensures.publishers
     c.in_ok-opened.ensures.subscribers c.in_ok-opened.ensures.ties)
 
 pub returns-clause-joined : goal.returns-clause-joined
 returns-clause-joined g c =
-    subst (λ made. IsJoined g.T.Words.WORDS g.U.Words.WORDS (length made.one.items) made.lanes.lanes
+    subst (λ made. IsJoined g.T.Words.WORDS (middle_count c.args.domain.now.state.ports.sizes.sequence_numbers g.U.Words.WORDS)
+    (length made.one.items) made.lanes.lanes
     c.args.domain.now.state.ports.publishers made.publishers.items (length made.subscribers.items) made.connections.items)
     (sym c.in_ok-kept.ensures.made)
-    (are_joined g.T.Words.parts g.U.Words.parts g.T.Words.WORDS g.U.Words.WORDS c.args.domain.now c.in_ok-opened.opened.lanes
+    (are_joined g.T.Words.parts (middle_words c.args.domain.now.state.ports.sizes.sequence_numbers g.U.Words.parts) g.T.Words.WORDS
+    (middle_count c.args.domain.now.state.ports.sizes.sequence_numbers g.U.Words.WORDS) c.args.domain.now c.in_ok-opened.opened.lanes
     c.in_ok-opened.opened.publishers.items c.in_ok-opened.opened.subscribers.items c.in_ok-opened.opened.connections.items c.requires
     c.in_ok-opened.ensures.sized
-    (lanes_hold g.T.Words.parts g.U.Words.parts g.T.Words.WORDS g.U.Words.WORDS c.args.domain.now
+    (lanes_hold g.T.Words.parts (middle_words c.args.domain.now.state.ports.sizes.sequence_numbers g.U.Words.parts) g.T.Words.WORDS
+    (middle_count c.args.domain.now.state.ports.sizes.sequence_numbers g.U.Words.WORDS) c.args.domain.now
     c.in_ok-opened.opened.publishers.items c.in_ok-opened.opened.subscribers.items c.in_ok-opened.opened.connections.items
     c.in_ok-opened.opened.lanes c.in_ok-opened.ensures.built c.requires c.in_ok-opened.ensures.publishers
     c.in_ok-opened.ensures.subscribers c.in_ok-opened.ensures.ties)
@@ -44,11 +51,13 @@ returns-clause-between g c = subst (λ made. AllBetween made.lanes.lanes) (sym c
 pub returns-clause-sized : goal.returns-clause-sized
 returns-clause-sized g c =
     subst (λ made. AreSized c.args.domain.now.state.ports.sizes (length made.publishers.items) (length made.subscribers.items)
-    g.T.Words.WORDS g.U.Words.WORDS made.lanes.lanes) (sym c.in_ok-kept.ensures.made) c.in_ok-opened.ensures.sized
+    g.T.Words.WORDS (middle_count c.args.domain.now.state.ports.sizes.sequence_numbers g.U.Words.WORDS) made.lanes.lanes)
+    (sym c.in_ok-kept.ensures.made) c.in_ok-opened.ensures.sized
 
 pub returns-clause-exact : goal.returns-clause-exact
 returns-clause-exact g c =
-    subst (λ made. WasFound (sizes_for g.T.Words.WORDS g.U.Words.WORDS c.args.domain.now.state.ports made.publishers.items
+    subst (λ made. WasFound (sizes_for g.T.Words.WORDS (middle_count c.args.domain.now.state.ports.sizes.sequence_numbers
+    g.U.Words.WORDS) c.args.domain.now.state.ports made.publishers.items
     (length made.subscribers.items)) made.lanes.lanes) (sym c.in_ok-kept.ensures.made) c.in_ok-opened.ensures.exact
 
 pub returns-clause-fails : goal.returns-clause-fails

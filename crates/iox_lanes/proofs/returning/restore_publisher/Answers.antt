@@ -1,6 +1,7 @@
 use Rattle.std.proofs.Common.{◌≡◌, ◌*◌, slice_get, Some, ap, subst, sym, ◌∙◌}
 use Rattle.std.specs.Option.{option_copied_mut}
 use Rattle.iox_domain.specs.DomainPorts.Publishers.{port_of, with_port}
+use Rattle.iox_lanes_opening.specs.Middles.{middle_of}
 use Rattle.iox_lanes.specs.Joined.{row_of}
 use Rattle.iox_lanes.specs.Returning.{IsPortLeftIf, JoinsAt}
 use Rattle.iox_lanes.proofs.Numbers.{put_there, put_elsewhere}
@@ -16,10 +17,12 @@ pub returns-in-Some-clause-this : goal.returns-in-Some-clause-this
 returns-in-Some-clause-this g c = λ rest joins.
     let there : port_of c.args.number c.args.publishers.now ≡ Some c.in-Some.port.now
     = sym c.get_mut.ensures.value ∙ ap option_copied_mut c.in-Some.is in
-    subst (λ old. IsPortLeftIf g.T.Words.of_parts g.U.Words.of_parts c.args.lanes.now (c.args.place * c.args.readers)
+    subst (λ old. IsPortLeftIf g.T.Words.of_parts (middle_of c.args.numbered g.U.Words.of_parts) c.args.lanes.now
+    (c.args.place * c.args.readers)
     (row_of c.args.readers c.args.indices.now c.args.place) (slice_get c.args.lanes.now.publishers c.args.place) old
     (port_of c.args.number (with_port c.args.number c.args.publishers.now c.restore_port.new.port))) (sym there)
-    (subst (λ new. IsPortLeftIf g.T.Words.of_parts g.U.Words.of_parts c.args.lanes.now (c.args.place * c.args.readers)
+    (subst (λ new. IsPortLeftIf g.T.Words.of_parts (middle_of c.args.numbered g.U.Words.of_parts) c.args.lanes.now
+    (c.args.place * c.args.readers)
     (row_of c.args.readers c.args.indices.now c.args.place) (slice_get c.args.lanes.now.publishers c.args.place)
     (Some c.in-Some.port.now) new)
     (sym (put_there c.args.number c.args.publishers.now c.in-Some.port.now c.restore_port.new.port there))

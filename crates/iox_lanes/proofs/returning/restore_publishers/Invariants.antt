@@ -1,4 +1,5 @@
 use Rattle.std.proofs.Common.{ℕ, ◌≡◌, vec_capacity}
+use Rattle.iox_lanes_opening.specs.Middles.{middle_count, middle_of}
 use Rattle.iox_lanes.specs.Joined.{IsJoined}
 use Rattle.iox_lanes.specs.Returning.{AllRest}
 use Rattle.iox_lanes.proofs.JoinedLanes.{LeftSoFar}
@@ -6,6 +7,7 @@ use Rattle.iox_lanes.proofs.returning.restore_publishers.Given as goal
 
 abbrev pub invariant-loop-place : goal.invariant-loop-place
 invariant-loop-place g l = (AllRest l.lanes → (places : ℕ)
-    → IsJoined g.T.Words.WORDS g.U.Words.WORDS places l.lanes l.fn.publishers l.numbers l.fn.readers l.indices
-    → LeftSoFar g.T.Words.of_parts g.U.Words.of_parts l.lanes l.numbers l.fn.readers l.indices l.fn.publishers l.publishers l.place)
+    → IsJoined g.T.Words.WORDS (middle_count l.numbered g.U.Words.WORDS) places l.lanes l.fn.publishers l.numbers l.fn.readers l.indices
+    → LeftSoFar g.T.Words.of_parts (middle_of l.numbered g.U.Words.of_parts) l.lanes l.numbers l.fn.readers l.indices l.fn.publishers
+    l.publishers l.place)
     × (vec_capacity l.one ≡ vec_capacity l.fn.one)

@@ -22,3 +22,8 @@ pub returns-clause-within : goal.returns-clause-within
 returns-clause-within g c =
     let first : slice_get c.args.self.now.free 0 ≡ Some c.in_ok-key.key = search rules in
     free_within c.args.self.now _ c.in_ok-key.ensures.free_keys (first_among _ _ first)
+
+pub returns-clause-free : goal.returns-clause-free
+returns-clause-free g c =
+    let first : slice_get c.args.self.now.free 0 ≡ Some c.in_ok-key.key = search rules in
+    ((c.in_ok-key.ensures.free_keys.exact c.in_ok-key.key).0 (first_among _ _ first)).1

@@ -1,5 +1,6 @@
 use Rattle.std.proofs.Common.{◌<◌, ap, subst, sym, ◌∙◌}
 use Rattle.iox_lanes_opening.specs.Restoring.{IsWhole, AreLeft}
+use Rattle.iox_lanes_opening.specs.Middles.{middle_count, middle_of}
 use Rattle.iox_lanes_opening.proofs.Filling.{cleared_quiet, cleared_left, cleared_empty, filled_quiet, restored_is}
 use Rattle.iox_lanes_opening.proofs.leaving.restored.restore.Goals as goal
 
@@ -10,7 +11,8 @@ restore_connections-requires g c = record {
   whole = c.requires.whole;
   quiet = cleared_quiet c.args.sender.now c.forget_messages.new.sender c.forget_messages.ensures.rest c.forget_messages.ensures.cleared
       (c.if-not-is_rested.ensures.rested).quiet;
-  left = cleared_left g.T.Words.of_parts g.U.Words.of_parts c.args.lanes.now.table c.args.first c.args.sender.now
+  left = cleared_left g.T.Words.of_parts (middle_of c.args.numbered g.U.Words.of_parts) c.args.lanes.now.table c.args.first
+      c.args.sender.now
       c.forget_messages.new.sender c.forget_messages.ensures.cleared (c.if-not-is_rested.ensures.rested).none;
   empty = cleared_empty c.args.sender.now c.forget_messages.new.sender c.forget_messages.ensures.cleared;
 }
@@ -19,18 +21,20 @@ pub restore_history-requires : goal.restore_history-requires
 restore_history-requires g c = record {
   come = record {
     room = subst (λ n. 0 < n) (sym c.restore_connections.ensures.room) c.requires.room;
-    whole = subst (IsWhole g.T.Words.WORDS g.U.Words.WORDS) (sym c.table.ensures) c.requires.whole;
+    whole = subst (IsWhole g.T.Words.WORDS (middle_count c.args.numbered g.U.Words.WORDS)) (sym c.table.ensures) c.requires.whole;
     quiet = filled_quiet c.forget_messages.new.sender c.restore_connections.new.sender c.restore_connections.ensures.rest
         (cleared_quiet c.args.sender.now c.forget_messages.new.sender c.forget_messages.ensures.rest c.forget_messages.ensures.cleared
         (c.if-not-is_rested.ensures.rested).quiet);
-    left = subst (λ t. AreLeft g.T.Words.of_parts g.U.Words.of_parts t c.args.first c.restore_connections.new.sender.uses)
+    left = subst (λ t. AreLeft g.T.Words.of_parts (middle_of c.args.numbered g.U.Words.of_parts) t c.args.first
+        c.restore_connections.new.sender.uses)
         (sym c.table.ensures) c.restore_connections.ensures.left;
   };
   empty = ap (λ s. s.uses.history) c.restore_connections.ensures.rest ∙ ap (λ uses. uses.history) (c.forget_messages.ensures.cleared).same;
 }
 
 pub returns-clause-restored : goal.returns-clause-restored
-returns-clause-restored g c = restored_is g.T.Words.of_parts g.U.Words.of_parts c.args.lanes.now c.args.from c.args.indices.now
+returns-clause-restored g c = restored_is g.T.Words.of_parts (middle_of c.args.numbered g.U.Words.of_parts) c.args.lanes.now c.args.from
+    c.args.indices.now
     c.args.first c.args.history.now c.args.sender.now c.forget_messages.new.sender c.restore_connections.new.sender
     c.restore_history.new.sender
     c.forget_messages.ensures.rest c.forget_messages.ensures.cleared c.restore_connections.ensures.rest

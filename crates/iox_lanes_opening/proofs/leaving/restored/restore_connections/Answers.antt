@@ -1,10 +1,12 @@
 use Rattle.std.proofs.Common.{arith, refl, ◌∙◌}
+use Rattle.iox_lanes_opening.specs.Middles.{middle_of}
 use Rattle.iox_lanes_opening.proofs.Filling.{none_filled, one_filled, all_filled, filled_quiet}
 use Rattle.iox_lanes_opening.proofs.leaving.restored.restore_connections.Goals as goal
 
 pub loop-index-init : goal.loop-index-init
 loop-index-init g c = (
-  none_filled g.T.Words.of_parts g.U.Words.of_parts c.args.lanes.now c.args.from c.args.indices.now c.args.first c.args.sender.now
+  none_filled g.T.Words.of_parts (middle_of c.args.numbered g.U.Words.of_parts) c.args.lanes.now c.args.from c.args.indices.now
+      c.args.first c.args.sender.now
       c.requires.left c.requires.empty,
   refl,
 )
@@ -21,7 +23,8 @@ restore_at-requires g c = record {
 
 pub loop-index-preserved : goal.loop-index-preserved
 loop-index-preserved g c = (
-  one_filled g.T.Words.of_parts g.U.Words.of_parts c.args.lanes.now c.args.from c.args.indices.now c.args.first c.args.sender.now
+  one_filled g.T.Words.of_parts (middle_of c.args.numbered g.U.Words.of_parts) c.args.lanes.now c.args.from c.args.indices.now
+      c.args.first c.args.sender.now
       c.loop-index.sender c.restore_at.new.sender c.loop-index.index
       c.loop-index.invariant.0 (omega (arith, c.loop-index-test.true, c.indices-index-end.ensures.value)) c.restore_at.ensures.rest
       c.restore_at.ensures.waits c.restore_at.ensures.left,
@@ -38,7 +41,8 @@ pub returns-clause-each : goal.returns-clause-each
 returns-clause-each g c = c.loop-index.invariant.0.each
 
 pub returns-clause-waits : goal.returns-clause-waits
-returns-clause-waits g c = all_filled g.T.Words.of_parts g.U.Words.of_parts c.args.lanes.now c.args.from c.args.indices.now c.args.first
+returns-clause-waits g c = all_filled g.T.Words.of_parts (middle_of c.args.numbered g.U.Words.of_parts) c.args.lanes.now c.args.from
+    c.args.indices.now c.args.first
     c.args.sender.now c.loop-index.sender c.loop-index.index c.loop-index.invariant.0
     (omega (arith, c.loop-index-test.false, c.loop-index.auto.index-end, c.indices-index-end.ensures.value))
 

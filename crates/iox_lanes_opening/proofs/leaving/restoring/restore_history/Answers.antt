@@ -1,6 +1,7 @@
 use Rattle.std.proofs.Common.{arith, get_or, refl, ap, ◌∙◌}
 use Rattle.std.proofs.lemmas.List.{take_all}
 use Rattle.iox_lanes_opening.specs.Restoring.{messages_in}
+use Rattle.iox_lanes_opening.specs.Middles.{middle_of}
 use Rattle.iox_lanes_opening.proofs.Remembering.{one_remembered, quiet_yet}
 use Rattle.iox_lanes_opening.proofs.leaving.restoring.restore_history.Goals as goal
 
@@ -17,7 +18,8 @@ remember_own-requires g c = record {
 
 pub loop-at-preserved : goal.loop-at-preserved
 loop-at-preserved g c = (
-  one_remembered g.T.Words.of_parts g.U.Words.of_parts c.args.table.now c.args.history.now c.args.first c.args.sender.now
+  one_remembered g.T.Words.of_parts (middle_of c.args.numbered g.U.Words.of_parts) c.args.table.now c.args.history.now c.args.first
+      c.args.sender.now
       c.loop-at.sender c.remember_own.new.sender c.loop-at.at (get_or c.args.history.now c.loop-at.at 0)
       c.loop-at.invariant.0 c.loop-at-test.true refl c.remember_own.ensures.remembered c.remember_own.ensures.rest
       c.remember_own.ensures.left,
@@ -26,5 +28,5 @@ loop-at-preserved g c = (
 
 pub returns-clause-remembers : goal.returns-clause-remembers
 returns-clause-remembers g c = λ may. c.loop-at.invariant.0.remembers may
-    ∙ ap (messages_in g.T.Words.of_parts g.U.Words.of_parts c.args.table.now c.args.first)
+    ∙ ap (messages_in g.T.Words.of_parts (middle_of c.args.numbered g.U.Words.of_parts) c.args.table.now c.args.first)
     (take_all c.loop-at.at c.args.history.now (omega (arith, c.loop-at-test.false)))

@@ -30,6 +30,7 @@ loop-step-preserved c =
       omega (arith, c.loop-step.invariant.1),
       c.step-stepped.ensures.orderly,
       c.step-stepped.ensures.recorded,
+      c.step-stepped.ensures.counted,
     )
 
 pub returns-clause-runs : goal.returns-clause-runs

@@ -33,3 +33,9 @@ returns-clause-tells c = subst (λ (m : ContainerParts). MemberTellsStep m c.arg
 pub returns-clause-copies : goal.returns-clause-copies
 returns-clause-copies c = subst (λ (m : ContainerParts). MindsCopies m c.args.step c.step.result (parts_of c.step.new.self)) c.self.view_is
     (member_steps_mind (parts_of c.self.inside.state) c.args.step c.step.result (parts_of c.step.new.self) c.step.ensures)
+
+pub returns-clause-counted : goal.returns-clause-counted
+returns-clause-counted c =
+    let kept : MembersAreKept (parts_of c.step.new.self)
+    = member_steps_keep (parts_of c.self.inside.state) c.args.step c.step.result (parts_of c.step.new.self) c.step.ensures
+    c.self.invariant in kept.counted

@@ -4,6 +4,8 @@ use Rattle.iox_robust_steps.specs.Kept.{IsKept}
 use Rattle.iox_robust_steps.specs.OfCalls.{TellsStep}
 use Rattle.iox_robust_steps.specs.State.{machine_of}
 use Rattle.iox_robust_steps.proofs.OfCalls.{steps_tell}
+use Rattle.iox_robust_steps.specs.Recovering.{FreesOnlyItsOwn}
+use Rattle.iox_robust_steps.proofs.Recovering.{steps_free}
 use Rattle.iox_robust_steps.proofs.Runs.{orderly, steps_go, steps_keep}
 use Rattle.iox_robust_steps.proofs.machine.RobustSetMachine.step.Goals as goal
 
@@ -51,3 +53,7 @@ returns-clause-counted c =
 pub returns-clause-tells : goal.returns-clause-tells
 returns-clause-tells c = subst (λ (m : RobustSetState). TellsStep m c.args.step c.step.result (machine_of c.step.new.self)) c.self.view_is
     (steps_tell (machine_of c.self.inside.state) c.args.step c.step.result (machine_of c.step.new.self) c.step.ensures)
+
+pub returns-clause-recovers : goal.returns-clause-recovers
+returns-clause-recovers c = subst (λ (m : RobustSetState). FreesOnlyItsOwn m c.args.step (machine_of c.step.new.self)) c.self.view_is
+    (steps_free (machine_of c.self.inside.state) c.args.step c.step.result (machine_of c.step.new.self) c.step.ensures c.self.invariant)

@@ -19,10 +19,12 @@ invariant_of-self g c =
       values = c.copy.new.self;
       written = c.fill.new.self;
       headers
-          = set c.self.inside.headers.items c.args.slot (record { elements = c.args.elements; user_header = c.args.user_header });
+          = set c.self.inside.headers.items c.args.slot
+          (record { elements = c.args.elements; user_header = c.args.user_header; sequence = c.args.sequence });
       blank = c.self.inside.blank;
-    }) c.self.inside.uses c.args.slot (record { elements = c.args.elements; user_header = c.args.user_header }) c.args.values.now
-    (replicate (length c.args.values.now) true)
+    }) c.self.inside.uses c.args.slot
+    (record { elements = c.args.elements; user_header = c.args.user_header; sequence = c.args.sequence })
+    c.args.values.now (replicate (length c.args.values.now) true)
     c.begin_again.new.self c.args.self.now c.self.view_is c.self.invariant below
     (none_sends (record {
       values = c.self.inside.values;
@@ -55,10 +57,12 @@ returns g c =
       values = c.copy.new.self;
       written = c.fill.new.self;
       headers
-          = set c.self.inside.headers.items c.args.slot (record { elements = c.args.elements; user_header = c.args.user_header });
+          = set c.self.inside.headers.items c.args.slot
+          (record { elements = c.args.elements; user_header = c.args.user_header; sequence = c.args.sequence });
       blank = c.self.inside.blank;
-    }) c.self.inside.uses c.args.slot (record { elements = c.args.elements; user_header = c.args.user_header }) c.args.values.now
-    (replicate (length c.args.values.now) true)
+    }) c.self.inside.uses c.args.slot
+    (record { elements = c.args.elements; user_header = c.args.user_header; sequence = c.args.sequence })
+    c.args.values.now (replicate (length c.args.values.now) true)
     c.begin_again.new.self c.args.self.now c.self.view_is c.self.invariant below
     (none_sends (record {
       values = c.self.inside.values;

@@ -35,7 +35,7 @@ invariant_of-self-2 g c
       written = c.fill.new.self;
       headers
           = set c.self.inside.headers.items c.in_ok-slot.slot
-          (record { elements = c.args.elements; user_header = c.self.inside.blank.user_header });
+          (record { elements = c.args.elements; user_header = c.self.inside.blank.user_header; sequence = None });
       blank = c.self.inside.blank;
     }) c.self.inside.uses c.loan.new.self c.in_ok-slot.slot c.args.values c.args.elements c.self.invariant c.in_ok-slot.ensures.step
     (record {
@@ -61,7 +61,7 @@ returns-clause-step g c
       written = c.fill.new.self;
       headers
           = set c.self.inside.headers.items c.in_ok-slot.slot
-          (record { elements = c.args.elements; user_header = c.self.inside.blank.user_header });
+          (record { elements = c.args.elements; user_header = c.self.inside.blank.user_header; sequence = None });
       blank = c.self.inside.blank;
     }) c.self.inside.uses c.loan.new.self c.args.self.now c.in_ok-slot.slot c.args.values c.args.elements c.self.view_is c.self.invariant
     c.in_ok-slot.ensures.step

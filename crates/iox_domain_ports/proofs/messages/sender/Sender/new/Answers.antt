@@ -1,11 +1,12 @@
-use Rattle.std.proofs.Common.{rules, ◌≡◌, length, ap}
+use Rattle.std.proofs.Common.{rules, ◌≡◌, length, None, ap}
 use Rattle.iox_domain_ports.proofs.Seen.{fresh, first_segment}
 use Rattle.iox_domain_ports.proofs.messages.sender.Sender.new.Goals as goal
 
 pub invariant_of-result : goal.invariant_of-result
 invariant_of-result g c =
     let headers : length c.in_ok-headers.headers.items ≡ c.args.config.slots = search (rules, c.in_ok-headers.ensures.len) in
-    fresh c.push.new.self c.push-2.new.self c.in_ok-headers.headers.items (record { elements = 0; user_header = c.args.user_header })
+    fresh c.push.new.self c.push-2.new.self c.in_ok-headers.headers.items
+    (record { elements = 0; user_header = c.args.user_header; sequence = None })
     c.in_ok-uses.uses c.args.config.slots c.args.config.most_segments c.args.config.room
     (ap (λ u. u.first) c.in_ok-uses.ensures) (ap (λ u. u.size) c.in_ok-uses.ensures) (ap (λ u. u.sending) c.in_ok-uses.ensures)
     (ap (λ u. u.loans) c.in_ok-uses.ensures)

@@ -55,7 +55,11 @@ returns g c =
               written = c.self.inside.written;
               headers
                   = set c.self.inside.headers.items c.args.slot
-                  (record { elements = c.index_mut-header.result.now.elements; user_header = user_header });
+                  (record {
+                    elements = c.index_mut-header.result.now.elements;
+                    user_header = user_header;
+                    sequence = c.index_mut-header.result.now.sequence;
+                  });
               blank = c.self.inside.blank;
             }) c.self.inside.uses c.args.self.now c.args.slot (write_user_header user_header) c.self.view_is c.self.invariant
             (loan_lent (record {
@@ -76,9 +80,17 @@ returns g c =
               written = c.self.inside.written;
               headers
                   = set c.self.inside.headers.items c.args.slot
-                  (record { elements = c.index_mut-header.result.now.elements; user_header = user_header });
+                  (record {
+                    elements = c.index_mut-header.result.now.elements;
+                    user_header = user_header;
+                    sequence = c.index_mut-header.result.now.sequence;
+                  });
               blank = c.self.inside.blank;
-            }) c.args.slot (record { elements = c.index_mut-header.result.now.elements; user_header = user_header }) user_header below
+            }) c.args.slot (record {
+              elements = c.index_mut-header.result.now.elements;
+              user_header = user_header;
+              sequence = c.index_mut-header.result.now.sequence;
+            }) user_header below
             (same_with c.index_mut-header.result.now (get_or c.self.inside.headers.items c.args.slot c.self.inside.blank) user_header old)
             refl refl refl refl),
       ),

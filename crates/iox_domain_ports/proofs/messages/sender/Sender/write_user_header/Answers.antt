@@ -50,7 +50,11 @@ returns g c =
       written = c.self.inside.written;
       headers
           = set c.self.inside.headers.items c.args.slot
-          (record { elements = c.index_mut.result.now.elements; user_header = c.args.user_header });
+          (record {
+            elements = c.index_mut.result.now.elements;
+            user_header = c.args.user_header;
+            sequence = c.index_mut.result.now.sequence;
+          });
       blank = c.self.inside.blank;
     }) c.self.inside.uses c.args.self.now c.args.slot (write_user_header c.args.user_header) c.self.view_is c.self.invariant
     (loan_lent (record {
@@ -71,8 +75,16 @@ returns g c =
       written = c.self.inside.written;
       headers
           = set c.self.inside.headers.items c.args.slot
-          (record { elements = c.index_mut.result.now.elements; user_header = c.args.user_header });
+          (record {
+            elements = c.index_mut.result.now.elements;
+            user_header = c.args.user_header;
+            sequence = c.index_mut.result.now.sequence;
+          });
       blank = c.self.inside.blank;
-    }) c.args.slot (record { elements = c.index_mut.result.now.elements; user_header = c.args.user_header }) c.args.user_header below
+    }) c.args.slot (record {
+      elements = c.index_mut.result.now.elements;
+      user_header = c.args.user_header;
+      sequence = c.index_mut.result.now.sequence;
+    }) c.args.user_header below
     (same_with c.index_mut.result.now (get_or c.self.inside.headers.items c.args.slot c.self.inside.blank) c.args.user_header old) refl
     refl refl refl)

@@ -7,7 +7,7 @@ use Rattle.iox_queues.specs.State.{machine_of}
 use Rattle.iox_queues.specs.Asked.{TellsStep}
 use Rattle.iox_queues.proofs.Runs.{steps_keep, steps_length}
 use Rattle.iox_queues.proofs.Moments.{have_moments}
-use Rattle.iox_queues.proofs.Telling.{steps_tell}
+use Rattle.iox_queues.proofs.Telling.{all_told, steps_tell}
 use Rattle.iox_queues.proofs.bits.machine.SetMachine.step.Goals as goal
 
 pub step-requires-clause-cells : goal.step-requires-clause-cells
@@ -34,7 +34,7 @@ pub returns-clause-told : goal.returns-clause-told
 returns-clause-told c =
     let kept : IsKept (machine_of c.step.new.self)
     = steps_keep (machine_of c.self.inside.state) c.args.step c.step.result (machine_of c.step.new.self) c.step.ensures.steps
-    c.self.invariant.0 in kept.told
+    c.self.invariant.0 in all_told (machine_of c.step.new.self) kept
 
 pub returns-clause-recorded : goal.returns-clause-recorded
 returns-clause-recorded c =
