@@ -16,7 +16,7 @@ from bisect import bisect_left
 from collections import Counter
 from pathlib import Path
 
-from cases.kit import LONG, TOP, Differs, NotHere, case, case_of_program, expect
+from cases.kit import LONG, TOP, Differs, NotHere, case, case_of_program, expect, expect_in
 from tool.sources import Wanted
 
 sys.path.insert(0, str(TOP / "model"))
@@ -24,7 +24,7 @@ from script_lines import PATTERNS, Faulty, read_command
 from script_model import Machine, lines_of, replies
 
 # In bytes: so much stack is enough for the program, as docs/ERRORS.md says, and so much isn't.
-ENOUGH, TOO_LITTLE = 256 << 10, 128 << 10
+ENOUGH, TOO_LITTLE = 256 << 10, 160 << 10
 # Tests that make what takes memory, by the beginnings of their names, in the crates that they are of. None of them has a thread. After so
 # many requests they make again what they made.
 MOST = 400
@@ -48,6 +48,11 @@ create n1 ps A nodes=16777216
 create n1 ev A nodes=16777216
 create n1 rr A nodes=16777216
 create n1 ps A overflow=0 buffer=1 history=2
+open_or_create n1 ps A nodes=16777216
+open_or_create n1 ev A nodes=16777216
+open_or_create n1 rr A nodes=16777216
+open_or_create n1 ps A overflow=0 buffer=1 history=2
+open_or_create n1 ps A nodes=16777216 |2 lock:x1 publish:x1
 loan p1 1
 loan_uninit p1 1
 put p1 1
@@ -58,6 +63,8 @@ subscriber f1
 put p1 1
 create n1 ps B nodes=16777216 @a=b
 create n1 ps B overflow=0 buffer=1 history=2
+open_or_create n1 ps B nodes=16777216 @a=b
+open_or_create n1 ps B overflow=0 buffer=1 history=2
 loan p2 1
 loan_uninit p2 1
 receive s2
@@ -290,7 +297,7 @@ def what_is_told_without_memory_comes_before_want_of_it():
     with tempfile.TemporaryDirectory(prefix="iox-check-") as folder:
         met = {(at, what) for at, _, what in outcomes(program, refuser_in(folder), NEEDING_NONE)}
     told = [at for at, it in enumerate(replies(NEEDING_NONE)) if it == "skip" or it.startswith("err")]
-    expect((len(told), [at for at in told if (at, "refused") in met]), (15, []))
+    expect((len(told), [at for at in told if (at, "refused") in met]), (22, []))
     # One line further it is found wanting.
     expect((NEEDING_NONE.splitlines().index(b"create n1 ps A"), "refused") in met, True)
 
@@ -334,6 +341,7 @@ def limited(program, script, what, limit):
 @case_of_program
 def the_stack_is_there_before_the_first_line_or_never():
     program, stored = Wanted().proved, TOP / "crates" / "iox"
+    expect_in(f"`ulimit -s {ENOUGH >> 10}` or more", (TOP / "docs" / "ERRORS.md").read_text(encoding="utf-8"))
     if not program.exists():
         raise NotHere("an unproved program needs more stack")
     ran = limited(program, (stored / "stdin").read_bytes(), resource.RLIMIT_STACK, ENOUGH)

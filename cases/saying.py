@@ -164,7 +164,11 @@ def each_error_has_the_meaning_of_its_own_row():
     for error, meaning in (
         ("PublishSubscribeCreateError::InternalFailure", "a setting is beyond the limits (then no access is made)"),
         ("EventOpenError::DoesNotSupportRequestedAmountOfNodes", "the service has room for fewer nodes than asked: ask for fewer"),
-        ("EventOpenOrCreateError::EventOpenError(IncompatibleDeadline)", "the service has another deadline: ask for less"),
+        ("EventOpenOrCreateError::EventOpenError(IncompatibleDeadline)", "the service has another deadline: ask for the same"),
+        (
+            "PublishSubscribeOpenError::IncompatibleSequenceNumbers",
+            "the service has another sequence_numbers (option sequence): ask for the same",
+        ),
         ("SendError::LoanError(OutOfMemory)", "each slot is in use, or a longer slice finds no segment"),
         ("ReceiveError::ExceedsMaxBorrows", "a message waits, and of each connection with one as many samples are held as may be"),
     ):

@@ -145,7 +145,16 @@ OWN_MEANINGS = {
     ("rr", "buffer"): "as many responses may wait",
     ("rr", "borrowed"): "as many responses may be held",
 }
-STEP_VERBS = ("lock", "giveup", "publish", "publish1", "register", "leave", "remove")
+STEP_MEANINGS = {
+    "lock": "locks the name",
+    "giveup": "gives the lock back",
+    "publish": "publishes a service; options of it, as buffer=3, stand behind a second colon",
+    "publish1": "the same in version 1, which has no switch for numbers",
+    "register": "comes in",
+    "leave": "leaves",
+    "remove": "removes what it was the last to leave",
+}
+STEP_VERBS = tuple(STEP_MEANINGS)
 # Those behind whose node options may stand.
 PUBLISHING = ("publish", "publish1")
 PORT_DEFAULTS = {"loans": "2", "strategy": "retry", "alloc": "static", "handler": "follow", "degrade": "warn"}
@@ -198,6 +207,8 @@ def help_on_verb(verb: Verb) -> str:
     told += [f"  {it.shown}: {it.words}, as {it.example}" for it in verb.operands]
     if verb.details:
         told.append(f"  {verb.details}")
+    if Kind.STEPS in verb.operands:
+        told += [f"    {f'{name}:x1':<16} {meaning}" for name, meaning in STEP_MEANINGS.items()]
     if verb.name in PORT_OPTIONS:
         for key, kind in PORT_OPTIONS[verb.name].items():
             default = f"; if not named {PORT_DEFAULTS[key]}" if key in PORT_DEFAULTS else ""

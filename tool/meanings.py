@@ -22,7 +22,8 @@ def meanings() -> list[Meaning]:
         if line.startswith("#"):
             heading = line.lstrip("# ")
         elif line.startswith("| ") and len(cells) == 3 and heading == "Opening: what was asked for and isn't met":
-            found.append(Meaning(heading, cells[1], f"the service has {cells[2]}", "ask for less, or open another service"))
+            wanted = "the same" if cells[2].startswith("another") else "less"
+            found.append(Meaning(heading, cells[1], f"the service has {cells[2]}", f"ask for {wanted}, or open another service"))
         elif line.startswith("| ") and len(cells) == 3:
             found.append(Meaning(heading, *cells))
     return found

@@ -39,8 +39,10 @@ enum Call {
     GivesUp(u64, usize),
     // A value and its number are received, or none, and released.
     Receives(Option<(u64, Option<u64>)>),
-    // A subscriber comes, receives this of the history, and leaves.
+    // A subscriber comes, is followed, receives this of the history, and leaves.
     Comes(u64, Option<u64>),
+    // The same where all numbers are used up: a copy is refused first, and brings it nothing of the history.
+    ComesTooLate(u64, u64),
 }
 
 // A service whose history has one message.
@@ -254,16 +256,32 @@ fn leaves(domain: &mut Domain<u64, ()>, subscriber: Subscriber<u64, ()>) -> bool
     }
 }
 
-// Which value and number a subscriber receives that comes, is followed, and leaves.
+// Whether a copy is refused since all numbers are used up, and a subscriber receives nothing by it.
+fn brings_nothing(
+    rt: &impl Abort,
+    alloc: Global,
+    domain: &mut Domain<u64, ()>,
+    publisher: &Publisher<u64, ()>,
+    subscriber: &Subscriber<u64, ()>,
+) -> bool {
+    let sent = copy(rt, alloc, domain, publisher, 0);
+    let refused = came_to(domain, sent, Err(SendError::InternalError));
+    refused && receives(rt, alloc, domain, subscriber).is_none()
+}
+
+// Which value and number a subscriber receives that comes, is followed, and leaves. Where all numbers are used up, a copy must bring
+// it nothing before.
 fn comes(
     rt: &impl Abort,
     alloc: Global,
     domain: &mut Domain<u64, ()>,
     publisher: &Publisher<u64, ()>,
+    used_up: bool,
 ) -> Option<(u64, Option<u64>)> {
     let Ok(subscriber) = subscribe(alloc, domain) else {
         return None;
     };
+    assert!(rt; !used_up || brings_nothing(rt, alloc, domain, publisher, &subscriber));
     assert!(rt; publisher.holds(domain));
     assert!(rt; !publisher.is_blocked(domain));
     assert!(rt; publisher.update_connections(alloc, domain) == Ok(()));
@@ -299,7 +317,12 @@ fn goes(
             gives_up(rt, domain, sent) == Some(delivered)
         }
         Call::Receives(came) => receives(rt, alloc, domain, subscriber) == came,
-        Call::Comes(value, number) => comes(rt, alloc, domain, publisher) == Some((value, number)),
+        Call::Comes(value, number) => {
+            comes(rt, alloc, domain, publisher, false) == Some((value, number))
+        }
+        Call::ComesTooLate(value, number) => {
+            comes(rt, alloc, domain, publisher, true) == Some((value, Some(number)))
+        }
     }
 }
 
@@ -426,7 +449,8 @@ const FROM_SEVEN: Case = Case {
     ],
 };
 
-// Behind the last number nothing is sent, and the loan ends: the publisher has one loan, and lends it again.
+// Behind the last number nothing is sent, and the loan ends: the publisher has one loan, and lends it again. No subscriber is followed
+// by such a send.
 const TO_THE_END: Case = Case {
     numbered: true,
     overflows: true,
@@ -445,6 +469,7 @@ const TO_THE_END: Case = Case {
         Call::Receives(None),
         Call::Comes(8, Some(u64::MAX)),
         Call::Sends(11, Err(SendError::InternalError)),
+        Call::ComesTooLate(8, u64::MAX),
     ],
 };
 
@@ -457,6 +482,7 @@ const AT_THE_END: Case = Case {
         Call::Copies(7, Ok(1)),
         Call::Copies(8, Err(SendError::InternalError)),
         Call::Receives(Some((7, Some(u64::MAX)))),
+        Call::ComesTooLate(7, u64::MAX),
     ],
 };
 

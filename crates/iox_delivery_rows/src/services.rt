@@ -28,7 +28,7 @@ pub(crate) fn wanted(holds: bool, what: &'static str) -> Result<(), Fail> {
     if holds { Ok(()) } else { Err(Fail::from(what)) }
 }
 
-// What is asked of a service of payload `P`: mailboxes of three messages.
+// What is asked of a service of payload `P`: mailboxes of three messages, and numbers.
 fn asked<P: Payload>(
     rt: &impl Abort,
     hub: &Messages,
@@ -40,7 +40,8 @@ fn asked<P: Payload>(
         hub.service_builder(node, ServiceName::new(name)?)
             .publish_subscribe::<P>()
             .user_header::<u8>()
-            .subscriber_max_buffer_size(3),
+            .subscriber_max_buffer_size(3)
+            .sequence_numbers(true),
     )
 }
 

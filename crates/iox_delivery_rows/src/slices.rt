@@ -52,7 +52,7 @@ fn kept_once(alloc: Global) -> Result<PreallocatedSamplesOverride, PublisherCrea
     }
 }
 
-// What makes publishers of slices of so many values at first, with so many slots as it is decided once.
+// What makes publishers of slices of so many values at first, with so many slots as it is decided once. Their first message has number 41.
 fn overridden(
     alloc: Global,
     builder: PortFactoryPublisher<u64, u8>,
@@ -62,7 +62,8 @@ fn overridden(
         Ok(overriding) => Ok(
             builder
                 .override_sample_preallocation(overriding)
-                .initial_max_slice_len(len),
+                .initial_max_slice_len(len)
+                .first_sequence(41),
         ),
         Err(error) => Err(error),
     }
@@ -222,29 +223,30 @@ fn sends(
     }
 }
 
-// How many values came, and the last one of them; they are released again.
+// How many values came, the last one of them, and their number; they are released again.
 fn taken(
     rt: &impl Abort,
     received: Result<Option<Sample<u64, u8>>, ReceiveError>,
     hub: &mut Messages,
-) -> Option<(usize, Option<u64>)> {
+) -> Option<(usize, Option<u64>, Option<u64>)> {
     let Ok(Some(sample)) = received else {
         return None;
     };
     assert!(rt; sample.holds(hub));
     let values = sample.payload(hub);
-    let came = (values.len(), values.last().copied());
+    let number = sample.header(hub).sequence();
+    let came = (values.len(), values.last().copied(), number);
     sample.release(hub);
     Some(came)
 }
 
-// How many values come next, and the last one of them.
+// How many values come next, the last one of them, and their number.
 fn receives(
     rt: &impl Abort,
     alloc: Global,
     hub: &mut Messages,
     subscriber: &Subscriber<u64, u8>,
-) -> Option<(usize, Option<u64>)> {
+) -> Option<(usize, Option<u64>, Option<u64>)> {
     assert!(rt; subscriber.holds(hub));
     let received = subscriber.receive(alloc, hub);
     taken(rt, received, hub)
@@ -271,7 +273,7 @@ fn last(len: usize, value: usize) -> Option<u64> {
     if len == 0 { None } else { Some(value as u64) }
 }
 
-// They must be received.
+// They must be received, with the numbers from the first one on.
 fn are_received(
     rt: &impl Abort,
     alloc: Global,
@@ -279,9 +281,10 @@ fn are_received(
     subscriber: &Subscriber<u64, u8>,
     len: usize,
 ) {
-    for value in [0, len.saturating_sub(1), 7] {
+    for (number, value) in [(41, 0), (42, len.saturating_sub(1)), (43, 7)] {
         let came = receives(rt, alloc, hub, subscriber);
-        assert!(rt; came == Some((len, last(len, value))), "{len}, {value}");
+        let wanted = Some((len, last(len, value), Some(number)));
+        assert!(rt; came == wanted, "{len}, {number}");
     }
 }
 

@@ -1,4 +1,4 @@
-//! Why a line was not read.
+//! Why a line was not read, or not written in version 1.
 ghost use Rattle.std.specs.Prelude.{◌≡◌};
 ghost use Rattle.iox_describe.specs.declared.error.DescriptionError.TheVariants.{OutOfMemory};
 
@@ -6,7 +6,7 @@ use iox_describe_base::AttributeError;
 use serde_json::Error;
 use std::alloc::AllocError;
 
-/// Why bytes are not read as a description.
+/// Why bytes are not read as a description, or a description not written in version 1.
 #[derive(Clone, Copy, Debug, PartialEq, Eq, thiserror::Error)]
 pub enum DescriptionError {
     /// The bytes are not the one spelling of any description within the limits.

@@ -1,10 +1,10 @@
-//! The description of a service as one line of exact JSON, and all that a description speaks of.
+//! The description of a service as one line of exact JSON, of version 2 or 1, and all that a description speaks of.
 //!
 //! | Module | What it has |
 //! |---|---|
-//! | `writer` | a description as its one line |
-//! | `reader` | the description of a line, if the line is spelled as `encode` spells it |
-//! | `error` | why a line was not read |
+//! | `writer` | a description as its one line of a version |
+//! | `reader` | the description of a line, if the line is spelled as `encode` or `encode_v1` spells it |
+//! | `error` | why a line was not read, or not written in version 1 |
 //! | `json_values` | looking into a JSON value by key |
 //!
 //! Names, types and attributes are in `iox_describe_base`, settings and the description in `iox_describe_settings`,

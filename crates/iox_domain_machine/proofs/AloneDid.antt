@@ -5,7 +5,7 @@ use Rattle.iox_command.specs.declared.reply.Reply.{Reply}
 use Rattle.iox_command.specs.declared.reply.Reply.TheVariants as reply
 use Rattle.iox_domain_machine.specs.Laws.{with_alone}
 use Rattle.iox_domain_machine.proofs.Found.{same_some, never_some}
-use Rattle.iox_machine.specs.Replies.{IsSkipped}
+use Rattle.iox_machine.proofs.Shorthands.{IsSkipped}
 use Rattle.iox_machine.specs.Service.{Service}
 use Rattle.iox_machine.specs.State.{State, AtOne, counted, replaced}
 

@@ -72,7 +72,7 @@ use Rattle.iox_machine.specs.Arriving.{SubscriberArrives}
 use Rattle.iox_machine.specs.Arriving as machine
 use Rattle.iox_machine.specs.PortList.{PortList, those}
 use Rattle.iox_machine.specs.Service.{Service, Subscriber, connect, with_mailbox}
-use Rattle.iox_machine.specs.Service as service_of
+use Rattle.iox_machine.proofs.Shorthands as shorthands
 use Rattle.iox_machine.specs.State.{State, Factory, is_service_of}
 use Rattle.iox_machine.specs.SubscriberUpdate.{Follows}
 use Rattle.iox_machine.specs.Table.{at}
@@ -398,7 +398,7 @@ module _ {T U : Type 0} (types : MessageTypeDetails) (choices : Choices T) (buff
               (with_both old.next_port after ports_after there_ports) mid
               → Result_of (Ok so) (with_both old.next_port after ports_after there_ports)
           by reader later mid (refused, refused_all, connected, is_connected, is_later, is_mid) stands_then =
-              let with_later : Service T = service_of.with_subscriber name later there_service in
+              let with_later : Service T = shorthands.with_subscriber name later there_service in
               let before : Service T = record mid { subscriber_list = service.subscriber_list } in
               let list_is : mid.subscriber_list ≡ registered place name service.subscriber_list =
               ap (λ (s : Service T). s.subscriber_list) (is_mid ∙ only_boxes one.buffer_size name (those connected) with_later) in

@@ -74,14 +74,14 @@ use Rattle.iox_domain_machine.proofs.FollowMachine.{all_welcomed}
 use Rattle.iox_domain_machine.proofs.FollowStands.{follows_stands, publisher_after, service_after}
 use Rattle.iox_domain_machine.proofs.Found.{same_some, never_some, never_true, mapped_none, same_everywhere}
 use Rattle.iox_domain_machine.proofs.TableEnds.{at_end, changed_end}
-use Rattle.iox_machine.proofs.Shorthands.{registered}
 use Rattle.iox_machine.specs.Choices.{Choices}
 use Rattle.iox_machine.specs.Arriving.{PublisherArrives}
 use Rattle.iox_machine.specs.Arriving as machine
 use Rattle.iox_machine.specs.Mailbox.{Mailbox}
 use Rattle.iox_machine.specs.PortList.{PortList, those, unless}
 use Rattle.iox_machine.specs.PublisherUpdate.{Follows, ended, welcome}
-use Rattle.iox_machine.specs.Service.{Publisher, Service, with_publisher}
+use Rattle.iox_machine.specs.Service.{Publisher, Service}
+use Rattle.iox_machine.proofs.Shorthands.{with_publisher, registered}
 use Rattle.iox_machine.specs.State.{State, Factory, is_service_of}
 use Rattle.iox_machine.specs.Table.{at, contains}
 

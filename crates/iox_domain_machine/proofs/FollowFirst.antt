@@ -26,7 +26,7 @@ use Rattle.iox_domain_machine.proofs.FollowPort.{HasFollowed}
 use Rattle.iox_domain_machine.proofs.FollowStands.{its_update, publisher_after, service_after}
 use Rattle.iox_machine.specs.Choices.{Choices}
 use Rattle.iox_machine.specs.PublisherUpdate.{Follows, UpdatesFirst, UpdateAnswers}
-use Rattle.iox_machine.specs.Replies.{IsRefused}
+use Rattle.iox_machine.proofs.Shorthands.{IsRefused}
 use Rattle.iox_machine.specs.Service.{Publisher, Service}
 
 module _ {T U : Type 0} (names : Naming) (lent : List (ℕ × LentSlot)) (held : List (ℕ × Taken)) (buffer : ℕ) (old : ServicePorts T U)

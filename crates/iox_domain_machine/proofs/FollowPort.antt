@@ -41,7 +41,8 @@ use Rattle.iox_domain_machine.proofs.Settling.{both, isn't}
 use Rattle.iox_machine.specs.Mailbox.{Mailbox}
 use Rattle.iox_machine.specs.PortList.{those, unless}
 use Rattle.iox_machine.specs.PublisherUpdate.{Follows, UpdateAnswers, ended}
-use Rattle.iox_machine.specs.Service.{Publisher, Service, with_publisher}
+use Rattle.iox_machine.specs.Service.{Publisher, Service}
+use Rattle.iox_machine.proofs.Shorthands.{with_publisher}
 use Rattle.iox_machine.specs.Table.{at, contains}
 
 module _ {T U : Type 0} (name subscriber_name reader : ℕ → ℕ) (next most_subscribers most : ℕ) (roll : RollState SubscriberEntry)

@@ -39,7 +39,7 @@ use Rattle.iox_domain_machine.proofs.Kept.{loans_kept}
 use Rattle.iox_domain_machine.proofs.LeaveSamples.{samples_alike}
 use Rattle.iox_domain_machine.proofs.ReleasePort.{differ}
 use Rattle.iox_machine.specs.Service.{Publisher, Service, Subscriber}
-use Rattle.iox_machine.specs.Service as machine
+use Rattle.iox_machine.proofs.Shorthands as shorthands
 use Rattle.iox_machine.specs.Table.{at}
 
 -- none of a list passes a test of which a filter keeps none
@@ -118,7 +118,7 @@ module _ {T U : Type 0} (names : Naming) (lent : List (ℕ × LentSlot)) (held :
       publisher_after = record was.0 { seen = service.subscriber_list.changes; connected = followed.connected }
 
       abbrev pub service_after : Service T
-      service_after = record (machine.with_publisher its_name publisher_after service) { mailboxes = followed.new_mailboxes }
+      service_after = record (shorthands.with_publisher its_name publisher_after service) { mailboxes = followed.new_mailboxes }
 
       abbrev new : ServicePorts T U
       new = with_one number after old

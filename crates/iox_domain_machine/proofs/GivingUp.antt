@@ -33,9 +33,9 @@ use Rattle.iox_domain_machine.proofs.Named.{named_less, lent_in_use}
 use Rattle.iox_machine.specs.Choices.{Choices}
 use Rattle.iox_machine.specs.Mailbox.{Mailbox}
 use Rattle.iox_machine.specs.Ports.{publisher_in}
-use Rattle.iox_machine.specs.Replies.{IsSkipped}
+use Rattle.iox_machine.proofs.Shorthands.{IsSkipped}
 use Rattle.iox_machine.specs.Service.{Service, Publisher, Send, Subscriber}
-use Rattle.iox_machine.specs.Service as machine
+use Rattle.iox_machine.proofs.Shorthands as shorthands
 use Rattle.iox_machine.specs.State.{State}
 use Rattle.iox_machine.specs.Table.{at, changed}
 
@@ -128,7 +128,8 @@ module _ {T U : Type 0} (types : MessageTypeDetails) (choices : Choices T) (buff
 
   abbrev Gives : Publisher T → Service T → Reply T → Service T → Type 0
   Gives one service answered after = MatchOption one.blocked (IsSkipped service answered after)
-      (λ send. (answered ≡ reply.Delivered send.delivered) × (after ≡ machine.with_publisher name (record one { blocked = None }) service))
+      (λ send. (answered ≡ reply.Delivered send.delivered)
+      × (after ≡ shorthands.with_publisher name (record one { blocked = None }) service))
 
   abbrev Result : Option ℕ → ServicePorts T U → Type 0
   Result answer new = Matches T U choices types buffer (command.GiveUp name) (gave_up_or_skipped answer) state service names lent held new
@@ -172,7 +173,7 @@ module _ {T U : Type 0} (types : MessageTypeDetails) (choices : Choices T) (buff
       (names.message number) was.0.connected port.progress sending was.0.blocked) waits was.2.blocked in
       let after : PublisherPort T U = concluded true port in
       let publisher : Publisher T = record was.0 { blocked = None } in
-      let new : Service T = machine.with_publisher name publisher service in
+      let new : Service T = shorthands.with_publisher name publisher service in
       let there_now = same_set (at_number number) old.publishers after port there in (
         new,
         alone_does (publisher_in name) Gives state service new (reply.Delivered port.progress.delivered) was.0

@@ -29,7 +29,7 @@ use Rattle.iox_domain_machine.proofs.ReleaseSettling.{subscriber_settled}
 use Rattle.iox_machine.specs.Mailbox.{Mailbox}
 use Rattle.iox_machine.proofs.Shorthands as shorthands
 use Rattle.iox_machine.specs.Service.{Service, Subscriber}
-use Rattle.iox_machine.specs.Service as machine
+use Rattle.iox_machine.proofs.Shorthands as shorthands
 use Rattle.iox_machine.specs.Table.{at, changed}
 
 module _ {T U : Type 0} (name reader subscriber_name : ℕ → ℕ) (port : PublisherPort T U) (mailboxes : ℕ → Option (Mailbox T))
@@ -116,7 +116,7 @@ module _ {T U : Type 0} (names : Naming) (lent : List (ℕ × LentSlot)) (held :
   left_subscriber = record it.0 { stands = false }
 
   abbrev pub service_after : Service T
-  service_after = machine.with_subscriber name left_subscriber
+  service_after = shorthands.with_subscriber name left_subscriber
       (record service { subscriber_list = shorthands.left name service.subscriber_list })
 
   now_left : subscriber_of number new.subscribers ≡ Some left_port

@@ -43,9 +43,9 @@ use Rattle.iox_machine.specs.Choices.{Choices}
 use Rattle.iox_machine.proofs.Shorthands as shorthands
 use Rattle.iox_machine.specs.PortList.{unless}
 use Rattle.iox_machine.specs.Ports.{publisher_in}
-use Rattle.iox_machine.specs.Replies.{IsSkipped}
+use Rattle.iox_machine.proofs.Shorthands.{IsSkipped}
 use Rattle.iox_machine.specs.Service.{Service, Publisher}
-use Rattle.iox_machine.specs.Service as machine
+use Rattle.iox_machine.proofs.Shorthands as shorthands
 use Rattle.iox_machine.specs.State.{State}
 use Rattle.iox_machine.specs.Table.{at, changed}
 
@@ -191,7 +191,7 @@ module _ {T U : Type 0} (names : Naming) (lent : List (ℕ × LentSlot)) (held :
   gone_publisher = record was.0 { stands = false }
 
   abbrev service_after : Service T
-  service_after = machine.with_publisher name gone_publisher
+  service_after = shorthands.with_publisher name gone_publisher
       (record service { publisher_list = shorthands.left name service.publisher_list })
 
   given_stands : StandsFor names lent held buffer (record new { publisher_list = roll }) service_after
@@ -227,7 +227,7 @@ module _ {T U : Type 0} (types : MessageTypeDetails) (choices : Choices T) (buff
   abbrev Does : Publisher T → Service T → Reply T → Service T → Type 0
   Does one before answered later = MatchOption one.blocked
       ((answered ≡ reply.Done)
-      × (later ≡ machine.with_publisher its_name (record one { stands = false })
+      × (later ≡ shorthands.with_publisher its_name (record one { stands = false })
       (record before { publisher_list = shorthands.left its_name before.publisher_list })))
       (λ send. IsSkipped before answered later)
 

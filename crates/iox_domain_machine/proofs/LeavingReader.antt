@@ -32,7 +32,7 @@ use Rattle.iox_machine.specs.Choices.{Choices}
 use Rattle.iox_machine.proofs.Shorthands as shorthands
 use Rattle.iox_machine.specs.Ports.{subscriber_in}
 use Rattle.iox_machine.specs.Service.{Service, Subscriber}
-use Rattle.iox_machine.specs.Service as machine
+use Rattle.iox_machine.proofs.Shorthands as shorthands
 use Rattle.iox_machine.specs.State.{State}
 use Rattle.iox_machine.specs.Table.{at}
 
@@ -55,7 +55,7 @@ module _ {T U : Type 0} (types : MessageTypeDetails) (choices : Choices T) (buff
   abbrev Does : Subscriber → Service T → Reply T → Service T → Type 0
   Does one before answered later =
       (answered ≡ reply.Done)
-      × (later ≡ machine.with_subscriber name (record one { stands = false })
+      × (later ≡ shorthands.with_subscriber name (record one { stands = false })
       (record before { subscriber_list = shorthands.left name before.subscriber_list }))
 
   abbrev Result : Bool → ServicePorts T U → Type 0

@@ -52,7 +52,7 @@ use Rattle.iox_machine.specs.Lending.{IsRoomFor, how_many, is_static, loans_of, 
 use Rattle.iox_machine.specs.Lending as lending
 use Rattle.iox_machine.specs.Message as machine
 use Rattle.iox_machine.specs.Ports.{publisher_in, LendsLoan}
-use Rattle.iox_machine.specs.Replies.{IsSkipped}
+use Rattle.iox_machine.proofs.Shorthands.{IsSkipped}
 use Rattle.iox_machine.specs.Service.{Service, Publisher, Send}
 use Rattle.iox_machine.specs.State.{State}
 use Rattle.iox_machine.specs.Table.{at}

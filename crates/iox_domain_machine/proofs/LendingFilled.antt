@@ -27,7 +27,8 @@ use Rattle.iox_machine.specs.Choices.{Choices}
 use Rattle.iox_machine.specs.Message as machine
 use Rattle.iox_machine.specs.Ports.{LendsLoan, Writes}
 use Rattle.iox_machine.specs.Run.{Step}
-use Rattle.iox_machine.specs.Service.{Service, with_publisher}
+use Rattle.iox_machine.specs.Service.{Service}
+use Rattle.iox_machine.proofs.Shorthands.{with_publisher}
 use Rattle.iox_machine.specs.State.{State, counted}
 use Rattle.iox_machine.specs.Table.{at, changed}
 

@@ -36,7 +36,7 @@ use Rattle.iox_domain_machine.proofs.LendingUses.{message_slots}
 use Rattle.iox_domain_machine.proofs.Loans.{in_slot}
 use Rattle.iox_machine.specs.Message as machine
 use Rattle.iox_machine.specs.Service.{Service, Publisher}
-use Rattle.iox_machine.specs.Service as service
+use Rattle.iox_machine.proofs.Shorthands as shorthands
 use Rattle.iox_machine.specs.Table.{at, changed}
 
 module _ {T U : Type 0} (names : Naming) (lent : List (ℕ × LentSlot)) (held : List (ℕ × Taken)) (buffer : ℕ) (ports : ServicePorts T U)
@@ -208,7 +208,9 @@ module _ {T U : Type 0} (names : Naming) (lent : List (ℕ × LentSlot)) (held :
     publisher_after = record was.0 { room = machine_room; segments = machine_segments; first = machine_first; next = next + 1 }
 
     abbrev pub service_after : Service T
-    service_after = record (service.with_publisher (names.publisher number) publisher_after old) { loans = old.loans ++ (loan, made) ∷ [] }
+    service_after = record (shorthands.with_publisher (names.publisher number) publisher_after old) {
+      loans = old.loans ++ (loan, made) ∷ [];
+    }
 
     pub lent_stands : StandsFor names_after (lent ++ (loan, out) ∷ []) held buffer new service_after
     lent_stands =

@@ -47,7 +47,8 @@ use Rattle.iox_machine.specs.Lending.{LendsLonger, loan_refusal}
 use Rattle.iox_machine.specs.Message as machine
 use Rattle.iox_machine.specs.Ports.{publisher_in, Puts}
 use Rattle.iox_machine.specs.Sending.{Sends}
-use Rattle.iox_machine.specs.Service.{Service, Publisher, with_publisher}
+use Rattle.iox_machine.specs.Service.{Service, Publisher}
+use Rattle.iox_machine.proofs.Shorthands.{with_publisher}
 use Rattle.iox_machine.specs.State.{State}
 use Rattle.iox_machine.specs.Table.{at, removed}
 

@@ -42,7 +42,8 @@ use Rattle.iox_domain_machine.proofs.Hearing.{Hears, has_connection, often_head,
 use Rattle.iox_domain_machine.proofs.LeaveDetaching.{left_stands}
 use Rattle.iox_domain_machine.proofs.SubscriberChanging.{subscriber_set}
 use Rattle.iox_domain_machine.proofs.UpdateParting.{unread}
-use Rattle.iox_machine.specs.Service.{Service, Subscriber, with_subscriber}
+use Rattle.iox_machine.specs.Service.{Service, Subscriber}
+use Rattle.iox_machine.proofs.Shorthands.{with_subscriber}
 use Rattle.iox_machine.specs.Table.{at}
 
 -- one leaves its place in a list

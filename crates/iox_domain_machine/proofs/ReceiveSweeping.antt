@@ -31,7 +31,8 @@ use Rattle.iox_domain_machine.proofs.ReceiveDropping.{Dropped, drop_stands}
 use Rattle.iox_domain_machine.proofs.ReceiveHearing.{idle_same}
 use Rattle.iox_domain_machine.proofs.SubscriberChanging.{subscriber_set}
 use Rattle.iox_machine.specs.Mailbox.{is_idle}
-use Rattle.iox_machine.specs.Service.{Service, Subscriber, mailbox, with_subscriber}
+use Rattle.iox_machine.specs.Service.{Service, Subscriber, mailbox}
+use Rattle.iox_machine.proofs.Shorthands.{with_subscriber}
 use Rattle.iox_machine.specs.Table.{at, changed}
 
 -- what was set is set again

@@ -39,7 +39,7 @@ use Rattle.iox_domain_machine.proofs.SendPut.{further}
 use Rattle.iox_domain_machine.proofs.SendReady.{is_ready, within_limit}
 use Rattle.iox_machine.specs.Choices.{Choices}
 use Rattle.iox_machine.specs.Ports.{publisher_in}
-use Rattle.iox_machine.specs.Replies.{IsSkipped}
+use Rattle.iox_machine.proofs.Shorthands.{IsSkipped}
 use Rattle.iox_machine.specs.Sending.{GoesOn}
 use Rattle.iox_machine.specs.Service.{Service, Publisher, Send}
 use Rattle.iox_machine.specs.State.{State}

@@ -52,7 +52,8 @@ use Rattle.iox_machine.specs.Message.{Message, Loan}
 use Rattle.iox_machine.specs.PortList.{those}
 use Rattle.iox_machine.specs.Sending.{GoesOn}
 use Rattle.iox_machine.specs.Sending as machine
-use Rattle.iox_machine.specs.Service.{Service, Publisher, Send, with_publisher}
+use Rattle.iox_machine.specs.Service.{Service, Publisher, Send}
+use Rattle.iox_machine.proofs.Shorthands.{with_publisher}
 use Rattle.iox_machine.specs.Table.{changed}
 use Rattle.iox_machine.specs.Choices.{Choices}
 

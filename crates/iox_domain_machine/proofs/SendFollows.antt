@@ -6,7 +6,8 @@ use Rattle.iox_machine.specs.Mailbox.{Mailbox, newest}
 use Rattle.iox_machine.specs.Message.{Message, Loan}
 use Rattle.iox_machine.specs.PortList.{those}
 use Rattle.iox_machine.specs.PublisherUpdate.{Follows, ended, welcome}
-use Rattle.iox_machine.specs.Service.{Service, Publisher, Subscriber, mailbox, with_mailbox, with_publisher}
+use Rattle.iox_machine.specs.Service.{Service, Publisher, Subscriber, mailbox, with_mailbox}
+use Rattle.iox_machine.proofs.Shorthands.{with_publisher}
 use Rattle.iox_machine.specs.Table.{at, contains}
 
 module _ {T : Type 0} (number : ℕ) (loans : List (ℕ × Loan T)) where

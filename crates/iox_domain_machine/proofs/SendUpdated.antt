@@ -48,7 +48,7 @@ use Rattle.iox_machine.specs.RunLaws.{sent_as}
 use Rattle.iox_machine.specs.Message as machine
 use Rattle.iox_machine.specs.PortList.{PortList}
 use Rattle.iox_machine.specs.PublisherUpdate.{UpdatesFirst}
-use Rattle.iox_machine.specs.Replies.{IsRefused}
+use Rattle.iox_machine.proofs.Shorthands.{IsRefused}
 use Rattle.iox_machine.specs.Sending.{Begins}
 use Rattle.iox_machine.specs.Service.{Service, Publisher}
 use Rattle.iox_machine.specs.Table.{at, removed}

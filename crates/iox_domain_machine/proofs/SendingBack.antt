@@ -8,11 +8,11 @@ use Rattle.iox_command.specs.declared.reply.Reply.TheVariants as reply
 use Rattle.iox_domain_machine.specs.Laws.{with_alone}
 use Rattle.iox_domain_machine.proofs.AloneDid.{by_bool, by_option, alone_did}
 use Rattle.iox_domain_machine.proofs.Found.{same_some, never_some}
-use Rattle.iox_machine.specs.RunLaws.{sent_as}
 use Rattle.iox_machine.specs.Choices.{Choices}
-use Rattle.iox_machine.specs.Message.{Loan, is_written}
+use Rattle.iox_machine.specs.Message.{Loan}
+use Rattle.iox_machine.specs.RunLaws.{is_written, sent_as}
 use Rattle.iox_machine.specs.Ports.{SendsLoan}
-use Rattle.iox_machine.specs.Replies.{IsSkipped}
+use Rattle.iox_machine.proofs.Shorthands.{IsSkipped}
 use Rattle.iox_machine.specs.Run.{Step}
 use Rattle.iox_machine.specs.Sending.{Sends}
 use Rattle.iox_machine.specs.Service.{Service, Publisher}

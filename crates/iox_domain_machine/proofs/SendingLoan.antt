@@ -57,10 +57,11 @@ use Rattle.iox_domain_machine.proofs.Writing.{IsThere, is_there, goes_there, sam
 use Rattle.iox_machine.specs.Choices.{Choices}
 use Rattle.iox_machine.specs.RunLaws.{sent_as}
 use Rattle.iox_machine.specs.Message as machine
+use Rattle.iox_machine.specs.RunLaws as run_laws
 use Rattle.iox_machine.specs.PortList.{PortList}
 use Rattle.iox_machine.specs.Ports.{SendsLoan}
 use Rattle.iox_machine.specs.PublisherUpdate.{UpdatesFirst}
-use Rattle.iox_machine.specs.Replies.{IsSkipped, IsRefused}
+use Rattle.iox_machine.proofs.Shorthands.{IsSkipped, IsRefused}
 use Rattle.iox_machine.specs.Sending as sending
 use Rattle.iox_machine.specs.Service.{Service, Publisher}
 use Rattle.iox_machine.specs.State.{State}
@@ -147,7 +148,7 @@ module _ {T U : Type 0} (types : MessageTypeDetails) (choices : Choices T) (buff
   Does may_send answered after =
       MatchBool may_send (SendsIt was.0.stands answered after) (IsSkipped {T = T} service answered after)
 
-  comes : (may_send : Bool) → (machine.is_written lent_loan && not (is_some was.0.blocked)) ≡ may_send
+  comes : (may_send : Bool) → (run_laws.is_written lent_loan && not (is_some was.0.blocked)) ≡ may_send
       → (answer : Option (Result Sent SendError)) (new : ServicePorts T U) (after : Service T)
       → Does may_send (sent_or_skipped answer) after → (reader : ℕ → ℕ)
       → StandsFor (read_by reader) (lent_after_send loan answer lent) held buffer new after → Comes answer new
@@ -158,7 +159,7 @@ module _ {T U : Type 0} (types : MessageTypeDetails) (choices : Choices T) (buff
       alone_does (λ (one : Service T). at loan one.loans) (SendsLoan choices loan) state service after (sent_or_skipped answer) lent_loan
           (goes_there names lent held buffer old service loan out stands goes)
           (subst (λ (found : Option (Publisher T)). MatchOption found (IsSkipped {T = T} service (sent_or_skipped answer) after)
-          (λ publisher. MatchBool (machine.is_written lent_loan && not (is_some publisher.blocked))
+          (λ publisher. MatchBool (run_laws.is_written lent_loan && not (is_some publisher.blocked))
           (sending.Sends choices name (sent_as lent_loan) publisher before (sent_or_skipped {T = T} answer) after)
           (IsSkipped {T = T} service (sent_or_skipped answer) after))) (sym was.1)
           (subst (λ b. Does b (sent_or_skipped {T = T} answer) after) (sym is) does)),
@@ -167,7 +168,7 @@ module _ {T U : Type 0} (types : MessageTypeDetails) (choices : Choices T) (buff
   )
 
   -- a loan is written in both, or in neither
-  written_alike : machine.is_written lent_loan ≡ domain.is_written there.loan
+  written_alike : run_laws.is_written lent_loan ≡ domain.is_written there.loan
   written_alike = ap (list_all is_some) (same_values names lent held buffer old service loan out stands goes)
 
   -- and a send waits of both, or of neither
@@ -180,7 +181,7 @@ module _ {T U : Type 0} (types : MessageTypeDetails) (choices : Choices T) (buff
       port.progress one was.0.blocked) waits was.2.blocked in
       ap is_some blocked.1
 
-  skips : (machine.is_written lent_loan && not (is_some was.0.blocked)) ≡ false → Comes None old
+  skips : (run_laws.is_written lent_loan && not (is_some was.0.blocked)) ≡ false → Comes None old
   skips is = comes false is None old service (refl, refl) (names.reader out.publisher) (stays lent old service stands)
 
   -- numbers are used up of both, or of neither
@@ -188,7 +189,7 @@ module _ {T U : Type 0} (types : MessageTypeDetails) (choices : Choices T) (buff
   used_alike = ap is_used_up was.2.last_sequence
 
   -- a send is refused before its update: the loan is given up
-  refuses : (why : SendError) → (machine.is_written lent_loan && not (is_some was.0.blocked)) ≡ true
+  refuses : (why : SendError) → (run_laws.is_written lent_loan && not (is_some was.0.blocked)) ≡ true
       → SendsIt was.0.stands (reply.Refused (refusal.Send why)) before
       → Comes (Some (Err why)) (with_publisher out.publisher (dropping.after names lent held buffer old service loan out stands goes) old)
   refuses why is does =
@@ -206,7 +207,7 @@ module _ {T U : Type 0} (types : MessageTypeDetails) (choices : Choices T) (buff
       (dropping.after names lent held buffer old service loan out stands goes) port there.there)))
 
   -- the publisher left
-  breaks : port.stands ≡ false → (machine.is_written lent_loan && not (is_some was.0.blocked)) ≡ true
+  breaks : port.stands ≡ false → (run_laws.is_written lent_loan && not (is_some was.0.blocked)) ≡ true
       → Comes (Some (Err error.ConnectionBrokenSinceSenderNoLongerExists))
       (with_publisher out.publisher (dropping.after names lent held buffer old service loan out stands goes) old)
   breaks left is =
@@ -216,7 +217,7 @@ module _ {T U : Type 0} (types : MessageTypeDetails) (choices : Choices T) (buff
 
   -- its last message has the last number
   runs_out : port.stands ≡ true → is_used_up port.last_sequence ≡ true
-      → (machine.is_written lent_loan && not (is_some was.0.blocked)) ≡ true
+      → (run_laws.is_written lent_loan && not (is_some was.0.blocked)) ≡ true
       → Comes (Some (Err error.InternalError))
       (with_publisher out.publisher (dropping.after names lent held buffer old service loan out stands goes) old)
   runs_out standing used is =
@@ -225,7 +226,7 @@ module _ {T U : Type 0} (types : MessageTypeDetails) (choices : Choices T) (buff
       (subst (λ b. SendsNumbered b (reply.Refused (refusal.Send error.InternalError)) before) (sym (used_alike ∙ used)) (refl, refl)))
 
   module _ (free : port.sender.uses.sending ≡ None) (standing : port.stands ≡ true) (unused : is_used_up port.last_sequence ≡ false)
-      (is : (machine.is_written lent_loan && not (is_some was.0.blocked)) ≡ true) where
+      (is : (run_laws.is_written lent_loan && not (is_some was.0.blocked)) ≡ true) where
     -- what a publisher does that stands, and has a number left
     sends_it : (answer : Result Sent SendError) (after : PublisherPort T U) (new : Service T)
         → UpdatesAndSends choices names lent held buffer old service loan out stands roomy goes may may_degrade
@@ -264,7 +265,7 @@ module _ {T U : Type 0} (types : MessageTypeDetails) (choices : Choices T) (buff
 
   module _ (listed : List (Option (Member SubscriberEntry))) (tells : IsListOf listed old.subscriber_list) where
     module _ (free : port.sender.uses.sending ≡ None) (standing : port.stands ≡ true) (unused : is_used_up port.last_sequence ≡ false)
-        (is : (machine.is_written lent_loan && not (is_some was.0.blocked)) ≡ true) (outcome : Result (Unit {0}) ConnectionFailure)
+        (is : (run_laws.is_written lent_loan && not (is_some was.0.blocked)) ≡ true) (outcome : Result (Unit {0}) ConnectionFailure)
         (updated : PublisherPort T U) (updates : Updates may_degrade listed old.subscriber_list.changes port outcome updated)
         (answer : Option (Result Sent SendError)) (after : PublisherPort T U) where
       -- the list didn't change
@@ -310,7 +311,7 @@ module _ {T U : Type 0} (types : MessageTypeDetails) (choices : Choices T) (buff
           roomy.tied roomy.allowed standing free (degrades was.0 was.1 (was.2.stands ∙ standing)) listed tells updates)
 
     sends_standing : port.sender.uses.sending ≡ None → port.stands ≡ true
-        → (machine.is_written lent_loan && not (is_some was.0.blocked)) ≡ true
+        → (run_laws.is_written lent_loan && not (is_some was.0.blocked)) ≡ true
         → (used : Bool) → is_used_up port.last_sequence ≡ used → (answer : Option (Result Sent SendError)) (after : PublisherPort T U)
         → SendsStanding used may_degrade may listed old.subscriber_list.changes place port answer after → Gone answer after
     sends_standing free standing is true used answer after sends = (
@@ -322,7 +323,7 @@ module _ {T U : Type 0} (types : MessageTypeDetails) (choices : Choices T) (buff
     sends_standing free standing is false unused answer after sends =
         sends_after free standing unused is sends.0 sends.1 sends.2 answer after sends.3
 
-    sends_if : port.sender.uses.sending ≡ None → (machine.is_written lent_loan && not (is_some was.0.blocked)) ≡ true
+    sends_if : port.sender.uses.sending ≡ None → (run_laws.is_written lent_loan && not (is_some was.0.blocked)) ≡ true
         → (standing : Bool) → port.stands ≡ standing → (answer : Option (Result Sent SendError)) (after : PublisherPort T U)
         → SendsIf standing may_degrade may listed old.subscriber_list.changes place port answer after → Gone answer after
     sends_if free is false left answer after sends = (
@@ -339,7 +340,7 @@ module _ {T U : Type 0} (types : MessageTypeDetails) (choices : Choices T) (buff
     Leaves None after new = new ≡ old
     Leaves (Some result) after new = new ≡ with_publisher out.publisher after old
 
-    skips_by : (machine.is_written lent_loan && not (is_some was.0.blocked)) ≡ false → (answer : Option (Result Sent SendError))
+    skips_by : (run_laws.is_written lent_loan && not (is_some was.0.blocked)) ≡ false → (answer : Option (Result Sent SendError))
         (after : PublisherPort T U) (new : ServicePorts T U) → answer ≡ None → Leaves answer after new → Comes answer new
     skips_by is None after new none leaves = subst (λ (ports : ServicePorts T U). Comes None ports) (sym leaves) (skips is)
     skips_by is (Some result) after new none leaves = never_some result (sym none)
@@ -354,7 +355,7 @@ module _ {T U : Type 0} (types : MessageTypeDetails) (choices : Choices T) (buff
 
     -- whether the machine's may be sent
     may_send : (waits written : Bool) → is_some port.sender.uses.sending ≡ waits → domain.is_written there.loan ≡ written
-        → (machine.is_written lent_loan && not (is_some was.0.blocked)) ≡ (written && not waits)
+        → (run_laws.is_written lent_loan && not (is_some was.0.blocked)) ≡ (written && not waits)
     may_send waits written is_waiting is_written =
         ap (λ b. b && not (is_some was.0.blocked)) (written_alike ∙ is_written)
         ∙ ap (λ b. written && not b) (blocked_by port.sender.uses.sending refl ∙ is_waiting)

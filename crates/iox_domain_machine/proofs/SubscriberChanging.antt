@@ -17,7 +17,8 @@ use Rattle.iox_domain_machine.specs.Subscribers.{SubscriberStandsFor}
 use Rattle.iox_domain_machine.specs.Tables.{LentSlot}
 use Rattle.iox_domain_machine.proofs.Found.{at_changed, at_changed_other, other_found}
 use Rattle.iox_domain_machine.proofs.UpdateSubscriber.{subscriber_changed}
-use Rattle.iox_machine.specs.Service.{Service, Subscriber, with_subscriber}
+use Rattle.iox_machine.specs.Service.{Service, Subscriber}
+use Rattle.iox_machine.proofs.Shorthands.{with_subscriber}
 
 -- it stands as before, at its place, for as many messages, and holds as many samples; and whoever reads has a key still
 pub subscriber_set : {T U : Type 0} (names : Naming) (lent : List (ℕ × LentSlot)) (held : List (ℕ × Taken)) (buffer : ℕ)

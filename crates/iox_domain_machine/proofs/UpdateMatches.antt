@@ -41,7 +41,7 @@ use Rattle.iox_machine.specs.Choices.{Choices}
 use Rattle.iox_machine.specs.PortList.{PortList}
 use Rattle.iox_machine.specs.Ports.{subscriber_in}
 use Rattle.iox_machine.specs.PublisherUpdate.{UpdateAnswers}
-use Rattle.iox_machine.specs.Replies.{IsRefused}
+use Rattle.iox_machine.proofs.Shorthands.{IsRefused}
 use Rattle.iox_machine.specs.Service.{Service, Subscriber}
 use Rattle.iox_machine.specs.State.{State}
 use Rattle.iox_machine.specs.SubscriberUpdate.{UpdatesFirst}

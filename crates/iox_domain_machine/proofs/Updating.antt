@@ -44,7 +44,7 @@ use Rattle.iox_domain_machine.proofs.Kept.{loans_kept, samples_kept}
 use Rattle.iox_machine.specs.Choices.{Choices}
 use Rattle.iox_machine.specs.Ports.{publisher_in}
 use Rattle.iox_machine.specs.PublisherUpdate.{UpdatesFirst}
-use Rattle.iox_machine.specs.Replies.{IsSkipped, IsRefused}
+use Rattle.iox_machine.proofs.Shorthands.{IsSkipped, IsRefused}
 use Rattle.iox_machine.specs.Service.{Publisher, Service}
 use Rattle.iox_machine.specs.State.{State}
 use Rattle.iox_machine.specs.Table.{at}

@@ -51,11 +51,11 @@ use Rattle.iox_domain_machine.proofs.UpdateTold.{ToldBelow, answers_told, failur
 use Rattle.iox_domain_machine.proofs.UpdateReading.{IsReading, expired_key, key_attached, placed_key, reads_alike}
 use Rattle.iox_domain_machine.proofs.UpdateSubscriber.{subscriber_changed}
 use Rattle.iox_domain_machine.proofs.UpdateWalk.{went_first, went_then, WentFirst, WentThen, parts}
-use Rattle.iox_machine.proofs.Shorthands.{now_at, parting}
+use Rattle.iox_machine.proofs.Shorthands.{now_at, parting, with_subscriber as with_machine_subscriber}
 use Rattle.iox_machine.specs.Mailbox.{Mailbox}
 use Rattle.iox_machine.specs.PortList.{PortList, those}
 use Rattle.iox_machine.specs.PublisherUpdate.{failure_at, UpdateAnswers}
-use Rattle.iox_machine.specs.Service.{Service, Subscriber, with_subscriber as with_machine_subscriber}
+use Rattle.iox_machine.specs.Service.{Service, Subscriber}
 use Rattle.iox_machine.specs.SubscriberUpdate.{Follows, Parted}
 use Rattle.iox_machine.specs.Table.{at, changed, contains}
 

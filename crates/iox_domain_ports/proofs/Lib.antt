@@ -35,6 +35,8 @@ pub mod Sweeping
 pub mod Walking
 pub mod Serving
 pub mod Asking
+pub mod Flagging
+pub mod Idling
 pub mod Located
 pub mod Adding
 pub mod Tallied

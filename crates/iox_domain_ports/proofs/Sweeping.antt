@@ -7,9 +7,9 @@ use Rattle.iox_domain_ports.specs.Receiving.{is_idle_at, dropped_port, dropped_p
 use Rattle.iox_domain_ports.specs.declared.attached.Attached.{Attached}
 use Rattle.iox_domain_ports.specs.declared.subscriber_port.SubscriberPort.{SubscriberPort}
 
--- How far the expired connections are gone over: what is left comes to what all of them come to.
-pub record Sweeping {T U : Type 0} (count : ℕ) (first now : SubscriberPort × List (ℕ × PublisherPort T U)) (place done : ℕ) : Type 0 where
-  pub rest : swept place (count - done) now ≡ swept 0 count first
+-- How far the expired connections are gone over: what is left comes to the whole.
+pub record Sweeping {T U : Type 0} (count : ℕ) (whole now : SubscriberPort × List (ℕ × PublisherPort T U)) (place done : ℕ) : Type 0 where
+  pub rest : swept place (count - done) now ≡ whole
   pub few : place ≤ done
 
 abbrev both : {T U : Type 0} → SubscriberPort → List (ℕ × PublisherPort T U) → SubscriberPort × List (ℕ × PublisherPort T U)
@@ -20,22 +20,22 @@ pair : {T U : Type 0} (port next_port : SubscriberPort) (ports next_ports : List
 pair port next_port ports next_ports one two = ap (λ p. both p next_ports) one ∙ ap (both port) two
 
 -- one more is gone over
-pub swept_on : {T U : Type 0} (count : ℕ) (first : SubscriberPort × List (ℕ × PublisherPort T U)) (port next_port : SubscriberPort)
+pub swept_on : {T U : Type 0} (count : ℕ) (whole : SubscriberPort × List (ℕ × PublisherPort T U)) (port next_port : SubscriberPort)
     (ports next_ports : List (ℕ × PublisherPort T U)) (place next done : ℕ)
-    → Sweeping count first (port, ports) place done → done < count
+    → Sweeping count whole (port, ports) place done → done < count
     → SweepsAt (is_idle_at (slice_get port.expired.items place) port ports) place port ports next next_port next_ports
-    → Sweeping count first (next_port, next_ports) next (done + 1)
-swept_on {T} {U} count first port next_port ports next_ports place next done so_far within sweeps
+    → Sweeping count whole (next_port, next_ports) next (done + 1)
+swept_on {T} {U} count whole port next_port ports next_ports place next done so_far within sweeps
     = at (is_idle_at (slice_get port.expired.items place) port ports) refl sweeps
   where
     left : count - done ≡ suc (count - (done + 1))
     left = omega (arith, within)
 
-    further : swept place (suc (count - (done + 1))) (port, ports) ≡ swept 0 count first
+    further : swept place (suc (count - (done + 1))) (port, ports) ≡ whole
     further = ap (λ n. swept place n (port, ports)) (sym left) ∙ so_far.rest
 
     at : (idle : Bool) → is_idle_at (slice_get port.expired.items place) port ports ≡ idle
-        → SweepsAt idle place port ports next next_port next_ports → Sweeping count first (next_port, next_ports) next (done + 1)
+        → SweepsAt idle place port ports next next_port next_ports → Sweeping count whole (next_port, next_ports) next (done + 1)
     at true is step =
         let same : swept place (suc (count - (done + 1))) (port, ports)
         ≡ swept place (count - (done + 1))
@@ -59,9 +59,9 @@ swept_on {T} {U} count first port next_port ports next_ports place next done so_
         }
 
 -- all are gone over
-pub swept_all : {T U : Type 0} (count : ℕ) (first now : SubscriberPort × List (ℕ × PublisherPort T U)) (place done : ℕ)
-    → Sweeping count first now place done → count ≤ done → now ≡ swept 0 count first
-swept_all count first now place done so_far over =
+pub swept_all : {T U : Type 0} (count : ℕ) (whole now : SubscriberPort × List (ℕ × PublisherPort T U)) (place done : ℕ)
+    → Sweeping count whole now place done → count ≤ done → now ≡ whole
+swept_all count whole now place done so_far over =
     let none : count - done ≡ zero = omega (arith, over) in
     ap (λ n. swept place n now) (sym none) ∙ so_far.rest
 

@@ -1,5 +1,5 @@
 -- The keys of connections in an order.
-use Rattle.std.specs.Prelude.{ℕ, List, [], ◌∷◌, ◌++◌, length, nat_lt, if◌then◌else◌}
+use Rattle.std.specs.Prelude.{ℕ, ◌≡◌, List, [], ◌∷◌, ◌++◌, length, nat_lt, slice_get, Some, if◌then◌else◌}
 
 -- keys in the order in which they came, at most so many
 pub record KeysState : Type 0 where
@@ -9,3 +9,7 @@ pub record KeysState : Type 0 where
 -- one key more behind the others, if there is room
 abbrev pub with_last : ℕ → KeysState → KeysState
 with_last key keys = if nat_lt (length keys.items) keys.room then record keys { items = keys.items ++ key ∷ [] } else keys
+
+-- a key stands at some place of a list
+abbrev pub IsKeyOf : ℕ → List ℕ → Type 0
+IsKeyOf key keys = (place : ℕ) × (slice_get keys place ≡ Some key)

@@ -33,6 +33,16 @@ is_idle_at (Some key) port ports = is_idle port ports key
 abbrev pub IsBusy : {T U : Type 0} → SubscriberPort → List (ℕ × PublisherPort T U) → ℕ → Type 0
 IsBusy port ports count = (place : ℕ) → place < count → is_idle_at (slice_get port.expired.items place) port ports ≡ false
 
+-- one of the first so many keys of a list that passes a test; none if none of them does
+abbrev pub IsOneAmong : (ℕ → Bool) → List ℕ → ℕ → Option ℕ → Type 0
+IsOneAmong test keys count None = (place : ℕ) → place < count → test (get_or keys place 0) ≡ false
+IsOneAmong test keys count (Some key) = test key ≡ true
+
+-- a number that passes a test; none if none does
+abbrev pub IsOne : (ℕ → Bool) → Option ℕ → Type 0
+IsOne test None = (key : ℕ) → test key ≡ false
+IsOne test (Some key) = test key ≡ true
+
 -- the first number that passes a test, after one more was asked
 abbrev pub first_of : Option ℕ → ℕ → Bool → Option ℕ
 first_of (Some first) key passes = Some first

@@ -49,8 +49,10 @@ pub(crate) struct Asked {
 pub(crate) struct Met {
     /// How many.
     pub count: usize,
-    /// Whether one of them may be idle.
-    pub idle: bool,
+    /// The place of the first of them that is idle, and as many as are met where none is.
+    pub idle: usize,
+    /// The key of the first of them that has data.
+    pub unread: Option<usize>,
 }
 
 /// What is found where all connections are gone over.
@@ -58,6 +60,6 @@ pub(crate) struct Met {
 pub(crate) struct Found {
     /// The first key whose connection gives.
     pub giver: Option<usize>,
-    /// The first key whose connection has data, where none gives.
+    /// A key whose connection has data, where none gives.
     pub unread: Option<usize>,
 }

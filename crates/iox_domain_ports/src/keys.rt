@@ -1,36 +1,43 @@
 //! The keys of connections in an order.
-ghost use Rattle.std.specs.Prelude.{◌≡◌, ◌≤◌, length, nat_le, slice_get, remove, [], IfOk};
-ghost use Rattle.iox_domain_ports.specs.Keys.{KeysState, with_last};
+ghost use Rattle.std.specs.Prelude.{◌≡◌, ◌≢◌, ◌≤◌, ℕ, length, nat_le, slice_get, get_or, remove, [], IfOk, true, false};
+ghost use Rattle.iox_domain_ports.specs.Keys.{KeysState, with_last, IsKeyOf};
 
 use std::alloc::{AllocError, Global};
 use std::marker::Model;
 
 /// Keys in the order in which they came, at most so many. `new` takes all its memory.
+///
+/// A flag at each key that was reached tells whether it is among them, so nobody goes over them for that.
 #[derive(Drop)]
 pub struct Keys {
     items: Vec<usize>,
     room: usize,
+    flags: Vec<bool>,
+    most_flags: usize,
 }
 
 impl Model for Keys {
-    ghost use Rattle.std.specs.Prelude.{◌≤◌, length, vec_capacity};
-    ghost use Rattle.iox_domain_ports.specs.Keys.{KeysState};
+    ghost use Rattle.std.specs.Prelude.{◌≡◌, ◌≤◌, ℕ, length, get_or, vec_capacity, true, false};
+    ghost use Rattle.iox_domain_ports.specs.Keys.{KeysState, IsKeyOf};
 
     ghost Value = { KeysState };
 
     ghost view = { λ k. record { items = k.items.items; room = k.room } };
 
-    ghost invariant = { λ k. (k.room ≤ vec_capacity k.items) × (length k.items.items ≤ k.room) };
+    ghost invariant = { λ k. (k.room ≤ vec_capacity k.items) × (length k.items.items ≤ k.room)
+        × ((key : ℕ) → get_or k.flags.items key false ≡ true → IsKeyOf key k.items.items) };
 }
 
 impl Keys {
-    /// No keys, and room for so many. It fails only where an allocation fails.
-    pub fn new(alloc: Global, room: usize) -> Result<Keys, AllocError>
+    /// No keys, and room for so many, and for the flags of all keys below `most_flags`. It fails only where an allocation fails.
+    pub fn new(alloc: Global, room: usize, most_flags: usize) -> Result<Keys, AllocError>
         ensures { IfOk result (λ keys. keys ≡ record { items = []; room = room }) }
     {
         Ok(Keys {
             items: Vec::with_capacity(alloc, room)?,
             room,
+            flags: Vec::with_capacity(alloc, most_flags)?,
+            most_flags,
         })
     }
 
@@ -56,12 +63,20 @@ impl Keys {
         self.items.get(place).copied()
     }
 
+    /// Whether a flag tells that a key is among them. There is one for each key below as many as `new` was told.
+    pub fn is_flagged(&self, key: usize) -> bool
+        ensures { result ≡ true → IsKeyOf key self.now.items }
+    {
+        key < self.flags.len() && self.flags[key]
+    }
+
     /// Adds a key behind the others; where there is no room nothing happens.
     pub fn push(&mut self, key: usize)
         ensures { self.new ≡ with_last key self.old }
     {
         if self.items.len() < self.room {
             self.items.push_reserved(key);
+            flag(&mut self.flags, key, self.most_flags);
         }
     }
 
@@ -70,7 +85,34 @@ impl Keys {
         ensures { self.new ≡ record self.old { items = remove self.old.items place } }
     {
         if place < self.items.len() {
+            unflag(&mut self.flags, self.items[place]);
             let _ = self.items.remove(place);
         }
+    }
+}
+
+// Flags a key, where it is below so many.
+fn flag(flags: &mut Vec<bool>, key: usize, most: usize)
+    ensures { (other : ℕ) → other ≢ key → get_or flags.new.items other false ≡ get_or flags.old.items other false }
+{
+    if most <= key {
+        return;
+    }
+    if flags.len() <= key {
+        // Its room is there.
+        let _resized = flags.resize(key + 1, false);
+    }
+    if key < flags.len() {
+        flags[key] = true;
+    }
+}
+
+// Takes the flag of a key away.
+fn unflag(flags: &mut Vec<bool>, key: usize)
+    ensures none { get_or flags.new.items key false ≡ false }
+    ensures others { (other : ℕ) → other ≢ key → get_or flags.new.items other false ≡ get_or flags.old.items other false }
+{
+    if key < flags.len() {
+        flags[key] = false;
     }
 }

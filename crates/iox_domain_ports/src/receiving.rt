@@ -1,12 +1,12 @@
 //! A subscriber receives.
-ghost use Rattle.std.specs.Prelude.{◌≡◌, ◌+◌, ◌<◌, ◌^◌, ◌||◌, length, slice_get, IfSome, None, Some, true, false};
+ghost use Rattle.std.specs.Prelude.{◌≡◌, ◌+◌, ◌-◌, ◌<◌, ◌≤◌, ◌^◌, length, slice_get, IfSome, None, Some, true, false};
 ghost use Rattle.std.specs.Bool.{OnTrue, OnFalse};
 ghost use Rattle.iox_domain_slots.specs.Uses.{is_there};
 ghost use Rattle.iox_domain_ports.specs.Subscribing.{attached_at, connection_by, seen_of, has_data, gives, is_idle, ended_key};
 ghost use Rattle.iox_domain_ports.specs.Subscribing.{ended_ports, taken_of, taken_ports};
 ghost use Rattle.iox_domain_ports.specs.Receiving.{IsFirst, IsMet, IsGiver, IsGiverThere, is_idle_at, dropped_port, dropped_ports, swept};
 ghost use Rattle.iox_domain_ports.specs.Receiving.{given, given_ports, nothing_taken, left_at, left_all, SweepsAt, Serves, Receives};
-ghost use Rattle.iox_domain_ports.specs.Receiving.{IsBusy, first_of};
+ghost use Rattle.iox_domain_ports.specs.Receiving.{IsBusy, IsOneAmong, IsOne, first_of};
 
 use crate::attached::{Asked, Attached, Found, Met, Seen, Taken};
 use crate::publishers::Publishers;
@@ -106,21 +106,27 @@ impl SubscriberPort {
         }
     }
 
-    // The first key whose connection gives, and where there is none, the first whose connection has data: each is asked once.
-    fn look_through<T: Copy, U: Copy>(&self, publishers: &Publishers<T, U>) -> Found
+    // The first key whose connection gives, and where there is none, one whose connection has data. All expired ones were met, so they
+    // aren't asked again.
+    fn look_through<T: Copy, U: Copy>(&self, met: Met, publishers: &Publishers<T, U>) -> Found
+        requires met { IsMet (gives self.now publishers.now) self.now.expired.items met.count }
+        requires all { slice_get self.now.expired.items met.count ≡ None }
+        requires unread { IsOneAmong (has_data self.now publishers.now) self.now.expired.items met.count met.unread }
         ensures giver { IsFirst (gives self.now publishers.now) result.giver }
-        ensures unread { result.giver ≡ None → IsFirst (has_data self.now publishers.now) result.unread }
+        ensures unread { result.giver ≡ None → IsOne (has_data self.now publishers.now) result.unread }
     {
-        let mut unread = None;
+        let mut unread = met.unread;
         for key in 0..self.connections.reached() {
-            let asked = self.asked(key, publishers);
-            if asked.gives {
-                return Found {
-                    giver: Some(key),
-                    unread,
-                };
+            if !self.expired.is_flagged(key) {
+                let asked = self.asked(key, publishers);
+                if asked.gives {
+                    return Found {
+                        giver: Some(key),
+                        unread,
+                    };
+                }
+                unread = first_of(unread, key, asked.data);
             }
-            unread = first_of(unread, key, asked.data);
         }
         Found {
             giver: None,
@@ -194,13 +200,18 @@ impl SubscriberPort {
         self.expired.remove(place);
     }
 
-    // Ends those of the first so many expired connections that are idle.
-    fn sweep<T: Copy, U: Copy>(&mut self, count: usize, publishers: &mut Publishers<T, U>)
-        ensures port { self.new ≡ (swept 0 count (self.old, publishers.old)).0 }
-        ensures publishers { publishers.new ≡ (swept 0 count (self.old, publishers.old)).1 }
+    // Ends those of the expired connections from one place up to another that are idle.
+    fn sweep<T: Copy, U: Copy>(
+        &mut self,
+        first: usize,
+        count: usize,
+        publishers: &mut Publishers<T, U>,
+    )
+        ensures port { self.new ≡ (swept first (count - first) (self.old, publishers.old)).0 }
+        ensures publishers { publishers.new ≡ (swept first (count - first) (self.old, publishers.old)).1 }
     {
-        let mut place = 0;
-        for _done in 0..count {
+        let mut place = first;
+        for _done in first..count {
             place = self.sweep_at(place, publishers);
         }
     }
@@ -225,35 +236,48 @@ impl SubscriberPort {
     // Which expired connections are met before one that gives: each is asked once.
     fn meet<T: Copy, U: Copy>(&self, publishers: &Publishers<T, U>) -> Met
         ensures met { IsMet (gives self.now publishers.now) self.now.expired.items result.count }
-        ensures busy { result.idle ≡ false → IsBusy self.now publishers.now result.count }
+        ensures idle { result.idle ≤ result.count }
+        ensures busy { IsBusy self.now publishers.now result.idle }
+        ensures unread { IsOneAmong (has_data self.now publishers.now) self.now.expired.items result.count result.unread }
     {
         let count = self.expired.len();
-        let mut idle = false;
+        let mut idle = None;
+        let mut unread = None;
         for place in 0..count {
-            if let Some(key) = self.expired.at(place) {
-                let asked = self.asked(key, publishers);
-                if asked.gives {
-                    return Met { count: place, idle };
-                }
-                idle = one_of(idle, asked.idle);
+            // There is a key at each place.
+            let key = self.expired.at(place).unwrap_or(0);
+            let asked = self.asked(key, publishers);
+            if asked.gives {
+                return Met {
+                    count: place,
+                    idle: idle.unwrap_or(place),
+                    unread,
+                };
             }
+            idle = first_of(idle, place, asked.idle);
+            unread = first_of(unread, key, asked.data);
         }
-        Met { count, idle }
+        Met {
+            count,
+            idle: idle.unwrap_or(count),
+            unread,
+        }
     }
 
-    // Whose connection gives, where so many expired ones are met before one does, and if none gives, the first key that has data.
-    fn look<T: Copy, U: Copy>(&self, met: usize, publishers: &Publishers<T, U>) -> Found
-        requires { IsMet (gives self.now publishers.now) self.now.expired.items met }
-        ensures giver { IsGiver (slice_get self.now.expired.items met) (gives self.now publishers.now) result.giver }
+    // Whose connection gives, where so many expired ones are met before one does, and if none gives, a key that has data.
+    fn look<T: Copy, U: Copy>(&self, met: Met, publishers: &Publishers<T, U>) -> Found
+        requires met { IsMet (gives self.now publishers.now) self.now.expired.items met.count }
+        requires unread { IsOneAmong (has_data self.now publishers.now) self.now.expired.items met.count met.unread }
+        ensures giver { IsGiver (slice_get self.now.expired.items met.count) (gives self.now publishers.now) result.giver }
         ensures gives { IfSome result.giver (λ key. gives self.now publishers.now key ≡ true) }
-        ensures unread { result.giver ≡ None → IsFirst (has_data self.now publishers.now) result.unread }
+        ensures unread { result.giver ≡ None → IsOne (has_data self.now publishers.now) result.unread }
     {
-        match self.expired.at(met) {
+        match self.expired.at(met.count) {
             Some(key) => Found {
                 giver: Some(key),
                 unread: None,
             },
-            None => self.look_through(publishers),
+            None => self.look_through(met, publishers),
         }
     }
 
@@ -274,32 +298,37 @@ impl SubscriberPort {
         }
     }
 
-    // Borrows the message that a giver gives, if there is one. Of so many expired connections that were met those end that are idle.
+    // Borrows the message that a giver gives, if there is one. Of the expired connections that were met those end that are idle: they are
+    // gone over from the first on that is.
     fn serve<T: Copy, U: Copy>(
         &mut self,
-        met: usize,
+        met: Met,
         giver: Option<usize>,
         publishers: &mut Publishers<T, U>,
     ) -> Option<Taken>
-        requires met { IsMet (gives self.old publishers.old) self.old.expired.items met }
-        requires giver { IsGiver (slice_get self.old.expired.items met) (gives self.old publishers.old) giver }
+        requires met { IsMet (gives self.old publishers.old) self.old.expired.items met.count }
+        requires idle { met.idle ≤ met.count }
+        requires busy { IsBusy self.old publishers.old met.idle }
+        requires giver { IsGiver (slice_get self.old.expired.items met.count) (gives self.old publishers.old) giver }
         requires gives { IfSome giver (λ key. gives self.old publishers.old key ≡ true) }
         ensures { Serves self.old publishers.old result self.new publishers.new }
     {
         let taken = self.take_of(giver, publishers);
-        self.sweep(met, publishers);
+        self.sweep(met.idle, met.count, publishers);
         taken
     }
 
     // Receives where something may change: a message comes, or expired connections that are idle end.
     fn receive_from<T: Copy, U: Copy>(
         &mut self,
-        met: usize,
+        met: Met,
         giver: Option<usize>,
         publishers: &mut Publishers<T, U>,
     ) -> Result<Option<Taken>, ReceiveError>
-        requires met { IsMet (gives self.old publishers.old) self.old.expired.items met }
-        requires giver { IsGiver (slice_get self.old.expired.items met) (gives self.old publishers.old) giver }
+        requires met { IsMet (gives self.old publishers.old) self.old.expired.items met.count }
+        requires idle { met.idle ≤ met.count }
+        requires busy { IsBusy self.old publishers.old met.idle }
+        requires giver { IsGiver (slice_get self.old.expired.items met.count) (gives self.old publishers.old) giver }
         requires gives { IfSome giver (λ key. gives self.old publishers.old key ≡ true) }
         ensures { Receives self.old publishers.old result self.new publishers.new }
     {
@@ -309,7 +338,8 @@ impl SubscriberPort {
         }
     }
 
-    // Receives from the connections that there are. Where nothing comes, and no expired connection may be idle, each was asked once.
+    // Receives from the connections that there are. Each was asked once, but for the expired ones from the first on that is idle, and
+    // where then nothing comes.
     pub(crate) fn receive_now<T: Copy, U: Copy>(
         &mut self,
         publishers: &mut Publishers<T, U>,
@@ -317,9 +347,9 @@ impl SubscriberPort {
         ensures { Receives self.old publishers.old result self.new publishers.new }
     {
         let met = self.meet(publishers);
-        let found = self.look(met.count, publishers);
-        if met.idle || found.giver.is_some() {
-            return self.receive_from(met.count, found.giver, publishers);
+        let found = self.look(met, publishers);
+        if met.idle < met.count || found.giver.is_some() {
+            return self.receive_from(met, found.giver, publishers);
         }
         nothing_taken(found.unread)
     }
@@ -385,7 +415,7 @@ fn nothing_seen() -> Seen
     }
 }
 
-// What is answered where no message came, and this is the first key whose connection has data.
+// What is answered where no message came, and this is a key whose connection has data.
 fn nothing_taken(unread: Option<usize>) -> Result<Option<Taken>, ReceiveError>
     ensures { result ≡ nothing_taken unread }
 {
@@ -404,11 +434,4 @@ fn first_of(found: Option<usize>, key: usize, passes: bool) -> Option<usize>
         None if passes => Some(key),
         None => None,
     }
-}
-
-// Whether one of two is so.
-fn one_of(one: bool, other: bool) -> bool
-    ensures { result ≡ (one || other) }
-{
-    one || other
 }

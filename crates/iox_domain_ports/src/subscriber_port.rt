@@ -67,7 +67,7 @@ impl SubscriberPort {
             again: true,
             places: Ties::new(alloc, most_connections)?,
             connections: SlotMap::new(alloc, most)?,
-            expired: Keys::new(alloc, most_expired)?,
+            expired: Keys::new(alloc, most_expired, most)?,
         })
     }
 }

@@ -25,7 +25,7 @@ use Rattle.iox_hub.proofs.HandledTurns.{never_some, same_some}
 use Rattle.iox_hub.specs.HandledLaws.{HandledRunsAnswer, HandledRunsStand}
 use Rattle.iox_hub.specs.Room.{RepliesValues, StopsInTime}
 use Rattle.iox_hub.specs.Steps.{HandledStep}
-use Rattle.iox_hub.specs.Turns.{Turn, answered_in, asked_in, handed_of, turns, without_places}
+use Rattle.iox_hub.specs.Turns.{Turn, answered_in, asked_in, handed_in, turns, without_places}
 use Rattle.iox_hub.specs.declared.given.GivenHandler.{GivenHandler}
 use Rattle.iox_hub.specs.declared.handled_command.HandledCommand.{HandledCommand}
 use Rattle.iox_hub.specs.declared.handled_command.HandledCommand.TheVariants as asked
@@ -128,7 +128,7 @@ module _ {T U B D P : Type 0} (payload user_header : Detail) (types : MessageTyp
       → ((handed : Handed B D) → NewHubBegins U types (choices_of handed) degrades decides reader_degrades)
       → HandledRunsAnswer types is_default fixed handled degrades decides fixed_reader reader_degrades Handles
   runs_answer on begins config commands old new replies stopped runs stops decides_so answers_so is_new own few =
-      let handed : Handed B D = handed_of handled commands replies old.1 in
+      let handed : Handed B D = handed_in handled (turns commands replies old.1) in
       let plainly = map (λ (command : HandledCommand T). without_places command) commands in
       let (hub, it) = run_goes payload user_header types is_default is_default_header fixed handled degrades decides fixed_reader
       reader_degrades decides_so answers_so handed (on handed) (names_in plainly) own commands 0 old new new_state replies stopped
@@ -142,7 +142,7 @@ module _ {T U B D P : Type 0} (payload user_header : Detail) (types : MessageTyp
           left_so commands old new replies stopped runs
               (stops (new_has_room config old.0 is_new) (new_runs_on config old.0 is_new).grown),
           subst (λ (n : ℕ). machine.Runs types (choices_of handed) n (asked_in (turns commands replies old.1)) new_state
-              (answered_in (turns commands replies old.1)) it.after) is_new.hub_is_new.expired_connection_buffer it.runs,
+              (answered_in (turns commands replies old.1)) it.after) is_new.expired_connection_buffer it.runs,
         ),
         it.skips,
       )
@@ -152,7 +152,7 @@ module _ {T U B D P : Type 0} (payload user_header : Detail) (types : MessageTyp
       → ((handed : Handed B D) → NewHubBegins U types (choices_of handed) degrades decides reader_degrades)
       → HandledRunsStand types is_default fixed handled degrades decides fixed_reader reader_degrades Handles
   runs_stand on begins config commands old new replies runs decides_so answers_so is_new own few =
-      let handed : Handed B D = handed_of handled commands replies old.1 in
+      let handed : Handed B D = handed_in handled (turns commands replies old.1) in
       let plainly = map (λ (command : HandledCommand T). without_places command) commands in
       let it = whole_goes payload user_header types is_default is_default_header fixed handled degrades decides fixed_reader reader_degrades
       decides_so answers_so handed (on handed) (names_in plainly) own commands 0 old new new_state replies (all_among plainly)
@@ -163,6 +163,6 @@ module _ {T U B D P : Type 0} (payload user_header : Detail) (types : MessageTyp
         it.stands.order,
         it.after,
         subst (λ (n : ℕ). machine.Runs types (choices_of handed) n (asked_in (turns commands replies old.1)) new_state
-            (answered_in (turns commands replies old.1)) it.after) is_new.hub_is_new.expired_connection_buffer it.runs,
+            (answered_in (turns commands replies old.1)) it.after) is_new.expired_connection_buffer it.runs,
         it.stands.stands,
       )

@@ -1,9 +1,9 @@
 -- Whatever may be decided for a port that comes may be chosen, by who was handed in.
-use Rattle.std.proofs.Common.{◌≡◌, ◌∙◌, ℕ, ◌+◌, ◌-◌, ◌^◌, ◌<◌, ◌≤◌, min, Bool, true, false, cond, List, ◌∷◌, Option, None, Some}
+use Rattle.std.proofs.Common.{◌≡◌, ◌∙◌, ℕ, ◌+◌, ◌-◌, ◌^◌, ◌<◌, ◌≤◌, min, Bool, true, false, List, ◌∷◌, Option, None, Some}
 use Rattle.std.proofs.Common.{refl, sym, ap, subst, arith}
 use Rattle.std.proofs.lemmas.Bool.{eq-eqb, eqb-true, false_from_ne_true}
 use Rattle.std.specs.Option.{unwrap_or}
-use Rattle.std.specs.Prelude.{find, option_and_then, MatchOption, ◌==◌}
+use Rattle.std.specs.Prelude.{MatchOption, ◌==◌, if◌then◌else◌}
 use Rattle.iox_hub_commands.specs.Command.declared.command.Command.TheVariants as command
 use Rattle.iox_hub_commands.specs.Command.declared.port.PublisherOptions.{PublisherOptions}
 use Rattle.iox_hub_commands.specs.Command.declared.port.SubscriberOptions.{SubscriberOptions}
@@ -28,99 +28,86 @@ use Rattle.iox_hub_machine.specs.GoingOnLaws.{ComesAsChosen}
 use Rattle.iox_hub_machine.specs.Standing.{AreAsMany}
 use Rattle.iox_hub.proofs.HandledTurns.{fixed_by, reader_by}
 use Rattle.iox_hub.specs.Places.{lies_at, degradation_of}
-use Rattle.iox_hub.specs.Turns.{Turn, publisher_by, publisher_handed, subscriber_by, subscriber_handed, tells, without_places}
+use Rattle.iox_hub.specs.Turns.{Turn, handed_in, publisher_by, subscriber_by, without_places}
 use Rattle.iox_hub.specs.declared.given.GivenHandler.{GivenHandler}
 use Rattle.iox_hub.specs.declared.handled_command.HandledCommand.{HandledCommand}
 use Rattle.iox_hub.specs.declared.handled_command.HandledCommand.TheVariants as asked
 use Rattle.iox_machine.proofs.Kept.{IsNext}
 use Rattle.iox_machine.specs.Choices.{Choices, Handed, chosen_by}
-use Rattle.iox_machine.specs.NumberLaws.{publisher_told, subscriber_told}
 use Rattle.iox_machine.specs.State.{Made, counted}
 
 -- ---- numbers that are told
 
--- The number that is told, if one is, comes after those that were made, and is made then.
-abbrev pub GoesUp : Option ℕ → ℕ → ℕ → Type 0
-GoesUp None last now = now ≡ last
-GoesUp (Some number) last now = (number ≡ last + 1) × (now ≡ last + 1)
-
 module _ {T : Type 0} where
-  pub publishers_up : (made : Made) (answer : Reply T) → IsNext made answer
-      → GoesUp (publisher_told answer) made.publishers (counted answer made).publishers
-  publishers_up made (reply.PublisherMade number) next = (next, refl)
-  publishers_up made other next = refl
+  publishers_up : (made : Made) (answer : Reply T) → made.publishers ≤ (counted answer made).publishers
+  publishers_up made (reply.PublisherMade number) = omega arith
+  publishers_up made other = omega arith
 
-  pub subscribers_up : (made : Made) (answer : Reply T) → IsNext made answer
-      → GoesUp (subscriber_told answer) made.subscribers (counted answer made).subscribers
-  subscribers_up made (reply.SubscriberMade number) next = (next, refl)
-  subscribers_up made other next = refl
-
-goes_up : (told : Option ℕ) (last now : ℕ) → GoesUp told last now → last ≤ now
-goes_up None last now up = omega (arith, up)
-goes_up (Some number) last now up = let is = up.1 in omega (arith, is)
+  subscribers_up : (made : Made) (answer : Reply T) → made.subscribers ≤ (counted answer made).subscribers
+  subscribers_up made (reply.SubscriberMade number) = omega arith
+  subscribers_up made other = omega arith
 
 -- a later number isn't told
-not_told : (told : Option ℕ) (last now number : ℕ) → GoesUp told last now → now < number → tells number told ≡ false
-not_told None last now number up later = refl
-not_told (Some one) last now number up later =
-    false_from_ne_true (one == number) (λ same. differ (eqb-true one number same))
+not_told : (told last number : ℕ) → told ≡ last + 1 → last + 1 < number → (told == number) ≡ false
+not_told told last number next above = false_from_ne_true (told == number) (λ same. differ (eqb-true told number same))
   where
-    differ : one ≡ number → ⊥
-    differ same = let its = up.0 in let is = up.1 in omega (arith, its, is, later, same)
+    differ : told ≡ number → ⊥
+    differ same = omega (arith, next, above, same)
 
 module _ {T B D P : Type 0}
     (handled : BackpressureStrategy → Option BackpressureAction → DegradationAction → Option P → Option D → B) where
-  -- who is handed in by a turn that tells the number
-  publisher_here : (turn : Turn T P D) (later : List (Turn T P D)) (number : ℕ) → tells number (publisher_told turn.answer) ≡ true
-      → publisher_handed handled (turn ∷ later) number ≡ publisher_by handled turn.command turn.given
-  publisher_here turn later number is =
-      ap (λ (b : Bool). option_and_then (λ (one : Turn T P D). publisher_by handled one.command one.given)
-      (cond b (Some turn) (find (λ (one : Turn T P D). tells number (publisher_told one.answer)) later))) is
+  -- who is handed in where these answered so, before later turns
+  abbrev handed_before : HandledCommand T → List (Option (GivenHandler P D)) → List (Turn T P D) → Reply T → Handed B D
+  handed_before one given later answer = handed_in handled (record { command = one; answer = answer; given = given } ∷ later)
+
+  -- by a turn that tells the number
+  publisher_here : (one : HandledCommand T) (given : List (Option (GivenHandler P D))) (later : List (Turn T P D)) (number : ℕ)
+      → (handed_before one given later (reply.PublisherMade number)).publishers number ≡ publisher_by handled one given
+  publisher_here one given later number =
+      ap (λ (b : Bool). if b then publisher_by handled one given else (handed_in handled later).publishers number)
+      (eq-eqb number number refl)
+
+  subscriber_here : (one : HandledCommand T) (given : List (Option (GivenHandler P D))) (later : List (Turn T P D)) (number : ℕ)
+      → (handed_before one given later (reply.SubscriberMade number)).subscribers number ≡ subscriber_by one given
+  subscriber_here one given later number =
+      ap (λ (b : Bool). if b then subscriber_by one given else (handed_in handled later).subscribers number) (eq-eqb number number refl)
 
   -- nobody by one that doesn't
-  publisher_later : (turn : Turn T P D) (later : List (Turn T P D)) (number : ℕ) → tells number (publisher_told turn.answer) ≡ false
-      → publisher_handed handled (turn ∷ later) number ≡ publisher_handed handled later number
-  publisher_later turn later number is =
-      ap (λ (b : Bool). option_and_then (λ (one : Turn T P D). publisher_by handled one.command one.given)
-      (cond b (Some turn) (find (λ (one : Turn T P D). tells number (publisher_told one.answer)) later))) is
+  publisher_later : (one : HandledCommand T) (given : List (Option (GivenHandler P D))) (later : List (Turn T P D)) (answer : Reply T)
+      (made : Made) (number : ℕ) → IsNext made answer → (counted answer made).publishers < number
+      → (handed_before one given later answer).publishers number ≡ (handed_in handled later).publishers number
+  publisher_later one given later (reply.PublisherMade told) made number next above =
+      ap (λ (b : Bool). if b then publisher_by handled one given else (handed_in handled later).publishers number)
+      (not_told told made.publishers number next above)
+  publisher_later one given later other made number next above = refl
 
-module _ {T P D : Type 0} where
-  subscriber_here : (turn : Turn T P D) (later : List (Turn T P D)) (number : ℕ) → tells number (subscriber_told turn.answer) ≡ true
-      → subscriber_handed (turn ∷ later) number ≡ subscriber_by turn.command turn.given
-  subscriber_here turn later number is =
-      ap (λ (b : Bool). option_and_then (λ (one : Turn T P D). subscriber_by one.command one.given)
-      (cond b (Some turn) (find (λ (one : Turn T P D). tells number (subscriber_told one.answer)) later))) is
-
-  subscriber_later : (turn : Turn T P D) (later : List (Turn T P D)) (number : ℕ) → tells number (subscriber_told turn.answer) ≡ false
-      → subscriber_handed (turn ∷ later) number ≡ subscriber_handed later number
-  subscriber_later turn later number is =
-      ap (λ (b : Bool). option_and_then (λ (one : Turn T P D). subscriber_by one.command one.given)
-      (cond b (Some turn) (find (λ (one : Turn T P D). tells number (subscriber_told one.answer)) later))) is
+  subscriber_later : (one : HandledCommand T) (given : List (Option (GivenHandler P D))) (later : List (Turn T P D)) (answer : Reply T)
+      (made : Made) (number : ℕ) → IsNext made answer → (counted answer made).subscribers < number
+      → (handed_before one given later answer).subscribers number ≡ (handed_in handled later).subscribers number
+  subscriber_later one given later (reply.SubscriberMade told) made number next above =
+      ap (λ (b : Bool). if b then subscriber_by one given else (handed_in handled later).subscribers number)
+      (not_told told made.subscribers number next above)
+  subscriber_later one given later other made number next above = refl
 
 module _ {T B D P : Type 0}
     (handled : BackpressureStrategy → Option BackpressureAction → DegradationAction → Option P → Option D → B)
     (handed : Handed B D) where
   -- For each port that comes after these it is known who was handed in: who was in these turns.
   pub record AreKnown (all : List (Turn T P D)) (made : Made) : Type 0 where
-    pub publishers : (number : ℕ) → made.publishers < number → handed.publishers number ≡ publisher_handed handled all number
-    pub subscribers : (number : ℕ) → made.subscribers < number → handed.subscribers number ≡ subscriber_handed all number
+    pub publishers : (number : ℕ) → made.publishers < number → handed.publishers number ≡ (handed_in handled all).publishers number
+    pub subscribers : (number : ℕ) → made.subscribers < number → handed.subscribers number ≡ (handed_in handled all).subscribers number
 
   -- so it is after one turn
-  pub known_later : (turn : Turn T P D) (later : List (Turn T P D)) (made now : Made)
-      → GoesUp (publisher_told turn.answer) made.publishers now.publishers
-      → GoesUp (subscriber_told turn.answer) made.subscribers now.subscribers
-      → AreKnown (turn ∷ later) made → AreKnown later now
-  known_later turn later made now publishers subscribers known = record {
+  pub known_later : (one : HandledCommand T) (given : List (Option (GivenHandler P D))) (later : List (Turn T P D)) (answer : Reply T)
+      (made : Made) → IsNext made answer → AreKnown (record { command = one; answer = answer; given = given } ∷ later) made
+      → AreKnown later (counted answer made)
+  known_later one given later answer made next known = record {
     publishers = λ number above.
-        let more = goes_up (publisher_told turn.answer) made.publishers now.publishers publishers in
-        known.publishers number (omega (arith, more, above))
-        ∙ publisher_later handled turn later number
-        (not_told (publisher_told turn.answer) made.publishers now.publishers number publishers above);
+        let more = publishers_up made answer in
+        known.publishers number (omega (arith, more, above)) ∙ publisher_later handled one given later answer made number next above;
     subscribers = λ number above.
-        let more = goes_up (subscriber_told turn.answer) made.subscribers now.subscribers subscribers in
-        known.subscribers number (omega (arith, more, above))
-        ∙ subscriber_later turn later number
-        (not_told (subscriber_told turn.answer) made.subscribers now.subscribers number subscribers above);
+        let more = subscribers_up made answer in
+        known.subscribers number (omega (arith, more, above)) ∙ subscriber_later handled one given later answer made number next above;
   }
 
 module _ {T B D : Type 0} (is_default : T → Type 0)
@@ -197,8 +184,8 @@ module _ {T U B D P : Type 0} (types : MessageTypeDetails) (is_default : T → T
         let next = hub.made.publishers.next in
         let so = many.publishers in
         known.publishers next (omega (arith, so))
-        ∙ publisher_here handled (record { command = one; answer = answer; given = given }) later next
-        (ap (λ (it : Reply T). tells next (publisher_told it)) is ∙ eq-eqb next next refl)
+        ∙ (ap (λ (it : Reply T). (handed_before handled one given later it).publishers next) is
+        ∙ publisher_here handled one given later next)
 
     subscriber_known : answer ≡ reply.SubscriberMade hub.made.subscribers.next
         → handed.subscribers hub.made.subscribers.next ≡ subscriber_by one given
@@ -206,8 +193,8 @@ module _ {T U B D P : Type 0} (types : MessageTypeDetails) (is_default : T → T
         let next = hub.made.subscribers.next in
         let so = many.subscribers in
         known.subscribers next (omega (arith, so))
-        ∙ subscriber_here (record { command = one; answer = answer; given = given }) later next
-        (ap (λ (it : Reply T). tells next (subscriber_told it)) is ∙ eq-eqb next next refl)
+        ∙ (ap (λ (it : Reply T). (handed_before handled one given later it).subscribers next) is
+        ∙ subscriber_here handled one given later next)
 
   -- whoever decides for a port that comes by a command does as may be chosen
   pub comes_chosen : (one : HandledCommand T) (given : List (Option (GivenHandler P D))) (answer : Reply T) (later : List (Turn T P D))

@@ -38,9 +38,8 @@ use Rattle.iox_hub_machine.specs.GoingOnLaws.{ComesAsChosen, Decided, DecidedRun
 use Rattle.iox_hub_machine.specs.Ran.{StandsAfter}
 use Rattle.iox_hub_machine.specs.RunLaws.{AsksAmong, all_asked, steps_named}
 use Rattle.iox_hub_machine.specs.Standing.{AreAsMany}
-use Rattle.iox_hub.proofs.HandledChoices.{AreKnown, comes_chosen, known_later, publishers_up, subscribers_up}
+use Rattle.iox_hub.proofs.HandledChoices.{AreKnown, comes_chosen, known_later}
 use Rattle.iox_hub.proofs.HandledTurns.{PortsAreHere, fixed_by, handled_did, left_by_skipped, never_some, never_true, reader_by, same_some}
-use Rattle.iox_hub.specs.HandledLaws.{SkipsWithoutHandlers}
 use Rattle.iox_hub.specs.Steps.{HandledStep}
 use Rattle.iox_hub.specs.Turns.{Turn, answered_in, asked_in, finds_handlers, left_by_turn, turns, without_places}
 use Rattle.iox_hub.specs.declared.given.GivenHandler.{GivenHandler}
@@ -120,7 +119,7 @@ module _ {T U B D P : Type 0} (payload user_header : Detail) (types : MessageTyp
     pub few : later ≤ most
     pub runs : machine.Runs types choices buffer asked state answers after
     pub stands : Stands names later hub after
-    pub skips : SkipsWithoutHandlers all
+    pub skips : AllByRecursion (λ turn. finds_handlers turn.command turn.given ≡ false → turn.answer ≡ reply.Skipped) all
 
   module _ (on : DecidedRunsGoOn types choices degrades decides reader_degrades payload user_header is_default_header)
       (names : List (List ℕ)) (own : HaveOwnHashes names) where
@@ -154,8 +153,7 @@ module _ {T U B D P : Type 0} (payload user_header : Detail) (types : MessageTyp
     known_then turn later asked buffer state after step known =
         let passes : Passes state turn.answer after = step-passes types choices buffer asked state turn.answer after step in
         subst (λ (made : Made). AreKnown handled handed later made) (sym passes.made)
-        (known_later handled handed turn later state.made _ (publishers_up state.made turn.answer passes.next)
-        (subscribers_up state.made turn.answer passes.next) known)
+        (known_later handled handed turn.command turn.given later turn.answer state.made passes.next known)
 
     -- what is known where a command was skipped
     known_still : (one : HandledCommand T) (answer : Reply T) (given : List (Option (GivenHandler P D))) (later : List (Turn T P D))
@@ -163,7 +161,7 @@ module _ {T U B D P : Type 0} (payload user_header : Detail) (types : MessageTyp
         → AreKnown handled handed (record { command = one; answer = answer; given = given } ∷ later) made
         → AreKnown handled handed later made
     known_still one answer given later made told known =
-        known_later handled handed (record { command = one; answer = reply.Skipped; given = given }) later made made refl refl
+        known_later handled handed one given later reply.Skipped made tt
         (subst (λ (it : Reply T). AreKnown handled handed (record { command = one; answer = it; given = given } ∷ later) made) told known)
 
     abbrev pub Gone : ℕ → ℕ → List (Turn T P D) → State T → NumberedHub T U B D → Type 0

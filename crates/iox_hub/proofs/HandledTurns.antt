@@ -1,8 +1,9 @@
 -- What a command with handlers did: what the machine's command says, with who is handed in by it, or nothing.
-use Rattle.std.proofs.Common.{◌≡◌, ◌∙◌, ◌⊎◌, ◌++◌, ℕ, Bool, true, false, cond, List, [], ◌∷◌, Option, None, Some, Ok, refl, sym, ap}
+use Rattle.std.proofs.Common.{◌≡◌, ◌∙◌, ◌⊎◌, ◌++◌, ℕ, Bool, true, false, List, Option, None, Some, Ok, refl, sym, ap}
 use Rattle.std.proofs.Common.{subst, inl, inr}
-use Rattle.std.specs.Option.{option_flatten, unwrap_or}
-use Rattle.std.specs.Prelude.{fold, is_some, ◌&&◌}
+use Rattle.std.specs.Option.{option_and_then, option_flatten, option_map, option_map_or, unwrap_or}
+use Rattle.std.specs.Prelude.{fold, is_some, option_to_list, ◌&&◌}
+use Rattle.iox_hub_commands.specs.Command.declared.command.Command.{Command}
 use Rattle.iox_hub_commands.specs.Command.declared.port.PublisherOptions.{PublisherOptions}
 use Rattle.iox_hub_commands.specs.Command.declared.port.SubscriberOptions.{SubscriberOptions}
 use Rattle.iox_hub_commands.specs.Command.declared.reply.Reply.{Reply}
@@ -27,7 +28,7 @@ use Rattle.iox_hub_commands.specs.declared.numbered_hub.NumberedHub.{NumberedHub
 use Rattle.iox_hub.proofs.TakenRuns.{publisher_replied, subscriber_replied}
 use Rattle.iox_hub.specs.Places.{named, lies_at, backpressure_of, degradation_of, emptied, emptied_if}
 use Rattle.iox_hub.specs.Steps.{HandledStep, PublisherTakes, SubscriberTakes, ports_of_factory}
-use Rattle.iox_hub.specs.Taking.{is_skipped, listed}
+use Rattle.iox_hub.specs.Taking.{is_skipped, places_of}
 use Rattle.iox_hub.specs.Turns.{finds_handlers, left_by_turn, without_places}
 use Rattle.iox_hub.specs.declared.given.GivenHandler.{GivenHandler}
 use Rattle.iox_hub.specs.declared.handled_command.HandledCommand.{HandledCommand}
@@ -53,15 +54,36 @@ abbrev pub PortsAreHere : {T U B D : Type 0} → NumberedHub T U B D → Type 0
 PortsAreHere hub = (factory : ℕ) (opened : Opened) → publish_subscribe_in (value_at hub.factories.made factory) ≡ Some opened
     → is_some (hub_ports (domain_of_factory opened) hub.hub) ≡ true
 
+-- ---- handlers at places
+
+some_mapped : {H : Type 0} (found : Option H) → is_some found ≡ is_some (option_map (λ (handler : H). Some handler) found)
+some_mapped None = refl
+some_mapped (Some handler) = refl
+
+flat_mapped : {H : Type 0} (found : Option H) → found ≡ option_flatten (option_map (λ (handler : H). Some handler) found)
+flat_mapped None = refl
+flat_mapped (Some handler) = refl
+
+module _ {X H : Type 0} (kind : Option X → Option H) where
+  -- whether a handler lies at a place, if one is named
+  some_named : (named_at : Option ℕ) (given : List (Option X))
+      → option_map_or (λ place. is_some (kind (lies_at place given))) named_at true ≡ is_some (named kind named_at given)
+  some_named None given = refl
+  some_named (Some place) given = some_mapped (kind (lies_at place given))
+
+  -- the handler that lies there
+  flat_named : (named_at : Option ℕ) (given : List (Option X))
+      → option_and_then (λ place. kind (lies_at place given)) named_at ≡ option_flatten (named kind named_at given)
+  flat_named None given = refl
+  flat_named (Some place) given = flat_mapped (kind (lies_at place given))
+
 -- ---- what is left of handlers
 
-same_either : {X : Type 0} (b : Bool) (x : X) → x ≡ cond b x x
-same_either true x = refl
-same_either false x = refl
-
 module _ {T P D : Type 0} where
-  left_by_plain : (answer : Reply T) (given : List (Option (GivenHandler P D))) → given ≡ cond (is_skipped answer) given given
-  left_by_plain answer given = same_either (is_skipped answer) given
+  left_by_plain : (command : Command T) (answer : Reply T) (given : List (Option (GivenHandler P D)))
+      → given ≡ left_by_turn (asked.Plain command) answer given
+  left_by_plain command reply.Skipped given = refl
+  left_by_plain command other given = refl
 
   -- a command that is skipped takes nothing
   pub left_by_skipped : (one : HandledCommand T) (answer : Reply T) (given : List (Option (GivenHandler P D))) → answer ≡ reply.Skipped
@@ -69,15 +91,15 @@ module _ {T P D : Type 0} where
   left_by_skipped one answer given told = ap (λ (it : Reply T). left_by_turn one it given) told
 
   -- one that isn't takes what lies at its places
-  left_by_replied : (answer : Reply T) (given fewer : List (Option (GivenHandler P D))) (places : List ℕ)
-      → is_skipped answer ≡ false → fold (λ left place. emptied place left) given places ≡ fewer
-      → cond (is_skipped answer) given (fold (λ left place. emptied place left) given places) ≡ fewer
-  left_by_replied answer given fewer places told is =
-      ap (λ (b : Bool). cond b given (fold (λ left place. emptied place left) given places)) told ∙ is
+  left_by_replied : (one : HandledCommand T) (answer : Reply T) (given fewer : List (Option (GivenHandler P D)))
+      → is_skipped answer ≡ false → fold (λ left place. emptied place left) given (places_of one) ≡ fewer
+      → left_by_turn one answer given ≡ fewer
+  left_by_replied one reply.Skipped given fewer told is = never_true (sym told)
+  left_by_replied one other given fewer told is = is
 
 module _ {P D : Type 0} where
   both_emptied : (at_full at_failure : Option ℕ) (given : List (Option (GivenHandler P D)))
-      → fold (λ left place. emptied place left) given (listed at_full ++ listed at_failure)
+      → fold (λ left place. emptied place left) given (option_to_list at_full ++ option_to_list at_failure)
       ≡ emptied_if at_failure (emptied_if at_full given)
   both_emptied None None given = refl
   both_emptied None (Some failure) given = refl
@@ -90,8 +112,8 @@ module _ {T B D P : Type 0} (fixed : BackpressureStrategy → Option Backpressur
   abbrev pub fixed_by : HandledCommand T → List (Option (GivenHandler P D))
       → BackpressureStrategy → Option BackpressureAction → DegradationAction → B
   fixed_by (asked.Publisher factory options at_full at_failure) given = λ strategy action degrading.
-      handled strategy action degrading (option_flatten (named (λ lies. backpressure_of lies) at_full given))
-      (option_flatten (named (λ lies. degradation_of lies) at_failure given))
+      handled strategy action degrading (option_and_then (λ place. backpressure_of (lies_at place given)) at_full)
+      (option_and_then (λ place. degradation_of (lies_at place given)) at_failure)
   fixed_by other given = fixed
 
 module _ {T P D : Type 0} (fixed_reader : DegradationAction → D) where
@@ -143,6 +165,15 @@ module _ {T U B D P : Type 0} (payload user_header : Detail) (types : MessageTyp
   abbrev failing_at : Option ℕ → List (Option (GivenHandler P D)) → Option (Option D)
   failing_at place given = named (λ lies. degradation_of lies) place given
 
+  found_so : (at_full at_failure : Option ℕ) (given : List (Option (GivenHandler P D)))
+      → (option_map_or (λ place. is_some (backpressure_of (lies_at place given))) at_full true
+      && option_map_or (λ place. is_some (degradation_of (lies_at place given))) at_failure true)
+      ≡ (is_some (full_at at_full given) && is_some (failing_at at_failure given))
+  found_so at_full at_failure given =
+      ap (λ (b : Bool). b && option_map_or (λ place. is_some (degradation_of (lies_at place given))) at_failure true)
+      (some_named (λ lies. backpressure_of lies) at_full given)
+      ∙ ap (λ (b : Bool). is_some (full_at at_full given) && b) (some_named (λ lies. degradation_of lies) at_failure given)
+
   -- whether both lie there
   both_found : (at_full at_failure : Option ℕ) (full : Option P) (failing : Option (Option D)) (given : List (Option (GivenHandler P D)))
       → full_at at_full given ≡ Some full → failing_at at_failure given ≡ failing
@@ -158,14 +189,17 @@ module _ {T U B D P : Type 0} (payload user_header : Detail) (types : MessageTyp
       → MakesPublisher is_default_header (λ strategy action degrading. handled strategy action degrading full failing) degrades factory
       options old answer new
       → MakesPublisher is_default_header (λ strategy action degrading. handled strategy action degrading
-      (option_flatten (full_at at_full given)) (option_flatten (failing_at at_failure given))) degrades factory options old answer new
+      (option_and_then (λ place. backpressure_of (lies_at place given)) at_full)
+      (option_and_then (λ place. degradation_of (lies_at place given)) at_failure)) degrades factory options old answer new
   found_both at_full at_failure full failing factory options given old new answer is_full is_failing makes =
-      subst (λ (found : Option (Option P)). MakesPublisher is_default_header
-      (λ strategy action degrading. handled strategy action degrading (option_flatten found)
-      (option_flatten (failing_at at_failure given))) degrades factory options old answer new) (sym is_full)
-      (subst (λ (found : Option (Option D)). MakesPublisher is_default_header
-      (λ strategy action degrading. handled strategy action degrading full (option_flatten found)) degrades factory options old answer
-      new) (sym is_failing) makes)
+      subst (λ (found : Option P). MakesPublisher is_default_header
+      (λ strategy action degrading. handled strategy action degrading found
+      (option_and_then (λ place. degradation_of (lies_at place given)) at_failure)) degrades factory options old answer new)
+      (sym (flat_named (λ lies. backpressure_of lies) at_full given ∙ ap (λ (found : Option (Option P)). option_flatten found) is_full))
+      (subst (λ (found : Option D). MakesPublisher is_default_header
+      (λ strategy action degrading. handled strategy action degrading full found) degrades factory options old answer new)
+      (sym (flat_named (λ lies. degradation_of lies) at_failure given
+      ∙ ap (λ (found : Option (Option D)). option_flatten found) is_failing)) makes)
 
   publisher_did : (at_full at_failure : Option ℕ) (full : Option (Option P)) (failing : Option (Option D))
       (ports : Option (ServicePorts T U)) (factory : ℕ) (options : PublisherOptions)
@@ -176,19 +210,20 @@ module _ {T U B D P : Type 0} (payload user_header : Detail) (types : MessageTyp
       (emptied_if at_failure (emptied_if at_full old.1)) old answer new
       → Did (asked.Publisher factory options at_full at_failure) old answer new
   publisher_did at_full at_failure None failing ports factory options old new answer here is_full is_failing there takes = inr (record {
-    lacks = ap (λ (found : Option (Option P)). is_some found && is_some (failing_at at_failure old.1)) is_full;
+    lacks = found_so at_full at_failure old.1
+        ∙ ap (λ (found : Option (Option P)). is_some found && is_some (failing_at at_failure old.1)) is_full;
     told = takes.0;
     same = takes.1;
   })
   publisher_did at_full at_failure (Some full) None ports factory options old new answer here is_full is_failing there takes =
       inr (record {
-        lacks = both_found at_full at_failure full None old.1 is_full is_failing;
+        lacks = found_so at_full at_failure old.1 ∙ both_found at_full at_failure full None old.1 is_full is_failing;
         told = takes.0;
         same = takes.1;
       })
   publisher_did at_full at_failure (Some full) (Some failing) None factory options old new answer here is_full is_failing there takes =
       inl (record {
-        finds = both_found at_full at_failure full (Some failing) old.1 is_full is_failing;
+        finds = found_so at_full at_failure old.1 ∙ both_found at_full at_failure full (Some failing) old.1 is_full is_failing;
         step = unknown_publisher (fixed_by {T = T} fixed handled (asked.Publisher factory options at_full at_failure) old.1) _ options
             old.0 new.0 answer there (λ one is. here factory one is) takes.0
             (ap (λ (state : NumberedHub T U B D × List (Option (GivenHandler P D))). state.0) takes.1);
@@ -197,11 +232,11 @@ module _ {T U B D P : Type 0} (payload user_header : Detail) (types : MessageTyp
       })
   publisher_did at_full at_failure (Some full) (Some failing) (Some ports) factory options old new answer here is_full is_failing there
       takes = inl (record {
-        finds = both_found at_full at_failure full (Some failing) old.1 is_full is_failing;
+        finds = found_so at_full at_failure old.1 ∙ both_found at_full at_failure full (Some failing) old.1 is_full is_failing;
         step = found_both at_full at_failure full failing factory options old.1 old.0 new.0 answer is_full is_failing takes.0;
         left = takes.1
-            ∙ sym (left_by_replied answer old.1
-            (emptied_if at_failure (emptied_if at_full old.1)) (listed at_full ++ listed at_failure)
+            ∙ sym (left_by_replied (asked.Publisher factory options at_full at_failure) answer old.1
+            (emptied_if at_failure (emptied_if at_full old.1))
             (publisher_replied is_default_header (λ strategy action degrading. handled strategy action degrading full failing) degrades _
             options old.0 new.0 answer ports there takes.0) (both_emptied at_full at_failure old.1));
       })
@@ -240,7 +275,7 @@ module _ {T U B D P : Type 0} (payload user_header : Detail) (types : MessageTyp
     step = subst (λ (found : Option D). MakesSubscriber (λ action. unwrap_or found (fixed_reader action)) reader_degrades factory options
         old.0 answer new.0) (sym is_found) takes.0;
     left = takes.1
-        ∙ sym (left_by_replied answer old.1 (emptied at_failure old.1) (at_failure ∷ [])
+        ∙ sym (left_by_replied (asked.Subscriber factory options at_failure) answer old.1 (emptied at_failure old.1)
         (subscriber_replied (λ action. handler) reader_degrades _ options old.0 new.0 answer ports there takes.0) refl);
   })
 
@@ -252,7 +287,7 @@ module _ {T U B D P : Type 0} (payload user_header : Detail) (types : MessageTyp
       one old (Ok answer) new
       → Did one old answer new
   handled_did (asked.Plain command) old new answer here step =
-      inl (record { finds = refl; step = step.0; left = step.1 ∙ left_by_plain answer old.1 })
+      inl (record { finds = refl; step = step.0; left = step.1 ∙ left_by_plain command answer old.1 })
   handled_did (asked.Publisher factory options at_full at_failure) old new answer here step =
       publisher_did at_full at_failure _ _ _ factory options old new answer here refl refl refl step
   handled_did (asked.Subscriber factory options at_failure) old new answer here step =

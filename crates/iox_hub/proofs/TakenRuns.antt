@@ -3,7 +3,7 @@ use Rattle.std.proofs.Common.{◌≡◌, ◌∙◌, ◌++◌, ℕ, Bool, true, f
 use Rattle.std.proofs.Common.{subst, inl, inr}
 use Rattle.std.proofs.lemmas.List.{append-nil}
 use Rattle.std.specs.declared.alloc.AllocError.{AllocError}
-use Rattle.std.specs.Prelude.{is_some, if◌then◌else◌}
+use Rattle.std.specs.Prelude.{is_some, option_to_list, if◌then◌else◌}
 use Rattle.iox_hub_commands.specs.Command.declared.port.PublisherOptions.{PublisherOptions}
 use Rattle.iox_hub_commands.specs.Command.declared.port.SubscriberOptions.{SubscriberOptions}
 use Rattle.iox_hub_commands.specs.Command.declared.reply.Reply.{Reply}
@@ -34,7 +34,7 @@ use Rattle.iox_hub_commands.specs.Services.{PublisherComes, SubscriberComes, dom
 use Rattle.iox_hub_commands.specs.declared.numbered_hub.NumberedHub.{NumberedHub}
 use Rattle.iox_hub.specs.Places.{named, lies_at, backpressure_of, degradation_of, emptied, emptied_if}
 use Rattle.iox_hub.specs.Steps.{HandledStep, PublisherTakes, SubscriberTakes, ports_of_factory}
-use Rattle.iox_hub.specs.Taking.{is_skipped, listed, places_of, taken, TakesOnce}
+use Rattle.iox_hub.specs.Taking.{is_skipped, places_of, taken, TakesOnce}
 use Rattle.iox_hub.specs.declared.given.GivenHandler.{GivenHandler}
 use Rattle.iox_hub.specs.declared.handled_command.HandledCommand.{HandledCommand}
 use Rattle.iox_hub.specs.declared.handled_command.HandledCommand.TheVariants as asked
@@ -99,22 +99,23 @@ module _ {T U B D : Type 0} where
 
 module _ {P D : Type 0} where
   full_taken : (at_full : Option ℕ) (given : List (Option (GivenHandler P D)))
-      → is_some (named (λ lies. backpressure_of lies) at_full given) ≡ true → TakesOnce (listed at_full) given (emptied_if at_full given)
+      → is_some (named (λ lies. backpressure_of lies) at_full given) ≡ true
+      → TakesOnce (option_to_list at_full) given (emptied_if at_full given)
   full_taken None given lies = none_taken given given refl
   full_taken (Some place) given lies = one_taken place given (backpressure_lies (lies_at place given) lies)
 
   failure_taken : (at_failure : Option ℕ) (given : List (Option (GivenHandler P D)))
       → is_some (named (λ lies. degradation_of lies) at_failure given) ≡ true
-      → TakesOnce (listed at_failure) given (emptied_if at_failure given)
+      → TakesOnce (option_to_list at_failure) given (emptied_if at_failure given)
   failure_taken None given lies = none_taken given given refl
   failure_taken (Some place) given lies = one_taken place given (degradation_lies (lies_at place given) lies)
 
   both_taken : (at_full at_failure : Option ℕ) (given : List (Option (GivenHandler P D)))
       → is_some (named (λ lies. backpressure_of lies) at_full given) ≡ true
       → is_some (named (λ lies. degradation_of lies) at_failure given) ≡ true
-      → TakesOnce (listed at_full ++ listed at_failure) given (emptied_if at_failure (emptied_if at_full given))
+      → TakesOnce (option_to_list at_full ++ option_to_list at_failure) given (emptied_if at_failure (emptied_if at_full given))
   both_taken at_full at_failure given full failing =
-      taken_then (listed at_full) (listed at_failure) given (emptied_if at_full given)
+      taken_then (option_to_list at_full) (option_to_list at_failure) given (emptied_if at_full given)
       (emptied_if at_failure (emptied_if at_full given)) (full_taken at_full given full)
       (failure_taken at_failure (emptied_if at_full given)
       (ap (λ (o : Option (Option D)). is_some o) (other_kind_stays at_full at_failure given full) ∙ failing))
@@ -155,7 +156,7 @@ module _ {T U B D P : Type 0} (payload user_header : Detail) (types : MessageTyp
       → ports_of_factory (publish_subscribe_in (value_at old.0.factories.made factory)) old.0.hub ≡ ports
       → PublisherTakes is_default_header handled degrades full failing ports factory options
       (emptied_if at_failure (emptied_if at_full old.1)) old answer new
-      → TakesOnce (if is_skipped answer then [] else (listed at_full ++ listed at_failure)) old.1 new.1
+      → TakesOnce (if is_skipped answer then [] else (option_to_list at_full ++ option_to_list at_failure)) old.1 new.1
   publisher_once at_full at_failure None failing ports factory options old new answer is_full is_failing there takes
       = skipped_takes _ old new answer (ap (λ (reply : Reply T). is_skipped reply) takes.0) takes.1
   publisher_once at_full at_failure (Some full) None ports factory options old new answer is_full is_failing there takes
@@ -163,7 +164,7 @@ module _ {T U B D P : Type 0} (payload user_header : Detail) (types : MessageTyp
   publisher_once at_full at_failure (Some full) (Some failing) None factory options old new answer is_full is_failing there takes
       = skipped_takes _ old new answer (ap (λ (reply : Reply T). is_skipped reply) takes.0) takes.1
   publisher_once at_full at_failure (Some full) (Some failing) (Some ports) factory options old new answer is_full is_failing there takes =
-      replied_takes (listed at_full ++ listed at_failure) old new answer (emptied_if at_failure (emptied_if at_full old.1))
+      replied_takes (option_to_list at_full ++ option_to_list at_failure) old new answer (emptied_if at_failure (emptied_if at_full old.1))
       (publisher_replied is_default_header (λ strategy action degrading. handled strategy action degrading full failing) degrades _
       options old.0 new.0 answer ports there takes.0) takes.1
       (both_taken at_full at_failure old.1 (ap (λ (o : Option (Option P)). is_some o) is_full)

@@ -1,5 +1,5 @@
 -- What a run with handlers comes to, in the words of the machine of `iox_machine`.
-use Rattle.std.specs.Prelude.{ℕ, ◌≡◌, ◌^◌, ◌<◌, Bool, true, false, List, length, map, Option, Result}
+use Rattle.std.specs.Prelude.{ℕ, ◌≡◌, ◌^◌, ◌<◌, Bool, true, false, List, length, map, Option, Result, ◌++◌, drop}
 use Rattle.std.specs.List.{AllByRecursion}
 use Rattle.std.specs.declared.alloc.AllocError.{AllocError}
 use Rattle.iox_hub_commands.specs.Command.declared.reply.Reply.{Reply}
@@ -25,17 +25,13 @@ use Rattle.iox_hub_machine.specs.ArrivalLaws.{AnswersAsFixed, DecidesAsFixed}
 use Rattle.iox_hub_machine.specs.RunLaws.{all_asked, names_in}
 use Rattle.iox_hub_machine.specs.Services.{HubStandsFor}
 use Rattle.iox_hub.specs.Room.{StopsInTime}
-use Rattle.iox_hub.specs.Turns.{Turn, answered_in, asked_in, asked_of_machine, finds_handlers, handed_of, turns, without_places}
+use Rattle.iox_hub.specs.Turns.{answered_in, asked_in, finds_handlers, handed_in, turns, without_places}
 use Rattle.iox_hub.specs.declared.given.GivenHandler.{GivenHandler}
 use Rattle.iox_hub.specs.declared.handled_command.HandledCommand.{HandledCommand}
 use Rattle.iox_machine.specs.Choices.{chosen_by}
 use Rattle.iox_machine.specs.Run as machine
 use Rattle.iox_machine.specs.State.{State, new_state}
 use Rattle.iox_negotiate_machine.specs.Laws.{HaveOwnHashes}
-
--- A command that doesn't find a handler that it names is skipped.
-abbrev pub SkipsWithoutHandlers : {T P D : Type 0} → List (Turn T P D) → Type 0
-SkipsWithoutHandlers all = AllByRecursion (λ turn. finds_handlers turn.command turn.given ≡ false → turn.answer ≡ reply.Skipped) all
 
 -- The types are those of the messages; then what is a default value, who decides by fixed actions, who by handlers that are handed in, and
 -- what anybody who decides may answer.
@@ -54,12 +50,14 @@ module _ {T U B D P : Type 0} (types : MessageTypeDetails) (is_default : T → T
   abbrev pub AnswersWithHandlers : HubConfig → List (HandledCommand T) → NumberedHub T U B D → List (Option (GivenHandler P D))
       → List (Reply T) → Bool → Type 0
   AnswersWithHandlers config commands old given replies stopped =
+      let plain = map (λ command. without_places command) commands in
+      let left = map (λ command. without_places command) (drop (length replies) commands) in
+      let all = turns commands replies given in
       DecidesAsFixed fixed degrades decides → AnswersAsFixed fixed_reader reader_degrades
-      → IsNew config old → HaveOwnHashes (names_in (map (λ command. without_places command) commands))
-      → all_asked (map (λ command. without_places command) commands) < 2 ^ 56
-      → machine.Answers types (chosen_by is_default decides degrades reader_degrades (handed_of handled commands replies given))
-      config.expired_connection_buffer (asked_of_machine commands replies given) stopped (answered_in (turns commands replies given))
-      × SkipsWithoutHandlers (turns commands replies given)
+      → IsNew config old → HaveOwnHashes (names_in plain) → all_asked plain < 2 ^ 56
+      → machine.Answers types (chosen_by is_default decides degrades reader_degrades (handed_in handled all))
+      config.expired_connection_buffer (asked_in all ++ left) stopped (answered_in all)
+      × AllByRecursion (λ turn. finds_handlers turn.command turn.given ≡ false → turn.answer ≡ reply.Skipped) all
 
   -- So it is of each run that stops only where it may.
   abbrev pub HandledRunsAnswer : (HandledCommand T → NumberedHub T U B D × List (Option (GivenHandler P D)) → Result (Reply T) AllocError
@@ -76,11 +74,11 @@ module _ {T U B D P : Type 0} (types : MessageTypeDetails) (is_default : T → T
       → List (Reply T) → Type 0
   StandsWithHandlers config commands given new replies =
       (taken : MessagingPattern → List ℕ → List ℕ) × (naming : ℕ → Naming) × (order : List (ℕ × ServicePorts T U)) × (after : State T)
-      × machine.Runs types (chosen_by is_default decides degrades reader_degrades (handed_of handled commands replies given))
+      × machine.Runs types (chosen_by is_default decides degrades reader_degrades (handed_in handled (turns commands replies given)))
       config.expired_connection_buffer (asked_in (turns commands replies given)) new_state
       (answered_in (turns commands replies given)) after
-      × HubStandsFor (chosen_by is_default decides degrades reader_degrades (handed_of handled commands replies given)) degrades decides
-      reader_degrades (names_in (map (λ command. without_places command) commands)) taken naming order new after
+      × HubStandsFor (chosen_by is_default decides degrades reader_degrades (handed_in handled (turns commands replies given)))
+      degrades decides reader_degrades (names_in (map (λ command. without_places command) commands)) taken naming order new after
 
   -- So it is with each run to its end, by the same premises.
   abbrev pub HandledRunsStand : (HandledCommand T → NumberedHub T U B D × List (Option (GivenHandler P D)) → Result (Reply T) AllocError

@@ -1,5 +1,6 @@
 -- Which handlers are taken.
-use Rattle.std.specs.Prelude.{ℕ, ◌≡◌, ◌⊎◌, Bool, true, false, if◌then◌else◌, List, [], ◌∷◌, ◌++◌, length, Option, None, Some, IsSome}
+use Rattle.std.specs.Prelude.{ℕ, ◌≡◌, ◌⊎◌, Bool, true, false, if◌then◌else◌, List, [], ◌∷◌, ◌++◌, length, Option, None, IsSome}
+use Rattle.std.specs.Prelude.{option_to_list}
 use Rattle.iox_hub_commands.specs.Command.declared.reply.Reply.{Reply}
 use Rattle.iox_hub_commands.specs.Command.declared.reply.Reply.TheVariants as reply
 use Rattle.iox_hub.specs.Places.{lies_at}
@@ -9,30 +10,12 @@ use Rattle.iox_hub.specs.declared.handled_command.HandledCommand.TheVariants as 
 -- whether a command was skipped
 abbrev pub is_skipped : {T : Type 0} → Reply T → Bool
 is_skipped reply.Skipped = true
-is_skipped (reply.NodeMade number) = false
-is_skipped (reply.FactoryMade number) = false
-is_skipped (reply.PublisherMade number) = false
-is_skipped (reply.SubscriberMade number) = false
-is_skipped (reply.LoanMade number) = false
-is_skipped reply.Done = false
-is_skipped (reply.Delivered count) = false
-is_skipped reply.Blocked = false
-is_skipped (reply.Received sample values) = false
-is_skipped reply.NothingWaits = false
-is_skipped (reply.Values values) = false
-is_skipped (reply.Sequence number) = false
-is_skipped (reply.Has is) = false
-is_skipped (reply.Refused why) = false
-
--- the place, if one is named
-abbrev pub listed : Option ℕ → List ℕ
-listed None = []
-listed (Some place) = place ∷ []
+is_skipped other = false
 
 -- the places that a command names
 abbrev pub places_of : {T : Type 0} → HandledCommand T → List ℕ
 places_of (asked.Plain command) = []
-places_of (asked.Publisher factory options at_full at_failure) = listed at_full ++ listed at_failure
+places_of (asked.Publisher factory options at_full at_failure) = option_to_list at_full ++ option_to_list at_failure
 places_of (asked.Subscriber factory options at_failure) = at_failure ∷ []
 
 -- the places that the commands name which are replied to, and not skipped

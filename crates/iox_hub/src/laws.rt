@@ -32,7 +32,7 @@ pub fn plain_commands_take_nothing<
 
 /// What a new hub replies to commands with handlers is what a new machine may answer: to all commands, or, where the run stopped, to the
 /// first of them, where a run may stop. Of each port the machine knows by its number who was handed in for it, as the replies tell
-/// (`handed_of`). A command that doesn't find a handler that it names is skipped, and the machine isn't asked it. `IsRun` and `StopsInTime`
+/// (`handed_in`). A command that doesn't find a handler that it names is skipped, and the machine isn't asked it. `IsRun` and `StopsInTime`
 /// are what `run` says of its replies. No two services of the names that are asked for may share a hash, commands and steps must be fewer
 /// than 2 ^ 56, and whoever is made of fixed actions for a port must decide by these, as `FixedHandlers` and `FixedDegradation` do.
 pub fn runs_with_handlers_answer<

@@ -1,5 +1,7 @@
 //! A hub.
-ghost use Rattle.std.specs.Prelude.{◌≡◌, ◌-◌, ◌^◌, Ok, min, nat_eq};
+ghost use Rattle.std.specs.Prelude.{◌≡◌, ◌-◌, ◌^◌, Ok, min, nat_eq, not, is_some};
+ghost use Rattle.iox_delivery_factories.specs.DescribeBase.Hash.{service_hash_of};
+ghost use Rattle.iox_negotiate_table.specs.Contents.{entry_at};
 ghost use Rattle.iox_hub_base.specs.Hubs.{IsNewHub, one_more, is_node};
 ghost use Rattle.iox_hub_base.specs.Room.{loans_left_in, samples_at_most_in};
 
@@ -7,11 +9,11 @@ use crate::factory::PortFactory;
 use crate::node::NodeHandle;
 use crate::{Kept, Services};
 use iox_command::HubError;
-use iox_describe::ServiceName;
 use iox_describe::pattern::Pattern;
+use iox_describe::{MessagingPattern, ServiceName, service_hash};
 use iox_domain_values::{DegradationHandler, Handlers};
 use iox_negotiate::Builder;
-use iox_negotiate_base::Storage;
+use iox_negotiate_base::{LookAnswer, Storage};
 use iox_negotiate_table::Table;
 use std::alloc::Global;
 
@@ -118,6 +120,21 @@ impl<T: Copy, U: Copy, B: Drop, D: Drop> Hub<T, U, B, D> {
         ensures { result ≡ nat_eq factory.now.service.membership.storage self.now.table.id }
     {
         factory.service.storage() == self.id()
+    }
+
+    /// Whether nothing lies under the hash of a pattern and a name: no service of them stands, and no node has locked it to create one.
+    /// Nothing changes. It takes memory only where a service stands.
+    ///
+    /// This port's own.
+    /// Example: `let is_absent = hub.is_absent(MessagingPattern::Event, &name);`
+    pub fn is_absent(&mut self, pattern: MessagingPattern, name: &ServiceName) -> bool
+        ensures absent { result ≡ not (is_some (entry_at (service_hash_of pattern name.now) self.old.table)) }
+        ensures same { self.new ≡ self.old }
+    {
+        match self.table.look(&service_hash(pattern, name)) {
+            LookAnswer::Absent => true,
+            _ => false,
+        }
     }
 
     /// How many loans the publishers of all domains that are here may still make, beside those that are out. Past 2^64 - 1 it is that.

@@ -1,5 +1,5 @@
 -- By no command room for numbers of loans and samples goes, and what a hub with more room is.
-use Rattle.std.proofs.Common.{arith, ◌≡◌, ◌∙◌, sym, subst, ◌≤◌, ℕ, Bool, true, false, List, ◌∷◌, ◌++◌, length, Option, None, Some, Result}
+use Rattle.std.proofs.Common.{arith, ◌≡◌, ◌∙◌, sym, ◌≤◌, ℕ, Bool, true, false, List, [], ◌∷◌, ◌++◌, length, Option, None, Some, Result}
 use Rattle.std.proofs.Common.{Ok, Err, refl, ap}
 use Rattle.std.proofs.Math.Seq.{get_or-append_seam}
 use Rattle.std.proofs.lemmas.List.{length-append}
@@ -39,10 +39,9 @@ use Rattle.iox_hub_commands.specs.Lending.{LoanStep, LoanUninitStep, lent_reply}
 use Rattle.iox_hub_commands.specs.Receiving.{ReceiveStep}
 use Rattle.iox_hub_base.specs.Opening.{Made as Opened}
 use Rattle.iox_delivery.specs.Container.NumberTable.{NumberTable, Rises, value_at}
-use Rattle.iox_hub_base.specs.Hubs.{IsNewHub}
 use Rattle.iox_hub_base.specs.declared.hub.HubConfig.{HubConfig}
 use Rattle.iox_hub_commands.specs.Lives.{NumbersRise}
-use Rattle.iox_hub_commands.specs.Numbers.{HasNone, IsNew}
+use Rattle.iox_hub_commands.specs.Numbers.{IsNew}
 use Rattle.iox_hub_commands.specs.PortRoom.{LacksInRoom}
 use Rattle.iox_hub_commands.specs.Room.{RepliesValues, OnlyRoomier}
 use Rattle.iox_hub_commands.specs.Services.{PublisherComes, SubscriberComes, domain_of_factory}
@@ -167,7 +166,7 @@ lacking_is_full is_full call made after old new lacking (Ok lent) is grows = cc 
 lacking_is_full is_full call made after old new lacking (Err wanting) is (so, same, here) = so
 
 -- the numbers of a table with none rise
-none_rise : {V : Type 0} (table : NumberTable V) → HasNone table → Rises 1 table.entries table.next
+none_rise : {V : Type 0} (table : NumberTable V) → (table.entries ≡ []) × (table.next ≡ 1) → Rises 1 table.entries table.next
 none_rise table (none, one) = rw (none, one) (omega arith)
 
 module _ {T U B D : Type 0} where
@@ -297,21 +296,27 @@ module _ {T U B D : Type 0} where
   pub still_new : (config : HubConfig) (old roomier : NumberedHub T U B D) → OnlyRoomier old roomier → IsNew config old
       → IsNew config roomier
   still_new config old roomier (((p, p_next, p_room), (s, s_next, s_room), (l, l_next, l_room), (m, m_next, m_room)), same) is = record {
-    hub_is_new = subst (λ hub. IsNewHub config hub) (sym (ap (λ hub. hub.hub) same)) is.hub_is_new;
+    expired_connection_buffer = ap (λ hub. hub.hub.expired_connection_buffer) same ∙ is.expired_connection_buffer;
+    nodes = ap (λ hub. hub.hub.nodes) same ∙ is.nodes;
+    factories = ap (λ hub. hub.hub.factories) same ∙ is.factories;
+    table = ap (λ hub. hub.hub.table) same ∙ is.table;
+    factory_counts = ap (λ hub. hub.hub.factory_counts) same ∙ is.factory_counts;
+    services = ap (λ hub. hub.hub.services) same ∙ is.services;
     no_factory = ap (λ hub. hub.factories.made) same ∙ is.no_factory;
-    nothing_made = let ((q, q_next), (r, r_next), (k, k_next), (n, n_next))
-        = is.nothing_made in ((p ∙ q, p_next ∙ q_next), (s ∙ r, s_next ∙ r_next), (l ∙ k, l_next ∙ k_next), (m ∙ n, m_next ∙ n_next));
+    publishers = (p ∙ is.publishers.0, p_next ∙ is.publishers.1);
+    subscribers = (s ∙ is.subscribers.0, s_next ∙ is.subscribers.1);
+    loans = (l ∙ is.loans.0, l_next ∙ is.loans.1);
+    samples = (m ∙ is.samples.0, m_next ∙ is.samples.1);
   }
 
   -- the numbers of a new hub rise
   pub new_rises : (config : HubConfig) (hub : NumberedHub T U B D) → IsNew config hub → NumbersRise hub
-  new_rises config hub is = let (publishers, subscribers, loans, samples) = is.nothing_made in (
+  new_rises config hub is = (
     rw is.no_factory (omega arith),
-    none_rise hub.made.publishers publishers,
-    none_rise hub.made.subscribers subscribers,
-    none_rise
-        hub.made.loans loans,
-    none_rise hub.made.samples samples,
+    none_rise hub.made.publishers is.publishers,
+    none_rise hub.made.subscribers is.subscribers,
+    none_rise hub.made.loans is.loans,
+    none_rise hub.made.samples is.samples,
   )
 
 -- what stands behind a list

@@ -7,7 +7,6 @@ use Rattle.iox_command.specs.declared.service.NumberOrOff.TheVariants.{Number, O
 use Rattle.iox_command.specs.declared.service.PublishSubscribeOptions.{PublishSubscribeOptions}
 use Rattle.iox_command.specs.declared.service.RequestResponseOptions.{RequestResponseOptions}
 use Rattle.iox_negotiate_table.specs.DescribeBase.Attributes.{required}
-use Rattle.iox_negotiate_table.specs.DescribeBase.Detail.{detail}
 use Rattle.iox_negotiate_table.specs.DescribeBase.declared.message_type.MessageTypeDetails.{MessageTypeDetails}
 use Rattle.iox_negotiate_table.specs.DescribeBase.declared.type_detail.TypeVariant.TheVariants.{FixedSize, Dynamic}
 use Rattle.iox_negotiate_table.specs.DescribeVerdict.declared.requirement.event.Requirement.{Requirement as EventRequirement}
@@ -17,9 +16,9 @@ use Rattle.iox_negotiate_table.specs.DescribeVerdict.declared.requirement.reques
 -- messages that carry slices of values of this name, size and alignment, with a user header of this name, size and alignment
 abbrev pub types_of : List ℕ → ℕ → ℕ → List ℕ → ℕ → ℕ → MessageTypeDetails
 types_of name size alignment header_name header_size header_alignment = record {
-  header = detail FixedSize (codes "Header") 24 8;
-  user_header = detail FixedSize header_name header_size header_alignment;
-  payload = detail Dynamic name size alignment;
+  header = record { variant = FixedSize; name = codes "Header"; size = 24; alignment = 8 };
+  user_header = record { variant = FixedSize; name = header_name; size = header_size; alignment = header_alignment };
+  payload = record { variant = Dynamic; name = name; size = size; alignment = alignment };
 }
 
 -- what a setting that may be off is to be: a number, or none

@@ -1,25 +1,22 @@
 -- How many numbers were given out.
 use Rattle.std.specs.Prelude.{ℕ, ◌≡◌, ◌+◌, []}
-use Rattle.iox_hub_base.specs.Hubs.{IsNewHub}
 use Rattle.iox_hub_base.specs.declared.hub.HubConfig.{HubConfig}
-use Rattle.iox_delivery.specs.Container.NumberTable.{NumberTable}
-use Rattle.iox_hub_commands.specs.ServicesTables.{no_factories}
-use Rattle.iox_hub_commands.specs.declared.ports.made.Made.{Made}
 use Rattle.iox_hub_commands.specs.declared.numbered_hub.NumberedHub.{NumberedHub}
 
--- No value stands in a table, and its first number is 1; there may be room for some.
-abbrev pub HasNone : {V : Type 0} → NumberTable V → Type 0
-HasNone table = (table.entries ≡ []) × (table.next ≡ 1)
-
--- No port, loan or sample was made.
-abbrev pub MadeNone : Made → Type 0
-MadeNone made = HasNone made.publishers × HasNone made.subscribers × HasNone made.loans × HasNone made.samples
-
--- A hub in which nothing was made.
+-- A hub in which nothing was made: no node, no factory, nothing in its table of services, no domain, no port, no loan and no sample. The
+-- first number of each kind will be 1, and there may be room for numbers of ports, loans and samples.
 pub record IsNew {T U B D : Type 0} (config : HubConfig) (hub : NumberedHub T U B D) : Type 0 where
-  pub hub_is_new : IsNewHub config hub.hub
-  pub no_factory : hub.factories.made ≡ no_factories
-  pub nothing_made : MadeNone hub.made
+  pub expired_connection_buffer : hub.hub.expired_connection_buffer ≡ config.expired_connection_buffer
+  pub nodes : hub.hub.nodes ≡ 0
+  pub factories : hub.hub.factories ≡ 0
+  pub table : hub.hub.table ≡ record { id = config.id; next = 1; entries = []; segments = [] }
+  pub factory_counts : hub.hub.factory_counts ≡ []
+  pub services : hub.hub.services ≡ record { hub = config.id; domains = [] }
+  pub no_factory : hub.factories.made ≡ record { entries = []; next = 1; room = 0 }
+  pub publishers : (hub.made.publishers.entries ≡ []) × (hub.made.publishers.next ≡ 1)
+  pub subscribers : (hub.made.subscribers.entries ≡ []) × (hub.made.subscribers.next ≡ 1)
+  pub loans : (hub.made.loans.entries ≡ []) × (hub.made.loans.next ≡ 1)
+  pub samples : (hub.made.samples.entries ≡ []) × (hub.made.samples.next ≡ 1)
 
 -- the numbers that come next, of each kind but nodes, all together: each command adds one at most
 abbrev pub numbers_used : {T U B D : Type 0} → NumberedHub T U B D → ℕ

@@ -1,5 +1,5 @@
 -- The steps of foreign nodes that a command names.
-use Rattle.std.specs.Prelude.{ℕ, zero, suc, ◌+◌, List, [], ◌∷◌, map, min, max, nat_eq}
+use Rattle.std.specs.Prelude.{ℕ, zero, suc, ◌+◌, Bool, false, ◌||◌, List, [], ◌∷◌, map, min, max, nat_eq}
 use Rattle.std.specs.List.{filter}
 use Rattle.iox_command.specs.declared.step.ForeignStep.{ForeignStep as Named}
 use Rattle.iox_command.specs.declared.step.ForeignStep.TheVariants as named
@@ -38,6 +38,11 @@ list_before name types steps access = map (λ before. step_of name types before.
 abbrev pub last_access : List StepBefore → ℕ
 last_access [] = 0
 last_access (before ∷ rest) = max before.access (last_access rest)
+
+-- whether a step is named before the first access
+abbrev pub acts_first : List StepBefore → Bool
+acts_first [] = false
+acts_first (before ∷ rest) = nat_eq before.access 1 || acts_first rest
 
 -- so many numbers from this one on
 abbrev pub from : ℕ → ℕ → List ℕ

@@ -9,7 +9,7 @@ use Rattle.iox_domain_machine.proofs.Found.{same_some, never_some}
 use Rattle.iox_hub_machine.specs.Ports.{among}
 use Rattle.iox_machine.specs.Service.{Service}
 use Rattle.iox_machine.specs.State.{State, AtOne, counted, replaced}
-use Rattle.iox_machine.specs.Replies.{IsSkipped}
+use Rattle.iox_machine.proofs.Shorthands.{IsSkipped}
 use Rattle.iox_machine.specs.Table.{at}
 
 pub is_none : {V : Type 0} (o : Option V) → (is_some o ≡ true → ⊥) → o ≡ None

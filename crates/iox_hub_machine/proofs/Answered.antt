@@ -1,7 +1,6 @@
 -- What a call that opens or creates a service comes to in a hub, and in a machine.
 use Rattle.std.proofs.Common.{◌≡◌, ◌⊎◌, ℕ, ◌+◌, ◌&&◌, Bool, true, false, cond, List, [], ◌∷◌, ◌++◌, Some, Result, Ok, Err, IfOk}
-use Rattle.std.proofs.Common.{MatchResult}
-use Rattle.std.proofs.Common.{refl, sym, ap, subst, ◌∙◌, inl, inr}
+use Rattle.std.proofs.Common.{refl, sym, ap, subst, ◌∙◌, inl, inr, MatchResult}
 use Rattle.std.specs.List.{IsAmong}
 use Rattle.std.specs.Result.{result_map_both}
 use Rattle.iox_command.specs.DomainValues.declared.backpressure.BackpressureDecision.{BackpressureDecision}
@@ -43,9 +42,10 @@ use Rattle.iox_machine.specs.Agreement.{Agreement}
 use Rattle.iox_machine.specs.Factories as machine
 use Rattle.iox_machine.specs.Factories.{with_open}
 use Rattle.iox_machine.specs.Negotiation.{Answer, Call}
-use Rattle.iox_machine.specs.Phase.{Node, Own, Phase, Published, closed_by, entered, same_pattern}
-use Rattle.iox_machine.specs.Replies.{IsRefused}
-use Rattle.iox_machine.specs.State.{Factory, State, counted, same_name, with_phase}
+use Rattle.iox_machine.specs.Phase.{Node, Own, Phase, Published, entered, same_pattern}
+use Rattle.iox_machine.proofs.Shorthands.{IsRefused, closed_by}
+use Rattle.iox_machine.specs.State.{Factory, State, counted, with_phase}
+use Rattle.std.specs.Prelude.{bytes_eq}
 use Rattle.iox_negotiate.specs.Factory.{Closes, membership}
 use Rattle.iox_negotiate.specs.declared.factory.Membership.{Membership}
 use Rattle.iox_negotiate_machine.proofs.Acting.{last-then}
@@ -190,7 +190,7 @@ module _ {T U B D : Type 0} (payload user_header : Detail)
         → (with_phase pattern name (closed_by node_then ((with_phase pattern name phase state).phases pattern name))
         (with_phase pattern name phase state)).phases one other
         ≡ (with_phase pattern name (closed_by node_then phase) state).phases one other
-    one_phase node_then phase one other = there (same_pattern one pattern && same_name other name)
+    one_phase node_then phase one other = there (same_pattern one pattern && bytes_eq other name)
       where
         there : (b : Bool) → cond b (closed_by node_then ((with_phase pattern name phase state).phases pattern name))
             (cond b phase (state.phases one other)) ≡ cond b (closed_by node_then phase) (state.phases one other)

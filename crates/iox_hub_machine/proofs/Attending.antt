@@ -13,8 +13,8 @@ use Rattle.iox_domain_machine.proofs.Found.{never_some, at_changed, at_changed_o
 use Rattle.iox_hub_machine.proofs.Deciding.{DecidesAlike, acting, same_ports}
 use Rattle.iox_machine.specs.PortList.{those}
 use Rattle.iox_machine.specs.Receiving.{Receives, lasting}
-use Rattle.iox_machine.specs.Replies.{IsRefused}
-use Rattle.iox_machine.specs.Service.{Service, Subscriber, with_subscriber, with_mailbox, connect}
+use Rattle.iox_machine.specs.Service.{Service, Subscriber, with_mailbox, connect}
+use Rattle.iox_machine.proofs.Shorthands.{with_subscriber, IsRefused}
 use Rattle.iox_machine.specs.SubscriberUpdate.{Follows, UpdatesFirst}
 use Rattle.iox_machine.specs.Table.{at, changed}
 use Rattle.iox_machine.specs.Choices.{Choices}

@@ -9,7 +9,7 @@ use Rattle.std.specs.List.{IsAmong, list_any}
 use Rattle.std.specs.Map.{keys_of, lookup, remove_entry}
 use Rattle.std.specs.Option.{option_map}
 use Rattle.std.specs.Ordering.{nat_cmp}
-use Rattle.std.specs.Prelude.{◌==◌, is_some}
+use Rattle.std.specs.Prelude.{◌==◌, is_some, bytes_eq}
 use Rattle.iox_command.specs.DomainValues.declared.backpressure.BackpressureDecision.{BackpressureDecision}
 use Rattle.iox_command.specs.DomainValues.declared.backpressure.BackpressureInfo.{BackpressureInfo}
 use Rattle.iox_command.specs.DomainValues.declared.degradation.DegradationAction.{DegradationAction}
@@ -49,9 +49,10 @@ use Rattle.iox_hub_machine.specs.Standing.{PortsStandFor}
 use Rattle.iox_machine.specs.Choices.{Choices}
 use Rattle.iox_machine.proofs.Names.{name-is, name-itself, pattern-is, pattern-itself}
 use Rattle.iox_machine.specs.Agreement.{Agreement}
-use Rattle.iox_machine.specs.Phase.{Node, Own, Phase, Published, closed_by, is_in, left, same_pattern}
+use Rattle.iox_machine.specs.Phase.{Node, Own, Phase, Published, is_in, left, same_pattern}
+use Rattle.iox_machine.proofs.Shorthands.{closed_by}
 use Rattle.iox_machine.specs.Service.{Service}
-use Rattle.iox_machine.specs.State.{State, Factory, same_name, with_phase}
+use Rattle.iox_machine.specs.State.{State, Factory, with_phase}
 use Rattle.iox_machine.specs.Table.{at, removed}
 use Rattle.iox_negotiate_machine.specs.CallLaws.{IsServiceIn}
 use Rattle.iox_negotiate_machine.specs.Standing.{counts_of}
@@ -191,8 +192,8 @@ module _ {T U B D : Type 0} (choices : Choices T) (degrades : B → DegradationC
 
     is_mine : is_factory_of_node kind name node (factory_as made) ≡ true
     is_mine =
-        and_from (same_pattern kind kind) (same_name name name && (node == node)) (pattern-itself kind)
-        (and_from (same_name name name) (node == node) (name-itself name) (eq-eqb node node refl))
+        and_from (same_pattern kind kind) (bytes_eq name name && (node == node)) (pattern-itself kind)
+        (and_from (bytes_eq name name) (node == node) (name-itself name) (eq-eqb node node refl))
 
     own_left : counts_of (Own node) (left (Own node) nodes) ≡ seats_for (factories_of_node kind name node left_factories)
     own_left =
@@ -209,8 +210,8 @@ module _ {T U B D : Type 0} (choices : Choices T) (degrades : B → DegradationC
         ∙ ap (λ (n : ℕ). seats_for (factories_of_node kind name n left_factories)) same.1)
         (λ off. left_others (Own node) (Own other) nodes (λ e. off.1 (own_number node other e)) ∙ seats_were other
         ∙ ap seats_for (same_count (fewer_of kind name other)
-        (and_right (same_pattern kind kind) (same_name name name && (node == other))
-        (and_right (same_name name name) (node == other) off.0)))) (eqb_tells node other)
+        (and_right (same_pattern kind kind) (bytes_eq name name && (node == other))
+        (and_right (bytes_eq name name) (node == other) off.0)))) (eqb_tells node other)
       where
         same_count : {b : Bool} {one all : ℕ} → one + one_if b ≡ all → b ≡ false → all ≡ one
         same_count {b} {one} {all} fewer none = omega (arith, fewer, ap one_if none)
@@ -218,14 +219,14 @@ module _ {T U B D : Type 0} (choices : Choices T) (degrades : B → DegradationC
     -- the name is that of the factory, or it isn't
     by_name : (P : MessagingPattern → List ℕ → Phase → Type 0) (which : MessagingPattern) (called : List ℕ)
         → (which ≡ kind → called ≡ name → P which called (closed_by node (state.phases kind name)))
-        → ((same_pattern which kind && same_name called name) ≡ false → P which called (state.phases which called))
+        → ((same_pattern which kind && bytes_eq called name) ≡ false → P which called (state.phases which called))
         → P which called (phases_then which called)
-    by_name P which called here elsewhere = tested (same_pattern which kind && same_name called name) refl
+    by_name P which called here elsewhere = tested (same_pattern which kind && bytes_eq called name) refl
       where
-        tested : (b : Bool) → (same_pattern which kind && same_name called name) ≡ b
+        tested : (b : Bool) → (same_pattern which kind && bytes_eq called name) ≡ b
             → P which called (cond b (closed_by node (state.phases kind name)) (state.phases which called))
         tested true is =
-            let both = both_pass (same_pattern which kind) (same_name called name) is in
+            let both = both_pass (same_pattern which kind) (bytes_eq called name) is in
             here (pattern-is which kind both.0) (name-is called name both.1)
         tested false is = elsewhere is
 
@@ -245,19 +246,19 @@ module _ {T U B D : Type 0} (choices : Choices T) (degrades : B → DegradationC
         (λ off. stands.factories.seats which called other among
         ∙ ap seats_for (same_count (fewer_of which called other)
         (false_from_ne_true (is_factory_of_node which called other (factory_as made))
-        (λ is. apart off (both_pass (same_pattern kind which) (same_name name called && (node == other)) is)))))
+        (λ is. apart off (both_pass (same_pattern kind which) (bytes_eq name called && (node == other)) is)))))
       where
         same_count : {b : Bool} {one all : ℕ} → one + one_if b ≡ all → b ≡ false → all ≡ one
         same_count {b} {one} {all} fewer none = omega (arith, fewer, ap one_if none)
 
-        apart : (same_pattern which kind && same_name called name) ≡ false
-            → (same_pattern kind which ≡ true) × ((same_name name called && (node == other)) ≡ true) → ⊥
+        apart : (same_pattern which kind && bytes_eq called name) ≡ false
+            → (same_pattern kind which ≡ true) × ((bytes_eq name called && (node == other)) ≡ true) → ⊥
         apart off both =
             let patterns = pattern-is kind which both.0 in
-            let named = name-is name called (both_pass (same_name name called) (node == other) both.1).0 in
-            true≢false (sym (and_from (same_pattern which kind) (same_name called name)
+            let named = name-is name called (both_pass (bytes_eq name called) (node == other) both.1).0 in
+            true≢false (sym (and_from (same_pattern which kind) (bytes_eq called name)
             (subst (λ (p : MessagingPattern). same_pattern p kind ≡ true) patterns (pattern-itself kind))
-            (subst (λ (q : List ℕ). same_name q name ≡ true) named (name-itself name))) ∙ off)
+            (subst (λ (q : List ℕ). bytes_eq q name ≡ true) named (name-itself name))) ∙ off)
 
     -- each factory that is left is of a service that its node is in
     pub serves_then : (other : ℕ) (which : MadeFactory) → value_at left_made other ≡ Some which
@@ -284,10 +285,10 @@ module _ {T U B D : Type 0} (choices : Choices T) (degrades : B → DegradationC
             let phase_so : state.phases (pattern_in which) (carried_by which).name ≡ Published life agreed nodes =
             ap (λ (p : MessagingPattern). state.phases p (carried_by which).name) same ∙ ap (state.phases kind) named ∙ phase_is in
             let counted = one_passing (is_factory_of_node kind name who) other (factory_as which) left_factories (at_left other which found)
-            (and_from (same_pattern (pattern_in which) kind) (same_name (carried_by which).name name && (who == who))
+            (and_from (same_pattern (pattern_in which) kind) (bytes_eq (carried_by which).name name && (who == who))
             (subst (λ (p : MessagingPattern). same_pattern p kind ≡ true) (sym same) (pattern-itself kind))
-            (and_from (same_name (carried_by which).name name) (who == who)
-            (subst (λ (q : List ℕ). same_name q name ≡ true) (sym named) (name-itself name)) (eq-eqb who who refl))) in
+            (and_from (bytes_eq (carried_by which).name name) (who == who)
+            (subst (λ (q : List ℕ). bytes_eq q name ≡ true) (sym named) (name-itself name)) (eq-eqb who who refl))) in
             subst (λ (phase : Phase). IsServiceIn who (pattern_in which) (carried_by which).name (closed_by node phase)
             (taken (pattern_in which) (carried_by which).name) what) (sym phase_is)
             (closed_serves node life agreed nodes seated who (pattern_in which) (carried_by which).name
@@ -313,14 +314,14 @@ module _ {T U B D : Type 0} (choices : Choices T) (degrades : B → DegradationC
         same_kind choices degrades decides reader_degrades names taken naming order old state stands agree another.0 number another.1 made
         (was_there another.0 another.1 another.2).0 there another.3
 
-    pub others_left : list_any (λ (entry : ℕ × Factory). same_pattern entry.1.pattern kind && same_name entry.1.name name) left_factories
+    pub others_left : list_any (λ (entry : ℕ × Factory). same_pattern entry.1.pattern kind && bytes_eq entry.1.name name) left_factories
         ≡ true
     others_left =
-        one_passes (λ (factory : Factory). same_pattern factory.pattern kind && same_name factory.name name) another.0
+        one_passes (λ (factory : Factory). same_pattern factory.pattern kind && bytes_eq factory.name name) another.0
         (factory_as another.1) left_factories (at_left another.0 another.1 another.2)
-        (and_from (same_pattern (pattern_in another.1) kind) (same_name (carried_by another.1).name name)
+        (and_from (same_pattern (pattern_in another.1) kind) (bytes_eq (carried_by another.1).name name)
         (subst (λ (p : MessagingPattern). same_pattern p kind ≡ true) (sym another_kind) (pattern-itself kind))
-        (subst (λ (q : List ℕ). same_name q name ≡ true) (sym (ap (λ (d : Description). d.name) another_carried)) (name-itself name)))
+        (subst (λ (q : List ℕ). bytes_eq q name ≡ true) (sym (ap (λ (d : Description). d.name) another_carried)) (name-itself name)))
 
     -- a service that the factory stood for another does
     served_by_another : (m : ℕ) (one : Service T) → IsServedBy old.factories.made old.hub.services m one
@@ -363,15 +364,15 @@ module _ {T U B D : Type 0} (choices : Choices T) (degrades : B → DegradationC
   -- where it isn't counted none is
   module _ (alone : (other : ℕ) (which : MadeFactory) → value_at old.factories.made other ≡ Some which → service_of which ≡ service
       → other ≡ number) where
-    pub none_left : list_any (λ (entry : ℕ × Factory). same_pattern entry.1.pattern kind && same_name entry.1.name name) left_factories
+    pub none_left : list_any (λ (entry : ℕ × Factory). same_pattern entry.1.pattern kind && bytes_eq entry.1.name name) left_factories
         ≡ false
     none_left = false_from_ne_true _ (λ is.
         let (other, factory, found, passes) =
-        some_passes (λ (one : Factory). same_pattern one.pattern kind && same_name one.name name) left_factories left_factories
+        some_passes (λ (one : Factory). same_pattern one.pattern kind && bytes_eq one.name name) left_factories left_factories
         (all_go left_factories (λ which. omega (arith, often_removed number which state.factories, once which))) is in
         let (which, has, same) = mapped_some factory_as (value_at left_made other) factory
         (sym (ap (at other) same_left ∙ goes_so other factory_as left_made) ∙ found) in
-        let both = both_pass (same_pattern factory.pattern kind) (same_name factory.name name) passes in
+        let both = both_pass (same_pattern factory.pattern kind) (bytes_eq factory.name name) passes in
         let was = was_there other which has in
         was.1 (alone other which was.0
         (same_number choices degrades decides reader_degrades names taken naming order old state stands agree other number which made

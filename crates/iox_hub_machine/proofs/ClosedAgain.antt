@@ -7,7 +7,8 @@ use Rattle.iox_command.specs.NegotiateBase.DescribeBase.declared.pattern.Messagi
 use Rattle.iox_hub_machine.proofs.Entering.{KeepsHeld, IsEntered}
 use Rattle.iox_hub_machine.specs.Seats.{seats_for, seats_in}
 use Rattle.iox_machine.specs.Agreement.{Agreement}
-use Rattle.iox_machine.specs.Phase.{Node, Own, Phase, Absent, Published, Emptied, closed_by, entered, left, removed_by, same_node}
+use Rattle.iox_machine.specs.Phase.{Node, Own, Phase, Absent, Published, Emptied, entered, left, removed_by, same_node}
+use Rattle.iox_machine.proofs.Shorthands.{closed_by}
 use Rattle.iox_negotiate_machine.proofs.OwnSeats.{entered-in}
 use Rattle.iox_negotiate_machine.proofs.Seats.{Entry, aside, node-is, node-itself, passed}
 use Rattle.iox_negotiate_machine.specs.Standing.{counts_of}

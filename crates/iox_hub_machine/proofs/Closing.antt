@@ -4,7 +4,7 @@ use Rattle.std.proofs.Common.{refl, sym, ap, subst, ◌∙◌}
 use Rattle.iox_hub_commands.specs.AgreementLaws.{carried_by, service_of, FactoriesAgree}
 use Rattle.iox_hub_commands.specs.ServicesTables.{parts_of, pattern_in}
 use Rattle.iox_hub_machine.proofs.InUse.{distinct_once, only, used_so, unused_so}
-use Rattle.std.specs.Prelude.{◌==◌, filter, flat_map, MatchBool, MatchOption}
+use Rattle.std.specs.Prelude.{◌==◌, filter, flat_map, MatchBool, MatchOption, bytes_eq}
 use Rattle.std.specs.List.{AllByRecursion, IsDistinct, list_any}
 use Rattle.std.proofs.lemmas.Bool.{eq-eqb}
 use Rattle.std.specs.Option.{option_map}
@@ -58,10 +58,11 @@ use Rattle.iox_machine.proofs.Counted.{numbers-name-one}
 use Rattle.iox_machine.proofs.LenderSteps.{use-is-owned}
 use Rattle.iox_machine.specs.Agreement.{Agreement}
 use Rattle.iox_machine.specs.Closing as machine
-use Rattle.iox_machine.specs.Phase.{Node, Own, Phase, Published, closed_by, is_in, same_pattern}
+use Rattle.iox_machine.specs.Phase.{Node, Own, Phase, Published, is_in, same_pattern}
+use Rattle.iox_machine.proofs.Shorthands.{closed_by}
 use Rattle.iox_machine.specs.NumberLaws.{numbers_in}
 use Rattle.iox_machine.specs.Service.{Service}
-use Rattle.iox_machine.specs.State.{State, Factory, is_service_of, same_name, with_phase}
+use Rattle.iox_machine.specs.State.{State, Factory, is_service_of, with_phase}
 use Rattle.iox_machine.specs.Table as table
 use Rattle.iox_machine.specs.Table.{at}
 use Rattle.iox_machine.specs.UseLaws.{IsOfOpenFactories}
@@ -163,7 +164,7 @@ module _ {T U B D : Type 0} (payload user_header : Detail) (types : MessageTypeD
 
         abbrev others : Bool
         others = list_any (λ (entry : ℕ × Factory). same_pattern entry.1.pattern (pattern_in made)
-            && same_name entry.1.name (carried_by made).name) (table.removed number state.factories)
+            && bytes_eq entry.1.name (carried_by made).name) (table.removed number state.factories)
 
         abbrev remaining : List (Service T)
         remaining = filter (λ (service : Service T). not (is_service_of (factory_as made) service)) state.services
@@ -262,7 +263,7 @@ module _ {T U B D : Type 0} (payload user_header : Detail) (types : MessageTypeD
                 none_at : (services : List (Service T)) → list_any (is_service_of (factory_as made)) services ≡ false
                 none_at [] = refl
                 none_at (service ∷ services) =
-                    ap (λ (b : Bool). (b && same_name service.name (carried_by made).name)
+                    ap (λ (b : Bool). (b && bytes_eq service.name (carried_by made).name)
                     || list_any (is_service_of (factory_as made)) services) is
                     ∙ none_at services
 

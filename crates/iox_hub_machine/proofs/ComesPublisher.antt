@@ -1,7 +1,6 @@
 -- A publisher came in a hub, and what it stands for then.
 use Rattle.std.proofs.Common.{◌≡◌, ◌≢◌, ◌≤◌, ◌+◌, ◌⊎◌, ℕ, true, false, List, [], ◌∷◌, ◌++◌, Option, None, Some, Result, Ok, Err, refl}
-use Rattle.std.proofs.Common.{sym, ap}
-use Rattle.std.proofs.Common.{subst, ◌∙◌, arith, inl, inr}
+use Rattle.std.proofs.Common.{subst, ◌∙◌, arith, inl, inr, sym, ap}
 use Rattle.std.proofs.Math.Logic.{⊎_elim}
 use Rattle.std.specs.Map.{lookup}
 use Rattle.std.specs.Option.{option_map_or, unwrap_or}
@@ -75,8 +74,7 @@ use Rattle.iox_hub_machine.proofs.ComesNamed.{IsAside, NamedThen, apart_still, a
 use Rattle.iox_hub_machine.proofs.ComesNamed.{named_still, named_then, named_there, within_then}
 use Rattle.iox_hub_machine.proofs.ComesPlace.{IsPlacedAmong, placed_among}
 use Rattle.iox_hub_machine.proofs.ComesServed.{domain_there, is_its_own, machine_has, presence, served_joined, served_later}
-use Rattle.iox_hub_machine.proofs.ComesService.{PublisherIsNew, among_alike, among_first, at_factory_did, publisher_came}
-use Rattle.iox_hub_machine.proofs.ComesService.{publisher_refused}
+use Rattle.iox_hub_machine.proofs.ComesService.{PublisherIsNew, among_alike, among_first, at_factory_did, publisher_came, publisher_refused}
 use Rattle.iox_hub_machine.proofs.Parting.{OrderChanges, order_changes, stay_here}
 use Rattle.iox_hub_machine.proofs.Placed.{subscriber_as, subscriber_up, publisher_as, publisher_up}
 use Rattle.iox_hub_machine.proofs.Rooming.{roomy_there}

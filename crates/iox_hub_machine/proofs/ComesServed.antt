@@ -8,7 +8,7 @@ use Rattle.std.specs.List.{list_any}
 use Rattle.std.specs.Map.{keys_of}
 use Rattle.std.specs.Option.{option_map}
 use Rattle.std.specs.Ordering.{nat_cmp}
-use Rattle.std.specs.Prelude.{is_some, ◌==◌}
+use Rattle.std.specs.Prelude.{is_some, ◌==◌, bytes_eq}
 use Rattle.iox_command.specs.DomainValues.declared.backpressure.BackpressureDecision.{BackpressureDecision}
 use Rattle.iox_command.specs.DomainValues.declared.backpressure.BackpressureInfo.{BackpressureInfo}
 use Rattle.iox_command.specs.DomainValues.declared.degradation.DegradationAction.{DegradationAction}
@@ -47,16 +47,16 @@ use Rattle.iox_hub_machine.specs.Services.{AreServedInTurn, FactoryStands, HubSt
 use Rattle.iox_machine.specs.Choices.{Choices}
 use Rattle.iox_machine.specs.Phase.{Phase, Published, same_pattern}
 use Rattle.iox_machine.specs.Service.{Service}
-use Rattle.iox_machine.specs.State.{State, is_service_of, same_name}
+use Rattle.iox_machine.specs.State.{State, is_service_of}
 use Rattle.iox_machine.specs.Table.{at}
 use Rattle.iox_negotiate_machine.specs.CallLaws.{IsServiceIn}
 use Rattle.iox_negotiate_machine.specs.Standing.{IsLast, Lies}
 use Rattle.iox_negotiate_table.specs.Contents.{Contents}
 
 -- a name is the same as itself
-same_itself : (name : List ℕ) → same_name name name ≡ true
+same_itself : (name : List ℕ) → bytes_eq name name ≡ true
 same_itself [] = refl
-same_itself (code ∷ codes) = and_from (code == code) (same_name codes codes) (eq-eqb code code refl) (same_itself codes)
+same_itself (code ∷ codes) = and_from (code == code) (bytes_eq codes codes) (eq-eqb code code refl) (same_itself codes)
 
 -- ---- what is published
 
@@ -136,9 +136,9 @@ module _ {T U B D : Type 0} (choices : Choices T) (degrades : B → DegradationC
   pub is_its_own : (service : Service T) → IsServedBy old.factories.made old.hub.services id.service service
       → is_service_of (factory_as made) service ≡ true
   is_its_own service served =
-      and_from (same_pattern (pattern_in made) PublishSubscribe) (same_name service.name (carried_by made).name)
+      and_from (same_pattern (pattern_in made) PublishSubscribe) (bytes_eq service.name (carried_by made).name)
       (ap (λ (pattern : MessagingPattern). same_pattern pattern PublishSubscribe) kind)
-      (ap (λ (name : List ℕ). same_name name (carried_by made).name)
+      (ap (λ (name : List ℕ). bytes_eq name (carried_by made).name)
       (served.name
       ∙ ap (λ (described : Description). described.name)
       (agree served.factory number served.made made served.found there served.number_is))
@@ -156,7 +156,7 @@ module _ {T U B D : Type 0} (choices : Choices T) (degrades : B → DegradationC
       same is =
           let named : (carried_by served.made).name ≡ (carried_by made).name =
           sym served.name ∙ same_text service.name (carried_by made).name
-          (sym (and_parts (same_pattern (pattern_in made) PublishSubscribe) (same_name service.name (carried_by made).name) is).1) in
+          (sym (and_parts (same_pattern (pattern_in made) PublishSubscribe) (bytes_eq service.name (carried_by made).name) is).1) in
           sym served.number_is
           ∙ last_same (service_of served.made) (service_of made) (taken PublishSubscribe (carried_by made).name)
           (subst (IsTaken (service_of served.made) PublishSubscribe) named

@@ -1,6 +1,5 @@
 -- What the machine's service is where a port comes.
-use Rattle.std.proofs.Common.{◌≡◌, ◌≢◌, ◌⊎◌, ℕ, Bool, true, cond, List, [], ◌∷◌, ◌++◌, Option, None, Some, sym, ap, subst, inl}
-use Rattle.std.proofs.Common.{inr, ◌∙◌}
+use Rattle.std.proofs.Common.{◌≡◌, ◌≢◌, ◌⊎◌, ℕ, Bool, true, cond, List, [], ◌∷◌, ◌++◌, Option, None, Some, sym, ap, subst, inl, inr, ◌∙◌}
 use Rattle.std.specs.List.{list_all}
 use Rattle.std.specs.Option.{option_or}
 use Rattle.std.specs.Prelude.{◌^◌, ◌||◌, filter, is_some, nat_le, nat_lt, not, slice_get, MatchBool}
@@ -20,15 +19,14 @@ use Rattle.iox_domain_machine.proofs.FollowMachine.{all_welcomed}
 use Rattle.iox_domain_machine.proofs.TableEnds.{at_end}
 use Rattle.iox_domain_machine.proofs.UpdateMachine.{connects, only_boxes}
 use Rattle.iox_hub_machine.specs.Ports.{among}
-use Rattle.iox_machine.proofs.Shorthands.{registered}
 use Rattle.iox_machine.specs.Choices.{Choices}
 use Rattle.iox_machine.specs.Arriving.{PublisherArrives, SubscriberArrives, worst_case}
 use Rattle.iox_machine.specs.PortList.{those}
 use Rattle.iox_machine.specs.PublisherUpdate as publishing
 use Rattle.iox_machine.specs.PublisherUpdate.{ended}
-use Rattle.iox_machine.specs.Replies.{IsRefused, IsSkipped}
 use Rattle.iox_machine.specs.Run.{AtFactory}
-use Rattle.iox_machine.specs.Service.{Publisher, Service, Subscriber, with_publisher, with_subscriber}
+use Rattle.iox_machine.specs.Service.{Publisher, Service, Subscriber}
+use Rattle.iox_machine.proofs.Shorthands.{with_publisher, with_subscriber, registered, IsSkipped, IsRefused}
 use Rattle.iox_machine.specs.State.{Factory, State, AtOne, counted, is_service_of}
 use Rattle.iox_machine.specs.SubscriberUpdate as subscribing
 use Rattle.iox_machine.specs.Table.{at, changed, contains}

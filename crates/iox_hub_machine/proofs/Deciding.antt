@@ -10,7 +10,8 @@ use Rattle.iox_command.specs.declared.reply.Reply.{Reply}
 use Rattle.iox_domain_machine.proofs.Found.{at_changed, at_changed_other}
 use Rattle.iox_hub_machine.specs.Ports.{among}
 use Rattle.iox_hub_machine.proofs.Amidst.{at_one_alike}
-use Rattle.iox_machine.specs.Service.{Service, Publisher, Subscriber, with_publisher}
+use Rattle.iox_machine.specs.Service.{Service, Publisher, Subscriber}
+use Rattle.iox_machine.proofs.Shorthands.{with_publisher}
 use Rattle.iox_machine.specs.State.{State, AtOne}
 use Rattle.iox_machine.specs.Table.{at, changed}
 

@@ -49,7 +49,8 @@ use Rattle.iox_hub_machine.specs.Services.{FactoriesStandFor, HubStandsFor, serv
 use Rattle.iox_hub_machine.specs.Standing.{PortsStandFor}
 use Rattle.iox_machine.specs.Choices.{Choices}
 use Rattle.iox_machine.specs.Agreement.{Agreement}
-use Rattle.iox_machine.specs.Phase.{Node, Own, Published, closed_by, is_in}
+use Rattle.iox_machine.specs.Phase.{Node, Own, Published, is_in}
+use Rattle.iox_machine.proofs.Shorthands.{closed_by}
 use Rattle.iox_machine.specs.Service.{Service}
 use Rattle.iox_machine.specs.State.{State, with_phase}
 use Rattle.iox_machine.specs.Table.{at}

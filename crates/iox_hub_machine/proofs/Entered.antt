@@ -1,11 +1,10 @@
 -- A node of a hub got a factory of a service: the hub stands for the machine in which it has one.
-use Rattle.std.proofs.Common.{◌≡◌, ◌≢◌, ◌≤◌, ◌<◌, ◌+◌, ◌^◌, ◌&&◌, ℕ, Bool, true, false, cond, List, [], ◌∷◌, ◌++◌, length, map}
-use Rattle.std.proofs.Common.{Some, Ok}
+use Rattle.std.proofs.Common.{◌≡◌, ◌≢◌, ◌≤◌, ◌<◌, ◌+◌, ◌^◌, ◌&&◌, ℕ, Bool, true, false, cond, List, [], ◌∷◌, ◌++◌, length, map, Some, Ok}
 use Rattle.std.proofs.Common.{refl, sym, ap, subst, ◌∙◌, inl, inr, arith, true≢false}
 use Rattle.std.proofs.Math.Logic.{⊎_elim}
 use Rattle.std.proofs.lemmas.List.{length-map, map-append}
 use Rattle.std.specs.List.{IsAmong, list_any}
-use Rattle.std.specs.Prelude.{is_some, ◌==◌}
+use Rattle.std.specs.Prelude.{is_some, ◌==◌, bytes_eq}
 use Rattle.iox_command.specs.DomainValues.declared.backpressure.BackpressureDecision.{BackpressureDecision}
 use Rattle.iox_command.specs.DomainValues.declared.backpressure.BackpressureInfo.{BackpressureInfo}
 use Rattle.iox_command.specs.DomainValues.declared.degradation.DegradationAction.{DegradationAction}
@@ -51,7 +50,7 @@ use Rattle.iox_machine.specs.Choices.{Choices}
 use Rattle.iox_machine.specs.Factories.{with_open}
 use Rattle.iox_machine.specs.Phase.{Phase, Published, same_pattern}
 use Rattle.iox_machine.specs.Service.{Service, new_service}
-use Rattle.iox_machine.specs.State.{Factory, State, same_name, with_phase}
+use Rattle.iox_machine.specs.State.{Factory, State, with_phase}
 use Rattle.iox_machine.specs.Table.{at}
 use Rattle.iox_negotiate.specs.Factory.{membership}
 use Rattle.iox_negotiate.specs.declared.factory.Membership.{Membership}
@@ -229,7 +228,7 @@ module _ {T U B D : Type 0} (choices : Choices T) (degrades : B → DegradationC
       ∙ ap (λ (b : Bool). factories_of_node pattern name which factories + cond b 1 0) (is_its pattern name node which)
 
   none_more : (one : MessagingPattern) (other : List ℕ) (which : ℕ) (factories : List (ℕ × Factory))
-      → (same_pattern one pattern && same_name other name) ≡ false
+      → (same_pattern one pattern && bytes_eq other name) ≡ false
       → factories_of_node one other which (factories ++ (state.made.factories + 1, factory_got pattern name node) ∷ [])
       ≡ factories_of_node one other which factories
   none_more one other which factories isnt =
@@ -241,7 +240,7 @@ module _ {T U B D : Type 0} (choices : Choices T) (degrades : B → DegradationC
       nothing n = omega arith
 
   seats_by : (one : MessagingPattern) (other : List ℕ) (which : ℕ) → IsAmong names other → (b : Bool)
-      → (same_pattern one pattern && same_name other name) ≡ b
+      → (same_pattern one pattern && bytes_eq other name) ≡ b
       → seats_in which (cond b phase (state.phases one other))
       ≡ seats_for (factories_of_node one other which
       (state.factories ++ (state.made.factories + 1, factory_got pattern name node) ∷ []))
@@ -298,7 +297,7 @@ module _ {T U B D : Type 0} (choices : Choices T) (degrades : B → DegradationC
     each = λ number one found.
         let it = each_then number one found in
         record { asked = it.asked; owner = it.owner; storage = it.storage; serves = it.serves };
-    seats = λ one other which among. seats_by one other which among (same_pattern one pattern && same_name other name) refl;
+    seats = λ one other which among. seats_by one other which among (same_pattern one pattern && bytes_eq other name) refl;
     counts = counts_then;
     opened = opened_then services still new;
   }
@@ -402,12 +401,12 @@ module _ {T U B D : Type 0} (choices : Choices T) (degrades : B → DegradationC
   -- the services of the machine then, by the settings of the one that is open
   abbrev these_by : Settings → List (Service T)
   these_by (settings.PublishSubscribe c) =
-      cond (list_any (λ (service : Service T). same_name service.name name) state.services) state.services
+      cond (list_any (λ (service : Service T). bytes_eq service.name name) state.services) state.services
       (state.services ++ new_service name c ∷ [])
   these_by other = state.services
 
   these_are : (all : Settings) → elim all [
-    | settings.PublishSubscribe c ↦ cond (list_any (λ (service : Service T). same_name service.name name) state.services) state.services
+    | settings.PublishSubscribe c ↦ cond (list_any (λ (service : Service T). bytes_eq service.name name) state.services) state.services
         (state.services ++ new_service name c ∷ [])
     | settings.Event c ↦ state.services
     | settings.RequestResponse c ↦ state.services
@@ -427,7 +426,7 @@ module _ {T U B D : Type 0} (choices : Choices T) (degrades : B → DegradationC
       → AreWithinLimits opened.description.settings → Fits payload user_header opened.description.settings) where
     -- the service is open in the hub just if the machine has it
     open_there : pattern ≡ PublishSubscribe → is_open opened.number hub.hub.services
-        ≡ list_any (λ (service : Service T). same_name service.name name) state.services
+        ≡ list_any (λ (service : Service T). bytes_eq service.name name) state.services
     open_there kind = open_so names own pattern kind name asked since table (with_phase pattern name phase state) stands_then node opened
         serves_here hub.factories.made hub.hub.services each_before order state.services stands.served stands.ports.here stands.ports.same
         stands.factories.opened

@@ -25,7 +25,8 @@ use Rattle.iox_hub_machine.proofs.Lessened.{none_removed}
 use Rattle.iox_hub_machine.proofs.Used.{one_if}
 use Rattle.iox_hub_machine.specs.Seats.{seats_in, seats_for}
 use Rattle.iox_machine.specs.Agreement.{Agreement}
-use Rattle.iox_machine.specs.Phase.{Node, Own, Phase, Absent, Published, Emptied, closed_by, is_in, left, removed_by, same_node}
+use Rattle.iox_machine.specs.Phase.{Node, Own, Phase, Absent, Published, Emptied, is_in, left, removed_by, same_node}
+use Rattle.iox_machine.proofs.Shorthands.{closed_by}
 use Rattle.iox_machine.specs.Table.{at, removed}
 use Rattle.iox_negotiate_machine.proofs.Seats.{node-is, node-itself, passed, aside, behind, in-counted, is_some_of}
 use Rattle.iox_negotiate_machine.specs.CallLaws.{IsServiceIn}

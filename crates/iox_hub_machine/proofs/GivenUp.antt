@@ -38,8 +38,8 @@ use Rattle.iox_hub_machine.proofs.Moving.{IsMatched, ports_alone}
 use Rattle.iox_hub_machine.proofs.Placed.{publisher_up, publisher_as}
 use Rattle.iox_machine.specs.Choices.{Choices}
 use Rattle.iox_machine.specs.Ports.{publisher_in}
-use Rattle.iox_machine.specs.Replies.{IsSkipped}
-use Rattle.iox_machine.specs.Service.{Service, Publisher, Send, with_publisher}
+use Rattle.iox_machine.specs.Service.{Service, Publisher, Send}
+use Rattle.iox_machine.proofs.Shorthands.{with_publisher, IsSkipped}
 use Rattle.iox_machine.specs.State.{State, Made, AtOne, counted}
 use Rattle.iox_machine.specs.Table.{at}
 

@@ -6,7 +6,7 @@ use Rattle.std.proofs.lemmas.Bool.{and_from, and_right, eq-eqb, false_from_ne_tr
 use Rattle.std.proofs.lemmas.Bool.Decides.{eqb_tells}
 use Rattle.std.specs.List.{AllByRecursion, IsDistinct, list_any}
 use Rattle.std.specs.Map.{keys_of}
-use Rattle.std.specs.Prelude.{◌==◌, flat_map, is_some}
+use Rattle.std.specs.Prelude.{◌==◌, flat_map, is_some, bytes_eq}
 use Rattle.iox_command.specs.DomainValues.declared.backpressure.BackpressureDecision.{BackpressureDecision}
 use Rattle.iox_command.specs.DomainValues.declared.backpressure.BackpressureInfo.{BackpressureInfo}
 use Rattle.iox_command.specs.DomainValues.declared.degradation.DegradationAction.{DegradationAction}
@@ -52,7 +52,7 @@ use Rattle.iox_machine.specs.Closing.{is_used_by}
 use Rattle.iox_machine.specs.NumberLaws.{numbers_in}
 use Rattle.iox_machine.specs.Phase.{Phase, Published, same_pattern}
 use Rattle.iox_machine.specs.Service.{Service}
-use Rattle.iox_machine.specs.State.{State, Factory, is_service_of, same_name}
+use Rattle.iox_machine.specs.State.{State, Factory, is_service_of}
 use Rattle.iox_machine.specs.Table.{at}
 use Rattle.iox_machine.specs.UseLaws.{IsOpen, IsOfOpenFactories}
 use Rattle.iox_negotiate_machine.specs.CallLaws.{IsServiceIn}
@@ -242,7 +242,7 @@ module _ {T U B D : Type 0} (choices : Choices T) (degrades : B → DegradationC
   open_there name number (factory, found, is) =
       let (made, there, same) = mapped_some factory_as (value_at old.factories.made number) factory
       (sym (ap (at number) stands.factories.same ∙ goes_so number factory_as old.factories.made) ∙ found) in
-      let both = both_pass (same_pattern factory.pattern pattern.PublishSubscribe) (same_name name factory.name) is in (
+      let both = both_pass (same_pattern factory.pattern pattern.PublishSubscribe) (bytes_eq name factory.name) is in (
         made,
         there,
         ap (λ (one : Factory). one.pattern) same ∙ pattern-is factory.pattern pattern.PublishSubscribe both.0,
@@ -468,7 +468,7 @@ module _ {T U B D : Type 0} (choices : Choices T) (degrades : B → DegradationC
         nothing : (which : MessagingPattern) → pattern_in made ≡ which → same_pattern which pattern.PublishSubscribe ≡ false
             → list_any is_used state.services ≡ false
         nothing which is off =
-            ap (λ (b : Bool). list_any (λ (service : Service T). (b && same_name service.name (carried_by made).name)
+            ap (λ (b : Bool). list_any (λ (service : Service T). (b && bytes_eq service.name (carried_by made).name)
             && is_used_by number service) state.services)
             (ap (λ (one : MessagingPattern). same_pattern one pattern.PublishSubscribe) is ∙ off)
             ∙ none_at_all state.services

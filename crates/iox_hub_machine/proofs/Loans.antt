@@ -46,7 +46,7 @@ use Rattle.iox_hub_machine.proofs.Moving.{IsMatched, ports_alone}
 use Rattle.iox_machine.specs.Choices.{Choices}
 use Rattle.iox_machine.specs.Message as machine
 use Rattle.iox_machine.specs.Ports.{Writes}
-use Rattle.iox_machine.specs.Replies.{IsSkipped}
+use Rattle.iox_machine.proofs.Shorthands.{IsSkipped}
 use Rattle.iox_machine.specs.Service.{Service}
 use Rattle.iox_machine.specs.State.{State, Made, AtOne, counted}
 use Rattle.iox_machine.specs.Table.{at, changed}

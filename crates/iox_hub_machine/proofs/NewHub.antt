@@ -125,19 +125,19 @@ new_hub_stands T U {B} {D} choices degrades decides reader_degrades names config
     new_state)
     (sym (λ i. record {
       hub = record {
-        expired_connection_buffer = new.hub_is_new.expired_connection_buffer i;
-        nodes = new.hub_is_new.nodes i;
-        factories = new.hub_is_new.factories i;
-        table = new.hub_is_new.table i;
-        factory_counts = new.hub_is_new.factory_counts i;
-        services = new.hub_is_new.services i;
+        expired_connection_buffer = new.expired_connection_buffer i;
+        nodes = new.nodes i;
+        factories = new.factories i;
+        table = new.table i;
+        factory_counts = new.factory_counts i;
+        services = new.services i;
       };
       factories = record { made = new.no_factory i };
       made = record {
-        publishers = record { entries = new.nothing_made.0.0 i; next = new.nothing_made.0.1 i; room = hub.made.publishers.room };
-        subscribers = record { entries = new.nothing_made.1.0 i; next = new.nothing_made.1.1 i; room = hub.made.subscribers.room };
-        loans = record { entries = new.nothing_made.2.0 i; next = new.nothing_made.2.1 i; room = hub.made.loans.room };
-        samples = record { entries = new.nothing_made.3.0 i; next = new.nothing_made.3.1 i; room = hub.made.samples.room };
+        publishers = record { entries = new.publishers.0 i; next = new.publishers.1 i; room = hub.made.publishers.room };
+        subscribers = record { entries = new.subscribers.0 i; next = new.subscribers.1 i; room = hub.made.subscribers.room };
+        loans = record { entries = new.loans.0 i; next = new.loans.1 i; room = hub.made.loans.room };
+        samples = record { entries = new.samples.0 i; next = new.samples.1 i; room = hub.made.samples.room };
       };
       pledged = hub.pledged;
     }))

@@ -2,7 +2,6 @@
 use Rattle.std.proofs.Common.{◌≡◌, ℕ, Bool, true, false, cond, ◌||◌, List, [], ◌∷◌, Some, is_some, refl, sym, ap, subst, ◌∙◌}
 use Rattle.std.proofs.Math.Logic.{⊎_elim}
 use Rattle.std.specs.List.{IsAmong, list_any}
-use Rattle.std.specs.Prelude.{◌==◌}
 use Rattle.std.proofs.lemmas.Bool.Decides.{eqb_tells}
 use Rattle.iox_command.specs.NegotiateBase.Describe.Line.{line}
 use Rattle.iox_command.specs.NegotiateBase.DescribeBase.Hash.{service_hash_of}
@@ -23,7 +22,8 @@ use Rattle.iox_hub_machine.specs.Ports.{AreHere, ports_here}
 use Rattle.iox_hub_machine.specs.Services.{AreServedInTurn, FactoryStands, IsServedBy}
 use Rattle.iox_machine.specs.Phase.{Phase, Published}
 use Rattle.iox_machine.specs.Service.{Service}
-use Rattle.iox_machine.specs.State.{State, same_name}
+use Rattle.iox_machine.specs.State.{State}
+use Rattle.std.specs.Prelude.{bytes_eq, ◌==◌}
 use Rattle.iox_machine.specs.Table.{at}
 use Rattle.iox_negotiate.proofs.Lives.{one-life}
 use Rattle.iox_negotiate_machine.proofs.Acted.{name-is}
@@ -76,38 +76,38 @@ module _ {T U B D : Type 0} where
     -- what goes by a number serves some service
     served_by : (number : ℕ) (order : List (ℕ × ServicePorts T U)) (services : List (Service T))
         → AreServedInTurn table open_ones order services → is_some (at number order) ≡ true
-        → ((service : Service T) → IsServedBy table open_ones number service → same_name service.name name ≡ true)
-        → list_any (λ (service : Service T). same_name service.name name) services ≡ true
+        → ((service : Service T) → IsServedBy table open_ones number service → bytes_eq service.name name ≡ true)
+        → list_any (λ (service : Service T). bytes_eq service.name name) services ≡ true
     served_by number [] services served found so = never_true found
     served_by number (domain ∷ order) [] served found so = absurd served
     served_by number (domain ∷ order) (service ∷ services) (one, rest) found so = ⊎_elim
-        (λ same. ap (λ (b : Bool). b || list_any (λ (other : Service T). same_name other.name name) services)
+        (λ same. ap (λ (b : Bool). b || list_any (λ (other : Service T). bytes_eq other.name name) services)
         (so service (subst (λ (n : ℕ). IsServedBy table open_ones n service) same.1 one)))
-        (λ off. second (same_name service.name name)
+        (λ off. second (bytes_eq service.name name)
         (served_by number order services rest (sym (ap is_some (at_behind number domain order off.0)) ∙ found) so))
         (eqb_tells domain.0 number)
       where
-        second : (b : Bool) → list_any (λ (other : Service T). same_name other.name name) services ≡ true
-            → (b || list_any (λ (other : Service T). same_name other.name name) services) ≡ true
+        second : (b : Bool) → list_any (λ (other : Service T). bytes_eq other.name name) services ≡ true
+            → (b || list_any (λ (other : Service T). bytes_eq other.name name) services) ≡ true
         second true is = refl
         second false is = is
 
     -- a service of this name is served by some domain
     served_named : (order : List (ℕ × ServicePorts T U)) (services : List (Service T))
         → AreServedInTurn table open_ones order services
-        → list_any (λ (service : Service T). same_name service.name name) services ≡ true
-        → (number : ℕ) × (service : Service T) × IsServedBy table open_ones number service × (same_name service.name name ≡ true)
+        → list_any (λ (service : Service T). bytes_eq service.name name) services ≡ true
+        → (number : ℕ) × (service : Service T) × IsServedBy table open_ones number service × (bytes_eq service.name name ≡ true)
     served_named [] services served some =
-        never_true (sym (ap (list_any (λ (service : Service T). same_name service.name name)) served) ∙ some)
+        never_true (sym (ap (list_any (λ (service : Service T). bytes_eq service.name name)) served) ∙ some)
     served_named (domain ∷ order) [] served some = absurd served
     served_named (domain ∷ order) (service ∷ services) (one, rest) some =
-        here (same_name service.name name) refl some (λ any. served_named order services rest any)
+        here (bytes_eq service.name name) refl some (λ any. served_named order services rest any)
       where
-        here : (b : Bool) → same_name service.name name ≡ b
-            → (b || list_any (λ (other : Service T). same_name other.name name) services) ≡ true
-            → (list_any (λ (other : Service T). same_name other.name name) services ≡ true
-            → (number : ℕ) × (other : Service T) × IsServedBy table open_ones number other × (same_name other.name name ≡ true))
-            → (number : ℕ) × (other : Service T) × IsServedBy table open_ones number other × (same_name other.name name ≡ true)
+        here : (b : Bool) → bytes_eq service.name name ≡ b
+            → (b || list_any (λ (other : Service T). bytes_eq other.name name) services) ≡ true
+            → (list_any (λ (other : Service T). bytes_eq other.name name) services ≡ true
+            → (number : ℕ) × (other : Service T) × IsServedBy table open_ones number other × (bytes_eq other.name name ≡ true))
+            → (number : ℕ) × (other : Service T) × IsServedBy table open_ones number other × (bytes_eq other.name name ≡ true)
         here true is any later = (domain.0, service, one, is)
         here false is any later = later any
 
@@ -166,11 +166,11 @@ module _ {T U B D : Type 0} where
           (all_open : (number : ℕ) (made : MadeFactory) → value_at factories number ≡ Some made → pattern_in made ≡ PublishSubscribe
           → is_open (service_of made) open_ones ≡ true) where
         -- the service is open in the hub just if the machine has one of its name
-        pub open_so : is_open opened.number open_ones ≡ list_any (λ (service : Service T). same_name service.name name) services
+        pub open_so : is_open opened.number open_ones ≡ list_any (λ (service : Service T). bytes_eq service.name name) services
         open_so = same-bool _ _
             (λ is. served_by factories open_ones name opened.number order services served
             (ap is_some (same opened.number) ∙ open_here opened.number open_ones.domains here is)
-            (λ service one. ap (λ (n : List ℕ). same_name n name) (one.name ∙ named_so one.factory one.made one.found one.number_is)
+            (λ service one. ap (λ (n : List ℕ). bytes_eq n name) (one.name ∙ named_so one.factory one.made one.found one.number_is)
             ∙ name-itself name))
             (λ some. let (number, service, one, is) = served_named factories open_ones name order services served some in
             subst (λ (n : ℕ). is_open n open_ones ≡ true)

@@ -25,7 +25,8 @@ use Rattle.iox_machine.specs.Choices.{Choices}
 use Rattle.iox_machine.specs.AgreementLaws.{life_of}
 use Rattle.iox_machine.specs.Phase.{Phase, same_pattern}
 use Rattle.iox_machine.specs.Service.{Service}
-use Rattle.iox_machine.specs.State.{State, same_name, with_phase}
+use Rattle.iox_machine.specs.State.{State, with_phase}
+use Rattle.std.specs.Prelude.{bytes_eq}
 use Rattle.iox_negotiate_machine.proofs.Acted.{named}
 use Rattle.iox_negotiate_machine.specs.CallLaws.{IsServiceIn}
 use Rattle.iox_negotiate_machine.specs.Laws.{GoOn, HaveOwnHashes}
@@ -86,9 +87,9 @@ module _ {T : Type 0} (names : List (List ℕ)) (own : HaveOwnHashes names) (pat
 
   by_name : (P : MessagingPattern → List ℕ → Phase → Type 0) (one : MessagingPattern) (other : List ℕ)
       → P pattern name phase → P one other (state.phases one other) → P one other (after.phases one other)
-  by_name P one other here there = tested (same_pattern one pattern && same_name other name) refl
+  by_name P one other here there = tested (same_pattern one pattern && bytes_eq other name) refl
     where
-      tested : (b : Bool) → (same_pattern one pattern && same_name other name) ≡ b
+      tested : (b : Bool) → (same_pattern one pattern && bytes_eq other name) ≡ b
           → P one other (cond b phase (state.phases one other))
       tested true is =
           let same = named names own pattern name asked taken one other is in

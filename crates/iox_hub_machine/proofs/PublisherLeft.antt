@@ -57,8 +57,7 @@ use Rattle.iox_hub_machine.proofs.Absent.{no_publisher_goes}
 use Rattle.iox_hub_machine.proofs.Amidst.{at_one_skips, at_one_keeps}
 use Rattle.iox_hub_machine.proofs.Deciding.{DecideAlike, deciding, acting, same_ports, at_one_decides}
 use Rattle.iox_hub_machine.proofs.Departing.{as_kept, goes_less, names_still, not_it, was_up, name_apart, changed, order_then, keys_then}
-use Rattle.iox_hub_machine.proofs.Departing.{up_here}
-use Rattle.iox_hub_machine.proofs.Departing.{up_elsewhere, reader_up_here, reader_up_elsewhere, same_handlers, handlers_elsewhere}
+use Rattle.iox_hub_machine.proofs.Departing.{up_elsewhere, reader_up_here, reader_up_elsewhere, same_handlers, handlers_elsewhere, up_here}
 use Rattle.iox_hub_machine.proofs.Departing.{same_readers, readers_elsewhere, machine_left, stands_without}
 use Rattle.iox_hub_machine.proofs.Going.{same_stands, some_service}
 use Rattle.iox_hub_machine.proofs.Housed.{one_or_other}
@@ -67,11 +66,10 @@ use Rattle.iox_hub_machine.proofs.Loans.{done_so}
 use Rattle.iox_hub_machine.proofs.Moving.{IsMatched, machine_does}
 use Rattle.iox_hub_machine.proofs.Rooming.{roomy_there}
 use Rattle.iox_hub_machine.proofs.Settled.{gone_publisher_is_down, publishers_beside, kept_beside}
-use Rattle.iox_machine.proofs.Shorthands.{left}
 use Rattle.iox_machine.specs.Choices.{Choices}
 use Rattle.iox_machine.specs.Ports.{publisher_in}
-use Rattle.iox_machine.specs.Replies.{IsSkipped}
-use Rattle.iox_machine.specs.Service.{Service, Publisher, with_publisher}
+use Rattle.iox_machine.specs.Service.{Service, Publisher}
+use Rattle.iox_machine.proofs.Shorthands.{with_publisher, left, IsSkipped}
 use Rattle.iox_machine.specs.State.{State, AtOne}
 use Rattle.iox_machine.specs.Table.{at}
 

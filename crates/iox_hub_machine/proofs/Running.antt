@@ -35,10 +35,9 @@ use Rattle.iox_hub_machine.proofs.NamedLater.{all_named, by_actions, own_command
 use Rattle.iox_hub_machine.proofs.RunsOn.{new_has_room, new_runs_on, step_runs_on, step_takes}
 use Rattle.iox_hub_machine.specs.ClosingLaws.{IsCome}
 use Rattle.iox_hub_machine.specs.GoingOnLaws.{AreAllOn, ComesAsChosen, Decided, DecidedRunsGoOn, DecidedStep, IsOnUntil, IsOneOn}
-use Rattle.iox_hub_machine.specs.GoingOnLaws.{NewHubBegins}
-use Rattle.iox_hub_machine.specs.GoingOnLaws.{RunGoesOn, RunsGoOn, asked_of}
+use Rattle.iox_hub_machine.specs.GoingOnLaws.{RunGoesOn, RunsGoOn, asked_of, NewHubBegins}
 use Rattle.iox_hub_machine.specs.Ran.{RanAtMost, StandsAfter}
-use Rattle.iox_hub_machine.specs.RunLaws.{AsksAmong, RunAnswers, RunStands, all_asked, names_beside, names_in, steps_named}
+use Rattle.iox_hub_machine.specs.RunLaws.{AsksAmong, RunAnswers, RunStands, all_asked, names_in, steps_named}
 use Rattle.iox_hub_machine.specs.ServiceLaws.{IsFollowed}
 use Rattle.iox_hub_machine.specs.Services.{HubStandsFor}
 use Rattle.iox_machine.specs.Choices.{Choices, as_named}
@@ -58,93 +57,38 @@ later_among : (other name : List ℕ) (names : List (List ℕ)) → IsAmong name
 later_among other name names (place, (within, is)) = (suc place, (omega (arith, within), is))
 
 module _ {T : Type 0} where
-  its_own : (asked : Command T) (names : List (List ℕ)) → AsksAmong (names_beside asked names) asked
-  its_own (command.Create node name options attributes steps) names = first_among name names
-  its_own (command.Open node name options required steps) names = first_among name names
-  its_own (command.OpenOrCreate node name options required steps) names = first_among name names
-  its_own (command.Foreign pattern name steps) names = first_among name names
-  its_own command.Node names = tt
-  its_own (command.Close factory) names = tt
-  its_own (command.Publisher factory options) names = tt
-  its_own (command.Subscriber factory options) names = tt
-  its_own (command.Loan publisher elements) names = tt
-  its_own (command.LoanUninit publisher elements) names = tt
-  its_own (command.Set loan place value) names = tt
-  its_own (command.Fill loan values) names = tt
-  its_own (command.Drop loan) names = tt
-  its_own (command.Send loan) names = tt
-  its_own (command.Put publisher values) names = tt
-  its_own (command.Retry publisher nanoseconds) names = tt
-  its_own (command.GiveUp publisher) names = tt
-  its_own (command.Receive subscriber) names = tt
-  its_own (command.Read sample) names = tt
-  its_own (command.Sequence sample) names = tt
-  its_own (command.Release sample) names = tt
-  its_own (command.Update it) names = tt
-  its_own (command.Leave it) names = tt
-  its_own (command.Has subscriber) names = tt
+  its_own : (asked : Command T) (more : List (Command T)) → AsksAmong (names_in (asked ∷ more)) asked
+  its_own (command.Create node name options attributes steps) more = first_among name (names_in more)
+  its_own (command.Open node name options required steps) more = first_among name (names_in more)
+  its_own (command.OpenOrCreate node name options required steps) more = first_among name (names_in more)
+  its_own (command.Foreign pattern name steps) more = first_among name (names_in more)
+  its_own other more = tt
 
-  wider : (asked : Command T) (name : List ℕ) (names : List (List ℕ)) → IsAmong names name → IsAmong (names_beside asked names) name
-  wider (command.Create node other options attributes steps) name names among = later_among other name names among
-  wider (command.Open node other options required steps) name names among = later_among other name names among
-  wider (command.OpenOrCreate node other options required steps) name names among = later_among other name names among
-  wider (command.Foreign pattern other steps) name names among = later_among other name names among
-  wider command.Node name names among = among
-  wider (command.Close factory) name names among = among
-  wider (command.Publisher factory options) name names among = among
-  wider (command.Subscriber factory options) name names among = among
-  wider (command.Loan publisher elements) name names among = among
-  wider (command.LoanUninit publisher elements) name names among = among
-  wider (command.Set loan place value) name names among = among
-  wider (command.Fill loan values) name names among = among
-  wider (command.Drop loan) name names among = among
-  wider (command.Send loan) name names among = among
-  wider (command.Put publisher values) name names among = among
-  wider (command.Retry publisher nanoseconds) name names among = among
-  wider (command.GiveUp publisher) name names among = among
-  wider (command.Receive subscriber) name names among = among
-  wider (command.Read sample) name names among = among
-  wider (command.Sequence sample) name names among = among
-  wider (command.Release sample) name names among = among
-  wider (command.Update it) name names among = among
-  wider (command.Leave it) name names among = among
-  wider (command.Has subscriber) name names among = among
+  wider : (asked : Command T) (name : List ℕ) (more : List (Command T)) → IsAmong (names_in more) name
+      → IsAmong (names_in (asked ∷ more)) name
+  wider (command.Create node other options attributes steps) name more among = later_among other name (names_in more) among
+  wider (command.Open node other options required steps) name more among = later_among other name (names_in more) among
+  wider (command.OpenOrCreate node other options required steps) name more among = later_among other name (names_in more) among
+  wider (command.Foreign pattern other steps) name more among = later_among other name (names_in more) among
+  wider other name more among = among
 
-  asks_wider : (one asked : Command T) (names : List (List ℕ)) → AsksAmong names asked → AsksAmong (names_beside one names) asked
-  asks_wider one (command.Create node name options attributes steps) names among = wider one name names among
-  asks_wider one (command.Open node name options required steps) names among = wider one name names among
-  asks_wider one (command.OpenOrCreate node name options required steps) names among = wider one name names among
-  asks_wider one (command.Foreign pattern name steps) names among = wider one name names among
-  asks_wider one command.Node names among = tt
-  asks_wider one (command.Close factory) names among = tt
-  asks_wider one (command.Publisher factory options) names among = tt
-  asks_wider one (command.Subscriber factory options) names among = tt
-  asks_wider one (command.Loan publisher elements) names among = tt
-  asks_wider one (command.LoanUninit publisher elements) names among = tt
-  asks_wider one (command.Set loan place value) names among = tt
-  asks_wider one (command.Fill loan values) names among = tt
-  asks_wider one (command.Drop loan) names among = tt
-  asks_wider one (command.Send loan) names among = tt
-  asks_wider one (command.Put publisher values) names among = tt
-  asks_wider one (command.Retry publisher nanoseconds) names among = tt
-  asks_wider one (command.GiveUp publisher) names among = tt
-  asks_wider one (command.Receive subscriber) names among = tt
-  asks_wider one (command.Read sample) names among = tt
-  asks_wider one (command.Sequence sample) names among = tt
-  asks_wider one (command.Release sample) names among = tt
-  asks_wider one (command.Update it) names among = tt
-  asks_wider one (command.Leave it) names among = tt
-  asks_wider one (command.Has subscriber) names among = tt
+  asks_wider : (one asked : Command T) (more : List (Command T)) → AsksAmong (names_in more) asked
+      → AsksAmong (names_in (one ∷ more)) asked
+  asks_wider one (command.Create node name options attributes steps) more among = wider one name more among
+  asks_wider one (command.Open node name options required steps) more among = wider one name more among
+  asks_wider one (command.OpenOrCreate node name options required steps) more among = wider one name more among
+  asks_wider one (command.Foreign pattern name steps) more among = wider one name more among
+  asks_wider one other more among = tt
 
-  all_wider : (one : Command T) (commands : List (Command T)) (names : List (List ℕ)) → AllByRecursion (AsksAmong names) commands
-      → AllByRecursion (AsksAmong (names_beside one names)) commands
-  all_wider one [] names all = tt
-  all_wider one (asked ∷ more) names all = (asks_wider one asked names all.0, all_wider one more names all.1)
+  all_wider : (one : Command T) (commands more : List (Command T)) → AllByRecursion (AsksAmong (names_in more)) commands
+      → AllByRecursion (AsksAmong (names_in (one ∷ more))) commands
+  all_wider one [] more all = tt
+  all_wider one (asked ∷ commands) more all = (asks_wider one asked more all.0, all_wider one commands more all.1)
 
   -- the names of commands are those for which they ask
   pub all_among : (commands : List (Command T)) → AllByRecursion (AsksAmong (names_in commands)) commands
   all_among [] = tt
-  all_among (asked ∷ more) = (its_own asked (names_in more), all_wider asked more (names_in more) (all_among more))
+  all_among (asked ∷ more) = (its_own asked more, all_wider asked more more (all_among more))
 
   pub both_asked : (first rest : List (Command T)) → all_asked (first ++ rest) ≡ all_asked first + all_asked rest
   both_asked [] rest = omega arith
@@ -509,7 +453,7 @@ module _ {T U B D : Type 0} (payload user_header : Detail) (types : MessageTypeD
 
     pub run_answers : RunAnswers payload user_header types is_default is_default_header fixed degrades decides fixed_reader reader_degrades
     run_answers config commands old new replies stopped runs stops decides_so answers_fixed is_new own few =
-        answers_so config commands old new replies stopped is_new.hub_is_new.expired_connection_buffer
+        answers_so config commands old new replies stopped is_new.expired_connection_buffer
         (stops (new_has_room config old is_new) (new_runs_on config old is_new).grown)
         (on (names_in commands) 0 commands old new new_state replies stopped decides_so answers_fixed (all_named is_default old) own
         (all_among commands)
@@ -525,6 +469,6 @@ module _ {T U B D : Type 0} (payload user_header : Detail) (types : MessageTypeD
           it.stands.order,
           it.after,
           subst (λ (n : ℕ). machine.Runs types (as_named is_default) n commands new_state replies it.after)
-              is_new.hub_is_new.expired_connection_buffer it.runs,
+              is_new.expired_connection_buffer it.runs,
           it.stands.stands,
         )

@@ -109,27 +109,27 @@ module _ {T U B D : Type 0} where
 
   pub new_runs_on : (config : HubConfig) (hub : NumberedHub T U B D) → IsNew config hub → RanAtMost 0 hub
   new_runs_on config hub new =
-      let none = ap (λ services. services.domains) new.hub_is_new.services in
+      let none = ap (λ services. services.domains) new.services in
       let made = ap (λ table. table.next) new.no_factory in
       let entries = ap (λ table. table.entries) new.no_factory in
-      let nodes = new.hub_is_new.nodes in
-      let next = ap (λ table. table.next) new.hub_is_new.table in
+      let nodes = new.nodes in
+      let next = ap (λ table. table.next) new.table in
       let counts = (no_services hub.hub.services.domains none).1 in
-      let publishers = new.nothing_made.0.1 in
-      let subscribers = new.nothing_made.1.1 in
-      let loans = new.nothing_made.2.1 in
-      let samples = new.nothing_made.3.1 in record {
+      let publishers = new.publishers.1 in
+      let subscribers = new.subscribers.1 in
+      let loans = new.loans.1 in
+      let samples = new.samples.1 in record {
         grown = (no_services hub.hub.services.domains none).0;
         rise = (
           rw (entries, made) (omega arith),
-          rw (new.nothing_made.0.0, publishers) (omega arith),
-          rw (new.nothing_made.1.0, subscribers) (omega arith),
-          rw (new.nothing_made.2.0, loans) (omega arith),
-          rw (new.nothing_made.3.0, samples) (omega arith),
+          rw (new.publishers.0, publishers) (omega arith),
+          rw (new.subscribers.0, subscribers) (omega arith),
+          rw (new.loans.0, loans) (omega arith),
+          rw (new.samples.0, samples) (omega arith),
         );
-        agreed = nothing_agrees hub.factories.made hub.hub config.id entries none new.hub_is_new.table;
+        agreed = nothing_agrees hub.factories.made hub.hub config.id entries none new.table;
         services = rw none tt;
-        counts = rw new.hub_is_new.factory_counts tt;
+        counts = rw new.factory_counts tt;
         nodes = omega (arith, nodes);
         numbers = omega (arith, made, publishers, subscribers, loans, samples);
         locks = omega (arith, next);
@@ -139,10 +139,9 @@ module _ {T U B D : Type 0} where
   -- a new hub has room for its ports: it has none
   pub new_has_room : (config : HubConfig) (hub : NumberedHub T U B D) → IsNew config hub → HasRoom hub
   new_has_room config hub new =
-      let none = ap (λ services. services.domains) new.hub_is_new.services in
-      let (publishers, subscribers, loans, samples) = new.nothing_made in (
-        (rw (loans.0, none) (omega arith), inl publishers.0),
-        (rw (samples.0, none) (omega arith), inl subscribers.0),
+      let none = ap (λ services. services.domains) new.services in (
+        (rw (new.loans.0, none) (omega arith), inl new.publishers.0),
+        (rw (new.samples.0, none) (omega arith), inl new.subscribers.0),
       )
 
   -- ---- a step

@@ -1,16 +1,15 @@
 -- How many factories a node has once one got one more.
 use Rattle.std.proofs.Common.{◌≡◌, ◌+◌, ◌&&◌, ℕ, zero, suc, Bool, true, false, cond, List, [], ◌∷◌, ◌++◌, length, filter, refl, sym, ap}
-use Rattle.std.proofs.Common.{subst, ◌∙◌, arith}
-use Rattle.std.proofs.Common.{length-append}
+use Rattle.std.proofs.Common.{subst, ◌∙◌, arith, length-append}
 use Rattle.std.proofs.Math.Logic.{⊎_elim}
 use Rattle.std.proofs.lemmas.Bool.Decides.{eqb_tells}
 use Rattle.std.proofs.lemmas.List.Elements.{filter-append}
-use Rattle.std.specs.Prelude.{◌==◌}
 use Rattle.iox_command.specs.NegotiateBase.DescribeBase.declared.pattern.MessagingPattern.{MessagingPattern}
 use Rattle.iox_domain_machine.proofs.Settling.{both}
 use Rattle.iox_hub_machine.specs.Seats.{seats_for, is_factory_of_node, factories_of_node}
 use Rattle.iox_machine.specs.Phase.{Node, Own, entered, same_node, same_pattern}
-use Rattle.iox_machine.specs.State.{Factory, same_name}
+use Rattle.iox_machine.specs.State.{Factory}
+use Rattle.std.specs.Prelude.{bytes_eq, ◌==◌}
 use Rattle.iox_negotiate_machine.proofs.Acted.{name-is}
 use Rattle.iox_negotiate_machine.proofs.Acting.{name-itself, pattern-is, pattern-itself}
 use Rattle.iox_negotiate_machine.proofs.Seats.{node-is, node-itself, passed, aside, behind}
@@ -19,9 +18,9 @@ use Rattle.iox_negotiate_machine.specs.Standing.{counts_of}
 -- ---- of one service
 
 -- a pattern and a name are themselves
-pub its_own : (pattern : MessagingPattern) (name : List ℕ) → (same_pattern pattern pattern && same_name name name) ≡ true
+pub its_own : (pattern : MessagingPattern) (name : List ℕ) → (same_pattern pattern pattern && bytes_eq name name) ≡ true
 its_own pattern name =
-    ap (λ (b : Bool). b && same_name name name) (pattern-itself pattern) ∙ name-itself name
+    ap (λ (b : Bool). b && bytes_eq name name) (pattern-itself pattern) ∙ name-itself name
 
 more_by : (b : Bool) (entry : ℕ × Factory) (some : List (ℕ × Factory)) → length (some ++ cond b (entry ∷ []) []) ≡ length some + cond b 1 0
 more_by true entry some = length-append some (entry ∷ [])
@@ -44,21 +43,21 @@ module _ (pattern : MessagingPattern) (name : List ℕ) (node : ℕ) where
   -- it is one of this node alone, of the service
   pub is_its : (other : ℕ) → is_factory_of_node pattern name other factory_got ≡ (node == other)
   is_its other =
-      ap (λ (b : Bool). b && (same_name name name && node == other)) (pattern-itself pattern)
+      ap (λ (b : Bool). b && (bytes_eq name name && node == other)) (pattern-itself pattern)
       ∙ ap (λ (b : Bool). b && node == other) (name-itself name)
 
   never_its : (one : MessagingPattern) (other : List ℕ) (which : ℕ) (b : Bool) → is_factory_of_node one other which factory_got ≡ b
-      → (same_pattern one pattern && same_name other name) ≡ false → b ≡ false
+      → (same_pattern one pattern && bytes_eq other name) ≡ false → b ≡ false
   never_its one other which false is isnt = refl
   never_its one other which true is isnt =
       let first = both _ _ is in
       let second = both _ _ first.1 in
-      sym (subst (λ (p : MessagingPattern). (same_pattern p pattern && same_name other name) ≡ true) (pattern-is pattern one first.0)
-      (subst (λ (n : List ℕ). (same_pattern pattern pattern && same_name n name) ≡ true) (name-is name other second.0)
+      sym (subst (λ (p : MessagingPattern). (same_pattern p pattern && bytes_eq other name) ≡ true) (pattern-is pattern one first.0)
+      (subst (λ (n : List ℕ). (same_pattern pattern pattern && bytes_eq n name) ≡ true) (name-is name other second.0)
       (its_own pattern name))) ∙ isnt
 
   -- and of no other service
-  pub is_not_its : (one : MessagingPattern) (other : List ℕ) (which : ℕ) → (same_pattern one pattern && same_name other name) ≡ false
+  pub is_not_its : (one : MessagingPattern) (other : List ℕ) (which : ℕ) → (same_pattern one pattern && bytes_eq other name) ≡ false
       → is_factory_of_node one other which factory_got ≡ false
   is_not_its one other which isnt = never_its one other which _ refl isnt
 

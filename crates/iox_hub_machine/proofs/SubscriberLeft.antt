@@ -1,6 +1,5 @@
 -- Subscribers of a hub leave.
-use Rattle.std.proofs.Common.{◌≡◌, ◌≢◌, ℕ, Bool, true, false, List, Option, None, Some, refl, sym, ap, subst, ◌∙◌}
-use Rattle.std.proofs.Common.{true≢false}
+use Rattle.std.proofs.Common.{◌≡◌, ◌≢◌, ℕ, Bool, true, false, List, Option, None, Some, refl, sym, ap, subst, ◌∙◌, true≢false}
 use Rattle.std.proofs.Math.Logic.{⊎_elim}
 use Rattle.std.specs.Option.{option_map}
 use Rattle.iox_command.specs.DomainValues.declared.backpressure.BackpressureDecision.{BackpressureDecision}
@@ -55,8 +54,7 @@ use Rattle.iox_hub_machine.specs.Standing.{PortsStandFor, publisher_is_up, subsc
 use Rattle.iox_hub_machine.proofs.Amidst.{at_one_skips, at_one_keeps}
 use Rattle.iox_hub_machine.proofs.Deciding.{DecideAlike, deciding, acting, at_one_decides}
 use Rattle.iox_hub_machine.proofs.Departing.{as_kept, goes_less, names_still, not_it, was_up, name_apart, changed, order_then, keys_then}
-use Rattle.iox_hub_machine.proofs.Departing.{up_here}
-use Rattle.iox_hub_machine.proofs.Departing.{up_elsewhere, reader_up_here, reader_up_elsewhere, same_handlers, handlers_elsewhere}
+use Rattle.iox_hub_machine.proofs.Departing.{up_elsewhere, reader_up_here, reader_up_elsewhere, same_handlers, handlers_elsewhere, up_here}
 use Rattle.iox_hub_machine.proofs.Departing.{same_readers, readers_elsewhere, machine_left, stands_without}
 use Rattle.iox_hub_machine.proofs.Going.{same_stands, some_service}
 use Rattle.iox_hub_machine.proofs.Housed.{one_or_other}
@@ -66,10 +64,10 @@ use Rattle.iox_hub_machine.proofs.Placed.{publisher_as}
 use Rattle.iox_hub_machine.proofs.Readers.{reader_goes, no_subscriber_goes}
 use Rattle.iox_hub_machine.proofs.Rooming.{roomy_there}
 use Rattle.iox_hub_machine.proofs.Settled.{gone_subscriber_is_down, subscribers_beside, kept_beside}
-use Rattle.iox_machine.proofs.Shorthands.{left}
 use Rattle.iox_machine.specs.Choices.{Choices}
 use Rattle.iox_machine.specs.Ports.{subscriber_in}
-use Rattle.iox_machine.specs.Service.{Service, Subscriber, with_subscriber}
+use Rattle.iox_machine.specs.Service.{Service, Subscriber}
+use Rattle.iox_machine.proofs.Shorthands.{with_subscriber, left}
 use Rattle.iox_machine.specs.State.{State, AtOne}
 use Rattle.iox_machine.specs.Table.{at}
 

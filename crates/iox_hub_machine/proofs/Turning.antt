@@ -15,16 +15,16 @@ use Rattle.iox_command.specs.declared.reply.Reply.{Reply}
 use Rattle.iox_domain_machine.proofs.AloneDid.{by_bool, by_option}
 use Rattle.iox_domain_machine.proofs.Found.{at_changed}
 use Rattle.iox_hub_machine.proofs.Deciding.{DecidesAlike, deciding, same_ports, publisher_alike}
-use Rattle.iox_machine.specs.RunLaws.{sent_as}
 use Rattle.iox_machine.specs.Lending.{Lends, LendsLonger, loan_refusal}
 use Rattle.iox_machine.specs.Mailbox.{Mailbox, newest, put}
-use Rattle.iox_machine.specs.Message.{Message, Loan, is_written}
+use Rattle.iox_machine.specs.Message.{Message, Loan}
 use Rattle.iox_machine.specs.PortList.{those}
 use Rattle.iox_machine.specs.Ports.{Puts, SendsLoan}
 use Rattle.iox_machine.specs.PublisherUpdate.{Follows, UpdatesFirst, ended, welcome}
-use Rattle.iox_machine.specs.Replies.{IsSkipped, IsRefused}
-use Rattle.iox_machine.specs.Sending.{GoesOn, Begins, Sends, numbered}
-use Rattle.iox_machine.specs.Service.{Service, Publisher, Send, with_publisher, mailbox, with_mailbox}
+use Rattle.iox_machine.specs.Sending.{GoesOn, Begins, Sends}
+use Rattle.iox_machine.specs.RunLaws.{numbered, sent_as, is_written}
+use Rattle.iox_machine.specs.Service.{Service, Publisher, Send, mailbox, with_mailbox}
+use Rattle.iox_machine.proofs.Shorthands.{with_publisher, IsSkipped, IsRefused}
 use Rattle.iox_machine.specs.Table.{at, contains, removed}
 use Rattle.iox_machine.specs.Choices.{Choices}
 use Rattle.iox_machine.proofs.Delivering.{Outcomes, by-outcome, deliver, first_of, goes-on-so, offered}

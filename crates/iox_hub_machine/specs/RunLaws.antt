@@ -45,18 +45,14 @@ module _ {T : Type 0} where
   all_asked [] = 0
   all_asked (asked ∷ more) = 1 + steps_named asked + all_asked more
 
-  -- names, and before them that of the service for which a command asks, if it asks for one
-  abbrev pub names_beside : Command T → List (List ℕ) → List (List ℕ)
-  names_beside (command.Create node name options attributes steps) names = name ∷ names
-  names_beside (command.Open node name options required steps) names = name ∷ names
-  names_beside (command.OpenOrCreate node name options required steps) names = name ∷ names
-  names_beside (command.Foreign pattern name steps) names = name ∷ names
-  names_beside other names = names
-
   -- the names of the services for which commands ask
   abbrev pub names_in : List (Command T) → List (List ℕ)
   names_in [] = []
-  names_in (asked ∷ more) = names_beside asked (names_in more)
+  names_in (command.Create node name options attributes steps ∷ more) = name ∷ names_in more
+  names_in (command.Open node name options required steps ∷ more) = name ∷ names_in more
+  names_in (command.OpenOrCreate node name options required steps ∷ more) = name ∷ names_in more
+  names_in (command.Foreign pattern name steps ∷ more) = name ∷ names_in more
+  names_in (other ∷ more) = names_in more
 
   -- The name of the service for which a command asks is among these, if it asks for one.
   abbrev pub AsksAmong : List (List ℕ) → Command T → Type 0

@@ -7,7 +7,7 @@ mod Numbers
 mod JoinedLanes
 mod Joint
 mod Joins
-mod Sound
+pub mod Sound
 mod Apart
 mod Booked
 mod Histories
@@ -32,7 +32,7 @@ mod Ordered
 mod Sizing
 mod Counting
 mod Failing
-mod Presence
+pub mod Presence
 mod Rows
-mod Tied
+pub mod Tied
 pub mod Forgetting

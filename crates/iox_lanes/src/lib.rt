@@ -9,8 +9,8 @@
 //! - [`threads`]: the ports of a domain in threads of their own.
 //! - [`laws`]: what holds of lanes and of the domain beside them.
 //!
-//! Named again is what a first program on lanes needs: [`Lanes`], [`RecordedLanes`], [`Message`], [`Party`], [`Call`], [`Move`], and for
-//! threads [`open_threads`], [`LanePublisher`], [`LaneSubscriber`].
+//! Named again is what a first program on lanes needs: [`Lanes`], [`RecordedLanes`], [`Message`], [`Party`], [`Call`], [`Move`],
+//! [`values_in`] and [`numbered_values_in`], and for threads [`open_threads`], [`LanePublisher`], [`LaneSubscriber`].
 //!
 //! First calls:
 //!
@@ -42,7 +42,10 @@ pub use iox_lanes_laws::messages::{Message, RecordedLanes};
 pub use iox_lanes_machine::{LaneSizes, Lanes};
 pub use iox_lanes_opening::refusals::IntoLanesError;
 pub use iox_lanes_parties::publisher::LoanAnswer;
-pub use iox_lanes_parties::{Answer, Call, CallName, Entry, FinishedCall, Move, Party, SendAnswer};
+pub use iox_lanes_parties::{
+    Answer, Call, CallName, Entry, FinishedCall, Move, Party, SendAnswer, numbered_values_in,
+    values_in,
+};
 pub use iox_lanes_threads::{
     EndError, EndedThreads, LanePublisher, LaneSubscriber, LaneThreads, OpenError, end,
     open_threads,

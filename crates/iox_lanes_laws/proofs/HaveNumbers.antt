@@ -54,10 +54,10 @@ use Rattle.iox_lanes_laws.proofs.SentNumbers.{Has, SentHave, at_behind, found_ha
 use Rattle.iox_lanes_laws.proofs.SentNumbers.{run_have, run_keeps, start_have}
 
 -- a send of a publisher is one of the calls that ended
-record IsAmongEnded (who : ℕ) (finished : List FinishedCall) (send : FinishedCall) : Type 0 where
-  at : ℕ
-  found : slice_get finished at ≡ Some send
-  own : send.party ≡ Publisher who
+pub record IsAmongEnded (who : ℕ) (finished : List FinishedCall) (send : FinishedCall) : Type 0 where
+  pub at : ℕ
+  pub found : slice_get finished at ≡ Some send
+  pub own : send.party ≡ Publisher who
 
 own_party : (party : Party) (who : ℕ) (b : Bool) → is_sender party who && b ≡ true → party ≡ Publisher who
 own_party (Subscriber place) who b h = absurd (cc h)
@@ -70,7 +70,7 @@ later_ended : (who : ℕ) (call : FinishedCall) (finished : List FinishedCall) (
     → IsAmongEnded who (call ∷ finished) send
 later_ended who call finished send h = record { at = suc h.at; found = h.found; own = h.own }
 
-among_ended : (who : ℕ) (finished : List FinishedCall) (number : ℕ) (send : FinishedCall)
+pub among_ended : (who : ℕ) (finished : List FinishedCall) (number : ℕ) (send : FinishedCall)
     → slice_get (sends_of who finished) number ≡ Some send → IsAmongEnded who finished send
 among_ended who [] number send h = absurd (cc h)
 among_ended who (call ∷ finished) number send h
@@ -160,23 +160,59 @@ taken [] place (suc few) route h below = absurd (cc h)
 taken (r ∷ routes) zero (suc few) route h below = h
 taken (r ∷ routes) (suc place) (suc few) route h below = taken routes place few route h (omega (arith, below))
 
--- a put at a connection of a publisher whose sends have messages
-module _ (m : World) (ms : List MessageState) (who : ℕ) (lane : PublisherLaneState) (found : slice_get m.publishers who ≡ Some lane)
-    (have : SentHave m ms) (sends : SendsPut m who lane.fails lane.port.routes lane.first lane.port.call)
+-- how many puts a push has in hand
+hand_few : (read : ℕ) (p : Push) → length (put_in_hand read p) ≤ 1
+hand_few read (push.Overflowing overflowing_push.Idle) = omega arith
+hand_few read (push.Overflowing (overflowing_push.Begun limit value)) = omega arith
+hand_few read (push.Overflowing (overflowing_push.SawWrite limit value write next)) = omega arith
+hand_few read (push.Overflowing (overflowing_push.SawRead limit value write next seen)) = omega arith
+hand_few read (push.Overflowing (overflowing_push.Filled limit value write next seen)) = omega arith
+hand_few read (push.Overflowing (overflowing_push.Full value seen next)) = if_one (read == seen) value
+  where
+    if_one : (b : Bool) (value : ℕ) → length {A = PutNow} (if b then [] else record { value = value; answer = Kept } ∷ []) ≤ 1
+    if_one true value = omega arith
+    if_one false value = omega arith
+hand_few read (push.Overflowing (overflowing_push.SawOldest value seen next oldest)) = if_one (read == seen) value
+  where
+    if_one : (b : Bool) (value : ℕ) → length {A = PutNow} (if b then [] else record { value = value; answer = Kept } ∷ []) ≤ 1
+    if_one true value = omega arith
+    if_one false value = omega arith
+hand_few read (push.Overflowing (overflowing_push.Pushed value answer)) = omega arith
+hand_few read (push.Refusing refusing_push.Idle) = omega arith
+hand_few read (push.Refusing (refusing_push.Begun limit value)) = omega arith
+hand_few read (push.Refusing (refusing_push.SawWrite limit value write next)) = omega arith
+hand_few read (push.Refusing (refusing_push.SawRoom value write next)) = omega arith
+hand_few read (push.Refusing (refusing_push.Filled value next)) = omega arith
+hand_few read (push.Refusing (refusing_push.Pushed value answer)) = omega arith
+
+-- what each ended send of a publisher has of its slot while it lasts, by its number among them
+abbrev EndedHave : World → ℕ → (ℕ → ℕ → ℕ → Type 0) → Type 0
+EndedHave m who P = (number : ℕ) (send : FinishedCall) → slice_get (sends_of who m.finished) number ≡ Some send → (slot : ℕ)
+    → send.call ≡ name.Send slot → (moment : ℕ) → send.first ≤ moment → moment ≤ send.last → P number slot moment
+
+-- and what the one has that goes on, from its begin on
+abbrev GoingHas : World → ℕ → PublisherLaneState → (ℕ → ℕ → ℕ → Type 0) → Type 0
+GoingHas m who lane P = (slot : ℕ) → publisher_is_idle lane.port.call ≡ false → lane.call ≡ name.Send slot → (moment : ℕ)
+    → lane.first ≤ moment → P (length (sends_of who m.finished)) slot moment
+
+-- a put at a connection of a publisher has what its send has
+module _ (m : World) (who : ℕ) (lane : PublisherLaneState) (P : ℕ → ℕ → ℕ → Type 0) (ended_have : EndedHave m who P)
+    (going_has : GoingHas m who lane P) (sends : SendsPut m who lane.fails lane.port.routes lane.first lane.port.call)
     (stage : IsStageOf lane.call lane.port.call) (place : ℕ) (route : Route) (at : slice_get lane.port.routes place ≡ Some route)
     (number : ℕ) (put : PushCall) (there : slice_get (puts_at m.orders route) number ≡ Some put) where
   abbrev ended_so_far : ℕ
   ended_so_far = length (sends_of who m.finished)
 
   abbrev Wanted : Type 0
-  Wanted = Has ms put.value put.first
+  Wanted = P number put.value put.first
 
   -- it is the one that a send has there
-  by_put : (slot first last : ℕ) (answer : PushAnswer) → IsPutAt m.orders number slot first last route answer → Has ms slot first → Wanted
+  by_put : (slot first last : ℕ) (answer : PushAnswer) → IsPutAt m.orders number slot first last route answer
+      → ((moment : ℕ) → first ≤ moment → moment ≤ last → P number slot moment) → Wanted
   by_put slot first last answer is has =
       let same : is.put ≡ put = some_is is.put put (sym is.found ∙ there) in
-      subst (λ (x : PushCall). Has ms x.value x.first) same
-      (subst (λ (s : ℕ). Has ms s (is.put).first) (sym is.value) (has_later ms slot first (is.put).first (is.inside).begun has))
+      subst (λ (x : PushCall). P number x.value x.first) same
+      (subst (λ (s : ℕ). P number s (is.put).first) (sym is.value) (has (is.put).first (is.inside).begun (is.inside).not_ended))
 
   -- of a send that ended
   by_ended : number < ended_so_far → Wanted
@@ -184,15 +220,20 @@ module _ (m : World) (ms : List MessageState) (who : ℕ) (lane : PublisherLaneS
       let some = has_one (sends_of who m.finished) number below in
       let send : FinishedCall = some.0 in
       let is = sends.sent number send some.1 in
-      let ended = among_ended who m.finished number send some.1 in
       let one = zip_at (IsPutAt m.orders number is.slot send.first send.last) lane.port.routes (is.puts).answers place route
       (is.puts).puts at in
-      by_put is.slot send.first send.last one.0 one.1 (have.ended ended.at who is.slot send ended.found ended.own is.asked)
+      by_put is.slot send.first send.last one.0 one.1 (ended_have number send some.1 is.slot is.asked)
     where
       has_one : (xs : List FinishedCall) (k : ℕ) → k < length xs → (x : FinishedCall) × (slice_get xs k ≡ Some x)
       has_one [] k lt = absurd (omega (arith, lt))
       has_one (x ∷ xs) zero lt = (x, refl)
       has_one (x ∷ xs) (suc k) lt = has_one xs k (omega (arith, lt))
+
+  -- what the send that goes on has
+  own_has : (slot : ℕ) → number ≡ ended_so_far → publisher_is_idle lane.port.call ≡ false → lane.call ≡ name.Send slot → (moment : ℕ)
+      → lane.first ≤ moment → P number slot moment
+  own_has slot same inside asked moment begun
+      = subst (λ (n : ℕ). P n slot moment) (sym same) (going_has slot inside asked moment begun)
 
   -- of the send that goes on, which has put it at a connection of some
   by_going : (slot last : ℕ) (delivery : Delivery) (routes : List Route) → slice_get routes place ≡ Some route → number ≡ ended_so_far
@@ -202,21 +243,21 @@ module _ (m : World) (ms : List MessageState) (who : ℕ) (lane : PublisherLaneS
       let one = zip_at (IsPutAt m.orders ended_so_far slot lane.first last) routes are.answers place route are.puts here in
       by_put slot lane.first last one.0
       (subst (λ (n : ℕ). IsPutAt m.orders n slot lane.first last route one.0) (sym same) one.1)
-      (have.going who slot lane found inside asked)
+      (λ moment begun not_ended. own_has slot same inside asked moment begun)
 
   -- or has it in hand
-  by_hand : (slot since : ℕ) (p : Push) → ended_so_far ≤ number → push_value p ≡ slot → lane.first ≤ since
+  by_hand : (slot since : ℕ) (p : Push) → number ≡ ended_so_far → push_value p ≡ slot → lane.first ≤ since
       → AllZip PutInside (map (push_call since m.moments) (put_in_hand (read_at m.table route) p))
       (drop ended_so_far (puts_at m.orders route))
       → publisher_is_idle lane.port.call ≡ false → lane.call ≡ name.Send slot → Wanted
-  by_hand slot since p past value begun here inside asked =
+  by_hand slot since p same value begun here inside asked =
       let own = beside (put_in_hand (read_at m.table route) p) since m.moments (drop ended_so_far (puts_at m.orders route))
       (number - ended_so_far) put here
-      (dropped (puts_at m.orders route) ended_so_far number put past there) in
-      let same : slot ≡ put.value = sym value ∙ sym (hand_value (read_at m.table route) p own.k own.now own.there)
+      (dropped (puts_at m.orders route) ended_so_far number put (omega (arith, same)) there) in
+      let is : slot ≡ put.value = sym value ∙ sym (hand_value (read_at m.table route) p own.k own.now own.there)
       ∙ (own.inside).answer.same_value in
-      subst (λ (s : ℕ). Has ms s put.first) same (has_later ms slot lane.first put.first (omega (arith, begun, (own.inside).inside.begun))
-      (have.going who slot lane found inside asked))
+      subst (λ (s : ℕ). P number s put.first) is
+      (own_has slot same inside asked put.first (omega (arith, begun, (own.inside).inside.begun)))
 
   all_there : number < length (puts_at m.orders route)
   all_there = slice_get_within (puts_at m.orders route) number put there
@@ -257,7 +298,15 @@ module _ (m : World) (ms : List MessageState) (who : ℕ) (lane : PublisherLaneS
               | inl same ↦
                   let same_route : route' ≡ route = some_is route' route
                   (sym is.at ∙ ap (slice_get lane.port.routes) (sym (one_place same.1)) ∙ at) in
-                  by_hand slot is.since p past is.value
+                  let own : number ≡ ended_so_far = omega (
+                    arith,
+                    all_there,
+                    all,
+                    done,
+                    hand_few (read_at m.table route) (push_on route.connection route.kind c),
+                    past,
+                  ) in
+                  by_hand slot is.since p own is.value
                   (rise_le m.orders ended_so_far lane.first (take here lane.port.routes) is.since (is.before).in_order)
                   (subst (λ (x : Route). AllZip PutInside (map (push_call is.since m.moments) (put_in_hand (read_at m.table x) p))
                   (drop ended_so_far (puts_at m.orders x))) same_route is.here) inside asked
@@ -286,11 +335,25 @@ module _ (m : World) (ms : List MessageState) (who : ℕ) (lane : PublisherLaneS
       = by_going slot m.moments delivery lane.port.routes at (one_more (publishing.Sent slot delivery) all refl refl past) so_far idle asked
   by_call (publishing.Dropping slot) so_far all asked idle past = absurd (none_more (publishing.Dropping slot) all refl refl past)
 
-  pub put_has : Wanted
+  put_has : Wanted
   put_has = elim (cases_lt number ended_so_far) [
     | inl below ↦ by_ended below
     | inr past ↦ by_call lane.port.call sends.so_far (sends.no_more place route at) stage refl past
   ]
+
+-- so each put at a connection has what its send has
+pub put_at_has : (m : World) → IsKept m → m.moments ≤ 2 ^ 63 → (connection : ℕ) (link : LinkState) (order : List Placed)
+    → slice_get m.links connection ≡ Some link → slice_get m.orders connection ≡ Some order → (P : ℕ → ℕ → ℕ → Type 0)
+    → EndedHave m link.publisher P
+    → ((lane : PublisherLaneState) → slice_get m.publishers link.publisher ≡ Some lane → GoingHas m link.publisher lane P)
+    → (number : ℕ) (put : PushCall) → slice_get (puts order) number ≡ Some put → P number put.value put.first
+put_at_has m k few connection link order linked ordered P ended_have going_has number put there =
+    let r = recorded m connection link order linked ordered (sends_connected m (k.sends few)) (k.uses few) 0 in
+    let same : get_or m.orders (r.route).connection [] ≡ order
+    = ap (λ (n : ℕ). get_or m.orders n []) r.same ∙ get_or_from_slice_get m.orders connection order [] ordered in
+    put_has m link.publisher r.lane P ended_have (going_has r.lane r.found) (k.sends few link.publisher r.lane r.found)
+    ((k.calls few).publishers link.publisher r.lane r.found).0 r.place r.route r.at number put
+    (subst (λ (o : List Placed). slice_get (puts o) number ≡ Some put) (sym same) there)
 
 -- each put at a connection has a message by its moment
 abbrev PutsHave : List MessageState → List Placed → Type 0
@@ -298,13 +361,13 @@ PutsHave ms order = (number : ℕ) (put : PushCall) → slice_get (puts order) n
 
 puts_have : (m : World) (ms : List MessageState) → IsKept m → m.moments ≤ 2 ^ 63 → SentHave m ms → (connection : ℕ) (link : LinkState)
     (order : List Placed) → slice_get m.links connection ≡ Some link → slice_get m.orders connection ≡ Some order → PutsHave ms order
-puts_have m ms k few have connection link order linked ordered number put there =
-    let r = recorded m connection link order linked ordered (sends_connected m (k.sends few)) (k.uses few) 0 in
-    let same : get_or m.orders (r.route).connection [] ≡ order
-    = ap (λ (n : ℕ). get_or m.orders n []) r.same ∙ get_or_from_slice_get m.orders connection order [] ordered in
-    put_has m ms link.publisher r.lane r.found have (k.sends few link.publisher r.lane r.found)
-    ((k.calls few).publishers link.publisher r.lane r.found).0 r.place r.route r.at number put
-    (subst (λ (o : List Placed). slice_get (puts o) number ≡ Some put) (sym same) there)
+puts_have m ms k few have connection link order linked ordered =
+    put_at_has m k few connection link order linked ordered (λ number slot moment. Has ms slot moment)
+    (λ number send found slot asked moment begun not_ended.
+    let ended = among_ended link.publisher m.finished number send found in
+    has_later ms slot send.first moment begun (have.ended ended.at link.publisher slot send ended.found ended.own asked))
+    (λ lane found slot inside asked moment begun.
+    has_later ms slot lane.first moment begun (have.going link.publisher slot lane found inside asked))
 
 -- what is left out or taken was put or found before
 module _ (ms : List MessageState) where
@@ -398,11 +461,11 @@ all_from : (P : ℕ → Type 0) (xs : List ℕ) → ((at slot : ℕ) → slice_g
 all_from P xs f = λ at d below. f at (get_or xs at d) (slice_get-get_or xs at d below)
 
 -- what is run leaves lanes as they are kept, with the same connections
-record StaysKept (m n : World) : Type 0 where
-  kept : IsKept n
-  links : n.links ≡ m.links
+pub record StaysKept (m n : World) : Type 0 where
+  pub kept : IsKept n
+  pub links : n.links ≡ m.links
 
-run_kept : (r : RecordState) (entries : List Entry) (made : ℕ) (n : RecordState) → RecordsRun r entries made n → IsKept r.lanes
+pub run_kept : (r : RecordState) (entries : List Entry) (made : ℕ) (n : RecordState) → RecordsRun r entries made n → IsKept r.lanes
     → StaysKept r.lanes n.lanes
 run_kept r [] made n run k = subst (λ (x : RecordState). StaysKept r.lanes x.lanes) (sym run.1) (record { kept = k; links = refl })
 run_kept r (entry ∷ entries) made n (inl run) k = run_kept r entries made n run.1 k

@@ -31,3 +31,8 @@ pub mod PublisherCourses
 pub mod SubscriberCourses
 pub mod Takes
 pub mod Payloads
+pub mod Missing
+pub mod SequenceRuns
+pub mod SequenceLaws
+pub mod SequenceSends
+pub mod SequenceGaps

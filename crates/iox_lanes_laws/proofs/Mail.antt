@@ -160,7 +160,7 @@ mail_stays m place c before n after w given found now e quiet = λ connection. b
         = mail_of m n connection link w.links there (waits_on m place c before n after w given found now e quiet connection link there)
 
 -- a send is one more
-sends_one : (who : ℕ) (finished : List FinishedCall) (one : FinishedCall) → one.party ≡ Publisher who → is_send one.answer ≡ true
+pub sends_one : (who : ℕ) (finished : List FinishedCall) (one : FinishedCall) → one.party ≡ Publisher who → is_send one.answer ≡ true
     → sends_of who (finished ++ one ∷ []) ≡ sends_of who finished ++ one ∷ []
 sends_one who [] one own sends =
     append-nil _ ∙ choose_one (is_sender one.party who && is_send one.answer) (one ∷ []) []

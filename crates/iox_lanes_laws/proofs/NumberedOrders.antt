@@ -77,7 +77,7 @@ answer_so f o limit q (Take (Got got)) is = ap (option_map f) is ∙ head_of f q
 answer_so f o limit q (Take (Saw some)) is = is ∙ ap (nat_lt 0) (sym (length-map q f))
 
 -- acts with a function on each slot answer as the list of what it gives does
-acts_so : (f : ℕ → ℕ) (o : Bool) (limit : ℕ) (q : List ℕ) (acts : List Act) → Acts o limit q acts
+pub acts_so : (f : ℕ → ℕ) (o : Bool) (limit : ℕ) (q : List ℕ) (acts : List Act) → Acts o limit q acts
     → Acts o limit (map f q) (map (numbered_act f) acts)
 acts_so f o limit q [] h = tt
 acts_so f o limit q (act ∷ acts) h = (
@@ -86,7 +86,7 @@ acts_so f o limit q (act ∷ acts) h = (
       (acts_so f o limit (after_act o limit q act) acts h.1),
 )
 
-after_acts_so : (f : ℕ → ℕ) (o : Bool) (limit : ℕ) (q : List ℕ) (acts : List Act)
+pub after_acts_so : (f : ℕ → ℕ) (o : Bool) (limit : ℕ) (q : List ℕ) (acts : List Act)
     → map f (after_acts o limit q acts) ≡ after_acts o limit (map f q) (map (numbered_act f) acts)
 after_acts_so f o limit q [] = refl
 after_acts_so f o limit q (act ∷ acts) = after_acts_so f o limit (after_act o limit q act) acts
@@ -121,21 +121,34 @@ last_kept ms more slot moment (suc count) within =
     (last_kept ms more slot moment count (omega (arith, within)))
 
 -- the one behind a list
-next_at : (ms : List MessageState) (one : MessageState) → slice_get (ms ++ one ∷ []) (length ms) ≡ Some one
+pub next_at : (ms : List MessageState) (one : MessageState) → slice_get (ms ++ one ∷ []) (length ms) ≡ Some one
 next_at [] one = refl
 next_at (m ∷ ms) one = next_at ms one
 
 -- one message more that isn't of the slot, or comes later, leaves the number
-same_number : (ms : List MessageState) (one : MessageState) (slot moment : ℕ) → was_sent_by slot moment (Some one) ≡ false
-    → number_by (ms ++ one ∷ []) moment slot ≡ number_by ms moment slot
-same_number ms one slot moment not =
+pub same_last : (ms : List MessageState) (one : MessageState) (slot moment : ℕ) → was_sent_by slot moment (Some one) ≡ false
+    → last_number (ms ++ one ∷ []) slot moment (length (ms ++ one ∷ [])) ≡ last_number ms slot moment (length ms)
+same_last ms one slot moment not =
     let long : length (ms ++ one ∷ []) ≡ suc (length ms) = length-append ms (one ∷ []) ∙ omega arith in
     let none : was_sent_by slot moment (slice_get (ms ++ one ∷ []) (length ms)) ≡ false
     = ap (was_sent_by slot moment) (next_at ms one) ∙ not in
-    ap (λ (n : Option ℕ). unwrap_or n 0)
-    (ap (last_number (ms ++ one ∷ []) slot moment) long
+    ap (last_number (ms ++ one ∷ []) slot moment) long
     ∙ ap (λ (b : Bool). if b then Some (length ms) else last_number (ms ++ one ∷ []) slot moment (length ms)) none
-    ∙ last_kept ms (one ∷ []) slot moment (length ms) (omega arith))
+    ∙ last_kept ms (one ∷ []) slot moment (length ms) (omega arith)
+
+same_number : (ms : List MessageState) (one : MessageState) (slot moment : ℕ) → was_sent_by slot moment (Some one) ≡ false
+    → number_by (ms ++ one ∷ []) moment slot ≡ number_by ms moment slot
+same_number ms one slot moment not = ap (λ (n : Option ℕ). unwrap_or n 0) (same_last ms one slot moment not)
+
+-- and one that is of the slot, and doesn't come later, gives its own
+pub own_last : (ms : List MessageState) (one : MessageState) (slot moment : ℕ) → was_sent_by slot moment (Some one) ≡ true
+    → last_number (ms ++ one ∷ []) slot moment (length (ms ++ one ∷ [])) ≡ Some (length ms)
+own_last ms one slot moment is =
+    let long : length (ms ++ one ∷ []) ≡ suc (length ms) = length-append ms (one ∷ []) ∙ omega arith in
+    let own : was_sent_by slot moment (slice_get (ms ++ one ∷ []) (length ms)) ≡ true
+    = ap (was_sent_by slot moment) (next_at ms one) ∙ is in
+    ap (last_number (ms ++ one ∷ []) slot moment) long
+    ∙ ap (λ (b : Bool). if b then Some (length ms) else last_number (ms ++ one ∷ []) slot moment (length ms)) own
 
 -- of messages that are early, the number is the same at any later moment
 was_early : (slot early late : ℕ) (one : Option MessageState) → ((message : MessageState) → one ≡ Some message → message.moment ≤ early)
@@ -156,7 +169,7 @@ got_early early ms k one all is =
     get_or_there : (xs : List MessageState) (at : ℕ) (x : MessageState) → slice_get xs at ≡ Some x → get_or xs at x ≡ x
     get_or_there xs at x found = get_or_from_slice_get xs at x x found
 
-late_number : (ms : List MessageState) (slot early late count : ℕ) → All (λ (message : MessageState). message.moment ≤ early) ms
+pub late_number : (ms : List MessageState) (slot early late count : ℕ) → All (λ (message : MessageState). message.moment ≤ early) ms
     → early ≤ late
     → last_number ms slot late count ≡ last_number ms slot early count
 late_number ms slot early late zero all up = refl

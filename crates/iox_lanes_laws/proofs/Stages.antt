@@ -21,7 +21,8 @@ use Rattle.iox_lanes_machine.specs.LanesBase.declared.words.word.SlotWord.{SlotW
 use Rattle.iox_lanes_machine.specs.LanesBase.declared.words.word.SlotWord.TheVariants.{Header, UserHeader, Payload}
 use Rattle.iox_lanes_machine.specs.LanesBase.declared.words.word.SharedWord.TheVariants.{Slot}
 use Rattle.iox_lanes_machine.specs.LanesBase.Answers.{push_answer, refusing_pop_answer}
-use Rattle.iox_lanes_machine.specs.LanesBase.Publishing.{publisher_next, publisher_take, publisher_change, push_change, taken_back}
+use Rattle.iox_lanes_machine.specs.LanesBase.Publishing.{publisher_is_over, publisher_next, publisher_take, publisher_change}
+use Rattle.iox_lanes_machine.specs.LanesBase.Publishing.{push_change, taken_back}
 use Rattle.iox_lanes_machine.specs.LanesBase.Publishing.{loan_from, loan_reclaimed, write_from, head_from, push_from, sweep_from}
 use Rattle.iox_lanes_machine.specs.LanesBase.Publishing.{send_reclaimed, pushed, counted, nothing_sent}
 use Rattle.iox_lanes_machine.specs.LanesBase.declared.calls.publisher.Delivery.{Delivery}
@@ -97,25 +98,48 @@ pushed_sends routes slot place route p delivery None = refl
 pushed_sends routes slot place route p delivery (Some answer)
     = push_sends slot (successor place) (counted delivery answer) (slice_get routes (successor place))
 
+-- a step inside a call leaves what is sent
+pub sends_on : (routes : List Route) (words : List ℕ) (c : PublisherCall) (a : ℕ) → publisher_is_over c ≡ false
+    → sending (publisher_take routes words c a) ≡ sending c
+sends_on routes words publishing.Idle a inside = refl
+sends_on routes words (publishing.LoanReclaims place route p) a inside
+    = loaned_sends routes place route (refusing.pop_take p a) (refusing_pop_answer (refusing.pop_take p a))
+sends_on routes words publishing.Lending a inside = absurd (cc inside)
+sends_on routes words (publishing.Writing own word value) a inside
+    = write_sends own (successor word) (slice_get words (successor word))
+sends_on routes words (publishing.Written own) a inside = absurd (cc inside)
+sends_on routes words (publishing.Heading own word value) a inside = head_sends own (successor word) (slice_get words (successor word))
+sends_on routes words (publishing.Remembering own) a inside = sweep_sends routes own 0 (slice_get routes 0)
+sends_on routes words (publishing.SendReclaims own place route p) a inside
+    = swept_sends routes own place route (refusing.pop_take p a) (refusing_pop_answer (refusing.pop_take p a))
+sends_on routes words (publishing.Pushing own place route p delivery) a inside
+    = pushed_sends routes own place route (push_take p a) delivery (push_answer (push_take p a))
+sends_on routes words (publishing.Sent own delivery) a inside = absurd (cc inside)
+sends_on routes words (publishing.Dropping own) a inside = absurd (cc inside)
+
+-- behind a last step nothing is sent
+pub sends_over : (routes : List Route) (words : List ℕ) (c : PublisherCall) (a : ℕ) → publisher_is_over c ≡ true
+    → sending (publisher_take routes words c a) ≡ None
+sends_over routes words publishing.Idle a over = absurd (cc over)
+sends_over routes words (publishing.LoanReclaims place route p) a over = absurd (cc over)
+sends_over routes words publishing.Lending a over = refl
+sends_over routes words (publishing.Writing own word value) a over = absurd (cc over)
+sends_over routes words (publishing.Written own) a over = refl
+sends_over routes words (publishing.Heading own word value) a over = absurd (cc over)
+sends_over routes words (publishing.Remembering own) a over = absurd (cc over)
+sends_over routes words (publishing.SendReclaims own place route p) a over = absurd (cc over)
+sends_over routes words (publishing.Pushing own place route p delivery) a over = absurd (cc over)
+sends_over routes words (publishing.Sent own delivery) a over = refl
+sends_over routes words (publishing.Dropping own) a over = refl
+
 -- who sends a slot behind a step sent it before
 pub sent_before : (routes : List Route) (words : List ℕ) (c : PublisherCall) (a slot : ℕ)
     → sending (publisher_take routes words c a) ≡ Some slot → sending c ≡ Some slot
-sent_before routes words publishing.Idle a slot h = absurd (cc h)
-sent_before routes words (publishing.LoanReclaims place route p) a slot h
-    = absurd (cc (sym (loaned_sends routes place route (refusing.pop_take p a) (refusing_pop_answer (refusing.pop_take p a))) ∙ h))
-sent_before routes words publishing.Lending a slot h = absurd (cc h)
-sent_before routes words (publishing.Writing own word value) a slot h
-    = absurd (cc (sym (write_sends own (successor word) (slice_get words (successor word))) ∙ h))
-sent_before routes words (publishing.Written own) a slot h = absurd (cc h)
-sent_before routes words (publishing.Heading own word value) a slot h
-    = sym (head_sends own (successor word) (slice_get words (successor word))) ∙ h
-sent_before routes words (publishing.Remembering own) a slot h = sym (sweep_sends routes own 0 (slice_get routes 0)) ∙ h
-sent_before routes words (publishing.SendReclaims own place route p) a slot h
-    = sym (swept_sends routes own place route (refusing.pop_take p a) (refusing_pop_answer (refusing.pop_take p a))) ∙ h
-sent_before routes words (publishing.Pushing own place route p delivery) a slot h
-    = sym (pushed_sends routes own place route (push_take p a) delivery (push_answer (push_take p a))) ∙ h
-sent_before routes words (publishing.Sent own delivery) a slot h = absurd (cc h)
-sent_before routes words (publishing.Dropping own) a slot h = absurd (cc h)
+sent_before routes words c a slot h = by_test (publisher_is_over c) refl
+  where
+    by_test : (b : Bool) → publisher_is_over c ≡ b → sending c ≡ Some slot
+    by_test true over = absurd (cc (sym (sends_over routes words c a over) ∙ h))
+    by_test false inside = sym (sends_on routes words c a inside) ∙ h
 
 -- the slot that a publisher sends is its own
 pub sends_own : (connections : ℕ) (book : BookState) (c : PublisherCall) (slot : ℕ) → sending c ≡ Some slot → StandsAtLoan book c

@@ -37,7 +37,7 @@ use Rattle.iox_lanes_laws.proofs.Words.{Holds, IsSent, holds_held, held_is, last
 use Rattle.iox_lanes_laws.proofs.Lanes.{LaneSent, AllSent, used_no_loan, begun_loan}
 use Rattle.iox_lanes_laws.proofs.Sent.{step_sent}
 
-idle_sends : (c : PublisherCall) → publisher_is_idle c ≡ true → sending c ≡ None
+pub idle_sends : (c : PublisherCall) → publisher_is_idle c ≡ true → sending c ≡ None
 idle_sends publishing.Idle h = refl
 idle_sends (publishing.LoanReclaims place route p) h = absurd (cc h)
 idle_sends publishing.Lending h = absurd (cc h)

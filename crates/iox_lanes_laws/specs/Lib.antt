@@ -15,3 +15,4 @@ pub mod HaveNumbers
 pub mod Accesses
 pub mod Takes
 pub mod Payloads
+pub mod Sequences

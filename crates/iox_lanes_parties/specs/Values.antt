@@ -1,5 +1,5 @@
 -- A program's own values as the words of calls.
-use Rattle.std.specs.Prelude.{ℕ, ◌≡◌, ◌+◌, List, length, take, drop}
+use Rattle.std.specs.Prelude.{ℕ, ◌≡◌, ◌+◌, ◌==◌, ◌&&◌, Bool, false, List, length, slice_get, take, drop, Some}
 use Rattle.iox_lanes_parties.specs.declared.call.Call.{Call}
 use Rattle.iox_lanes_parties.specs.declared.call.Call.TheVariants as call
 
@@ -24,6 +24,17 @@ HasWidths payload_count header_count call.Receive = ⊥
 HasWidths payload_count header_count (call.Read sample) = ⊥
 HasWidths payload_count header_count (call.Release sample) = ⊥
 
+-- whether a call is a write with room for so many words of payload and of user header
+abbrev pub is_as_wide : ℕ → ℕ → Call → Bool
+is_as_wide payload_count header_count call.LoanUninit = false
+is_as_wide payload_count header_count (call.Write slot words header) = (length words.items == payload_count)
+    && (length header.items == header_count)
+is_as_wide payload_count header_count (call.Send slot) = false
+is_as_wide payload_count header_count (call.DropLoan slot) = false
+is_as_wide payload_count header_count call.Receive = false
+is_as_wide payload_count header_count (call.Read sample) = false
+is_as_wide payload_count header_count (call.Release sample) = false
+
 -- The words of a message are three of its header, then those of a user header, then those of a payload: its values are the ones that have
 -- these words.
 pub record AreValues {T U : Type 0} (value_of : List ℕ → T) (header_of : List ℕ → U) (payload_count header_count : ℕ) (words : List ℕ)
@@ -31,3 +42,11 @@ pub record AreValues {T U : Type 0} (value_of : List ℕ → T) (header_of : Lis
   pub long : length words ≡ 3 + header_count + payload_count
   pub user_header : values.0 ≡ header_of (take header_count (drop 3 words))
   pub payload : values.1 ≡ value_of (take payload_count (drop (3 + header_count) words))
+
+-- So it is where messages have numbers: the number of a message stands behind the three words of its header, before its user header.
+pub record AreNumberedValues {T U : Type 0} (value_of : List ℕ → T) (header_of : List ℕ → U) (payload_count header_count : ℕ)
+    (words : List ℕ) (values : ℕ × U × T) : Type 0 where
+  pub long : length words ≡ 4 + header_count + payload_count
+  pub sequence : slice_get words 3 ≡ Some values.0
+  pub user_header : values.1 ≡ header_of (take header_count (drop 4 words))
+  pub payload : values.2 ≡ value_of (take payload_count (drop (4 + header_count) words))

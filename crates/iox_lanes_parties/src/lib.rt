@@ -31,4 +31,4 @@ pub use call::{Answer, Call, CallName, Entry, FinishedCall, Move, Party, SendAns
 pub use head::Head;
 pub use publisher_lane::PublisherLane;
 pub use subscriber_lane::SubscriberLane;
-pub use values::values_in;
+pub use values::{numbered_values_in, values_in};

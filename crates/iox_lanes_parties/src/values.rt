@@ -4,8 +4,15 @@
 //! let write = Call::write(alloc, loan, &value, &user_header)?;
 //! let values = values_in::<u64, u8>(lane.words_read());
 //! ```
-ghost use Rattle.std.specs.Prelude.{◌≡◌, ◌+◌, ℕ, take, drop, length, true, false, IfOk, IfSome, None};
-ghost use Rattle.iox_lanes_parties.specs.Values.{AreValues, HasWidths, IsWriteOf};
+//!
+//! Where the service numbers its messages, the number lies in front of the user header:
+//!
+//! ```
+//! let write = Call::write_numbered(alloc, loan, &value, &user_header)?;
+//! let values = numbered_values_in::<u64, u8>(lane.words_read());
+//! ```
+ghost use Rattle.std.specs.Prelude.{◌≡◌, ◌+◌, ◌∷◌, ℕ, take, drop, length, true, false, IfOk, IfSome, None};
+ghost use Rattle.iox_lanes_parties.specs.Values.{AreNumberedValues, AreValues, HasWidths, IsWriteOf, is_as_wide};
 
 use crate::call::Call;
 use iox_queues_base::Words;
@@ -28,9 +35,31 @@ impl Call {
         })
     }
 
-    /// From now on it is the write of this value and this user header into a loan, if it is a write of as many words; else it keeps its
-    /// widths, and this answers false. It takes no memory.
+    /// The same where the service numbers its messages: a word for the number stands in front of the user header, which the send of the
+    /// loan fills. Fails only where an allocation fails.
+    pub fn write_numbered<T: Words, U: Words>(
+        alloc: Global,
+        loan: u64,
+        value: &T,
+        user_header: &U,
+    ) -> Result<Call, AllocError>
+        ensures { IfOk result (λ made. IsWriteOf loan (T.parts value.now) (0 ∷ U.parts user_header.now) made) }
+    {
+        let mut middle = Vec::from_slice(alloc, &[0])?;
+        let words = words_of(alloc, user_header)?;
+        middle.extend_from_slice(&words)?;
+        Ok(Call::Write {
+            loan,
+            payload: words_of(alloc, value)?,
+            user_header: middle,
+        })
+    }
+
+    /// From now on it is the write of this value and this user header into a loan, if it is a write of as many words; else it stays as it
+    /// is, and this answers false. It takes no memory.
     pub fn write_anew<T: Words, U: Words>(&mut self, loan: u64, value: &T, user_header: &U) -> bool
+        ensures answers { result ≡ is_as_wide T.WORDS U.WORDS self.old }
+        ensures same { result ≡ false → self.new ≡ self.old }
         ensures writes { result ≡ true → IsWriteOf loan (T.parts value.now) (U.parts user_header.now) self.new }
         ensures widths { (payload_count header_count : ℕ) → HasWidths payload_count header_count self.old
             → HasWidths payload_count header_count self.new
@@ -89,4 +118,20 @@ pub fn values_in<T: Words, U: Words>(words: &[u64]) -> Option<(U, T)>
         return None;
     }
     Some((U::of_words(user_header), T::of_words(payload)))
+}
+
+/// The number, the user header and the value whose words these are, behind the three of a header, as a read or a message has them where
+/// the service numbers its messages. None where they are not just as many.
+pub fn numbered_values_in<T: Words, U: Words>(words: &[u64]) -> Option<(u64, U, T)>
+    ensures some { IfSome result (AreNumberedValues T.of_parts U.of_parts T.WORDS U.WORDS words.now) }
+    ensures none { result ≡ None → length words.now ≡ 4 + U.WORDS + T.WORDS → ⊥ }
+{
+    let sequence = *words.get(3)?;
+    let behind = words.get(4..)?;
+    let user_header = behind.get(..U::WORDS)?;
+    let payload = behind.get(U::WORDS..)?;
+    if payload.len() != T::WORDS {
+        return None;
+    }
+    Some((sequence, U::of_words(user_header), T::of_words(payload)))
 }

@@ -1,5 +1,5 @@
 //! What the lanes of a domain do.
-use iox_lanes::RecordedLanes;
+use iox_lanes::{RecordedLanes, numbered_values_in};
 use iox_lanes_base::calls::{Delivery, Receipt};
 use iox_lanes_parties::publisher::LoanAnswer;
 use iox_lanes_parties::{Answer, Call, Move, Party, SendAnswer};
@@ -165,7 +165,7 @@ fn is_message_numbered(
         return false;
     };
     let is_whole = message.words() == [8, publisher, 1, sequence, 6, value].as_slice();
-    is_whole && message.values::<u64, [u64; 2]>() == Some(([sequence, 6], value))
+    is_whole && numbered_values_in::<u64, u8>(message.words()) == Some((sequence, 6, value))
 }
 
 fn begins(lanes: &mut RecordedLanes, party: Party) -> bool {

@@ -262,6 +262,21 @@ const FAR: Plan = Plan {
     ..PLAIN
 };
 
+// A publisher whose last number is 2^63.
+const FARTHER: Plan = Plan {
+    first_sequence: (1 << 63) + 1,
+    ..PLAIN
+};
+
+// The second publisher's is too large, whatever the first one's is.
+const SECOND_NUMBERS: [Step; 5] = [
+    Step::Come(1, PLAIN),
+    Step::Come(2, FARTHER),
+    Step::Refused(IntoLanesError::SequenceTooLarge),
+    Step::Leave(2),
+    Step::May,
+];
+
 // A publisher of messages of two values, whose last number is 2^63.
 const WIDE_AND_FAR: Plan = Plan {
     first_sequence: (1 << 63) + 1,
@@ -297,7 +312,12 @@ const RELISTED: [Step; 4] = [
 // It is listed so still where it is handed back.
 const STILL_RELISTED: [Step; 1] = [Step::Refused(IntoLanesError::Unsound)];
 
-const CASES: [Case; 17] = [
+const CASES: [Case; 18] = [
+    Case {
+        name: "a last number of 2^63 of the second publisher",
+        service: &NUMBERED,
+        ways: &[Way::Calls(&SECOND_NUMBERS)],
+    },
     Case {
         name: "a send that waits",
         service: &REFUSING,

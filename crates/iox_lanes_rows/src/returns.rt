@@ -66,7 +66,7 @@ const NUMBERED_STEPS: [Lane; 6] = [
     Lane::GetsNumbered(0, 2, 2, 8),
 ];
 
-const NUMBERED_PORTS: [Step; 5] = [
+pub(crate) const NUMBERED_PORTS: [Step; 5] = [
     Step::Subscribe(1, None),
     Step::Publish(2, 2, None),
     Step::Follow(1),
@@ -80,7 +80,42 @@ const NUMBERS_GO_ON: [Step; 3] = [
     Step::TakeNumbered(1, 10, 4),
 ];
 
-const CASES: [Case; 6] = [
+// One publisher, and two subscribers for each of which a message waits.
+const NUMBERED_FOR_TWO: [Step; 6] = [
+    Step::Subscribe(1, None),
+    Step::Subscribe(2, None),
+    Step::Publish(3, 2, None),
+    Step::Follow(1),
+    Step::Follow(2),
+    Step::Put(3, 7, Sent::Delivered(2)),
+];
+
+const NUMBERED_BY_TWO: [Lane; 4] = [
+    Lane::GetsNumbered(0, 3, 1, 7),
+    Lane::SendsNumbered(0, 9, 2, 0),
+    Lane::GetsNumbered(1, 3, 1, 7),
+    Lane::GetsNumbered(1, 3, 2, 9),
+];
+
+const NUMBERS_OF_TWO: [Step; 4] = [
+    Step::TakeNumbered(1, 9, 2),
+    Step::Put(3, 10, Sent::Delivered(2)),
+    Step::TakeNumbered(1, 10, 3),
+    Step::TakeNumbered(2, 10, 3),
+];
+
+const CASES: [Case; 7] = [
+    Case {
+        name: "both subscribers get a message's number",
+        service: &NUMBERED,
+        ways: &[
+            Way::Calls(&NUMBERED_FOR_TWO),
+            Way::Opens(Ok(())),
+            Way::Lanes(&NUMBERED_BY_TWO),
+            Way::Returns(Ok(())),
+            Way::Calls(&NUMBERS_OF_TWO),
+        ],
+    },
     Case {
         name: "no step between",
         service: &OVERFLOWING,

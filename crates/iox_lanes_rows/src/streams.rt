@@ -13,9 +13,9 @@ use std::sync::atomic::{AtomicU64, Ordering};
 use std::thread;
 use std::thread::Threads;
 
-const COUNT: u64 = 100_000;
+const COUNT: u64 = 500_000;
 
-const TRIES: u64 = 1 << 24;
+const TRIES: u64 = 1 << 26;
 
 // The word at a place of the payload that a publisher sends with a number.
 fn word(publisher: u64, number: u64, place: u64) -> u64 {

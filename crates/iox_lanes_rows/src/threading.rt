@@ -1,6 +1,8 @@
 //! What the ports of a domain do in threads, and the domain that these leave.
 use crate::driving::{FAILING, Service, Step};
 use crate::lanes::Lane;
+use crate::openings::NUMBERED;
+use crate::returns::NUMBERED_PORTS;
 use crate::threads::Turn;
 use crate::ways::{Case, Way, go_all};
 use iox_describe_base::TypeVariant;
@@ -106,11 +108,34 @@ const FAILS_AGAIN: [Step; 4] = [
     Step::Put(3, 34, Sent::Delivered(0)),
 ];
 
+// Two messages wait, of which one is taken; a third one is sent.
+const NUMBERED_IN_THREADS: [Turn; 2] = [
+    Turn::GetsNumbered(0, 2, 1, 7),
+    Turn::SendsNumbered(0, 9, 1),
+];
+
+const NUMBERS_AGAIN: [Step; 2] = [
+    Step::Put(2, 10, Sent::Delivered(1)),
+    Step::TakeNumbered(1, 10, 4),
+];
+
 const BEGUN: [Lane; 1] = [Lane::Begins(Party::Publisher(0))];
 
 const LENT: [Lane; 1] = [Lane::Lends(0, 1, LoanAnswer::ExceedsMaxLoans)];
 
-const CASES: [Case; 5] = [
+const CASES: [Case; 6] = [
+    Case {
+        name: "numbers go on in threads, and behind them",
+        service: &NUMBERED,
+        ways: &[
+            Way::Calls(&NUMBERED_PORTS),
+            Way::Opens(Ok(())),
+            Way::Starts(Ok(())),
+            Way::Turns(&NUMBERED_IN_THREADS),
+            Way::Ends(Ok(())),
+            Way::Calls(&NUMBERS_AGAIN),
+        ],
+    },
     Case {
         name: "by calls and lanes and in threads and by calls",
         service: &SERVICE,

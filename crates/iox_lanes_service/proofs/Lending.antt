@@ -1,8 +1,6 @@
 -- A loan of a slot that no other call overlaps is one of the machine.
-use Rattle.std.proofs.Common.{ℕ, ◌≡◌, ◌+◌, ◌-◌, ◌<◌, ◌≤◌, ◌==◌, ◌&&◌, ◌⊎◌, cond, Bool, true, false, nat_lt, nat_le, List}
-use Rattle.std.proofs.Common.{[], ◌∷◌}
-use Rattle.std.proofs.Common.{◌++◌, length, map, slice_get, Option, Some, None, refl, sym, ◌∙◌, ap, subst}
-use Rattle.std.proofs.Common.{if◌then◌else◌, inl}
+use Rattle.std.proofs.Common.{ℕ, ◌≡◌, ◌+◌, ◌-◌, ◌<◌, ◌≤◌, ◌==◌, ◌&&◌, ◌⊎◌, cond, Bool, true, false, nat_lt, nat_le, List, [], ◌∷◌}
+use Rattle.std.proofs.Common.{◌++◌, length, map, slice_get, Option, Some, None, refl, sym, ◌∙◌, ap, subst, if◌then◌else◌, inl}
 use Rattle.std.proofs.Common.{inr, arith, append-nil}
 use Rattle.std.specs.Prelude.{filter, option_and_then, MatchOption}
 use Rattle.std.proofs.lemmas.Bool.{cases_Bool, cases_lt, eq-eqb, ne_eqb}
@@ -40,8 +38,7 @@ use Rattle.iox_lanes_laws.specs.Turns.{MailStays}
 use Rattle.iox_lanes_laws.proofs.PublisherLaws.{loans_in_turn}
 use Rattle.iox_lanes_service.specs.Laws.{LoansAreSteps, IsLaneStep, loan_replied, with_lent_slot}
 use Rattle.iox_lanes_service.specs.Naming.{LaneNaming, LaneLoan, LaneSample, reader_name, slot_message, loan_by_numbers, lane_mailbox}
-use Rattle.iox_lanes_service.specs.Naming.{has_written, slot_sequence}
-use Rattle.iox_lanes_service.specs.Naming.{slots_held_over, slots_lent_at}
+use Rattle.iox_lanes_service.specs.Naming.{slots_held_over, slots_lent_at, has_written, slot_sequence}
 use Rattle.iox_lanes_service.specs.Ports.{LanePublisherIs, NumbersOwn, passing_over}
 use Rattle.iox_lanes_service.specs.Standing.{LanesStandFor}
 use Rattle.iox_lanes_service.proofs.Beside.{one_does, match_some, match_none, match_false}
@@ -54,17 +51,16 @@ use Rattle.iox_lanes_service.proofs.Lent.{held_before}
 use Rattle.iox_lanes_service.proofs.Publishing.{WriterCall, sent_on, sequence_stays, writer_call}
 use Rattle.iox_lanes_service.proofs.Subscribing.{lent_own, lent_there, one_is}
 use Rattle.iox_lanes_service.proofs.Tables.{at_changed, at_changed_other, map_same, counted_stands, entries_same, appended_entry}
-use Rattle.iox_lanes_service.proofs.Tables.{appended_slots}
-use Rattle.iox_lanes_service.proofs.Tables.{once_appended, entry_counted, named, one_entry}
+use Rattle.iox_lanes_service.proofs.Tables.{once_appended, entry_counted, named, one_entry, appended_slots}
 use Rattle.iox_lanes_service.proofs.Used.{held_waits, held_borrowed, held_there, slot_there, own_is, own_apart}
 use Rattle.iox_lanes_service.proofs.Using.{lent_count, used_slots, used_numbers, used_is, used_there}
 use Rattle.iox_machine.specs.Choices.{Choices}
 use Rattle.iox_machine.specs.Lending.{how_many, in_use, is_static, loan_refusal, loans_of}
 use Rattle.iox_machine.specs.Message.{Loan}
 use Rattle.iox_machine.specs.Ports.{LendsLoan, publisher_in}
-use Rattle.iox_machine.specs.Replies.{IsSkipped}
 use Rattle.iox_machine.specs.Run.{Step}
-use Rattle.iox_machine.specs.Service.{Publisher as Writer, Send, Service, with_publisher}
+use Rattle.iox_machine.specs.Service.{Publisher as Writer, Send, Service}
+use Rattle.iox_machine.proofs.Shorthands.{with_publisher, IsSkipped}
 use Rattle.iox_machine.specs.State.{State, counted}
 use Rattle.iox_machine.specs.Table.{at, contains}
 

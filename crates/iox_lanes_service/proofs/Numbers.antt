@@ -1,8 +1,6 @@
 -- What a call that no other call overlaps leaves of the numbers in headers, and of the last numbers of publishers.
 use Rattle.std.proofs.Common.{ℕ, zero, suc, ◌≡◌, ◌-◌, ◌<◌, ◌≤◌, ◌^◌, Bool, true, false, nat_lt, if◌then◌else◌, List, length}
-use Rattle.std.proofs.Common.{get_or, set, slice_get, Option, Some, None, refl, sym, ◌∙◌, ap, subst, inl, inr, arith}
-use Rattle.std.proofs.lemmas.Bool.{cases_lt, lt-ltb}
-use Rattle.std.proofs.lemmas.List.{get_or-set_same, length-set}
+use Rattle.std.proofs.Common.{get_or, slice_get, Option, Some, None, refl, sym, ◌∙◌, ap, subst, arith}
 use Rattle.iox_lanes_machine.specs.QueuesSteps.Access.{successor}
 use Rattle.iox_lanes_machine.specs.LanesBase.Publishing.{publisher_is_over, publisher_next}
 use Rattle.iox_lanes_machine.specs.LanesBase.Table.{TableWords, after_shared}
@@ -41,6 +39,7 @@ use Rattle.iox_lanes_machine.proofs.Within.{set_same}
 use Rattle.iox_lanes_laws.specs.Turns.{GoesToEnd, IsInTurn}
 use Rattle.iox_lanes_laws.proofs.Publishers as publishers
 use Rattle.iox_lanes_laws.proofs.Publishers.{next_lane}
+use Rattle.iox_lanes_laws.proofs.SequenceRuns.{fourth}
 use Rattle.iox_lanes_service.specs.Naming.{number_held, slot_sequence}
 
 -- only a send stores the word of a number, in its own slot
@@ -271,19 +270,6 @@ sent_stage slot (publishing.Sent own delivery) over h table sends payload head i
     same : name.Send slot ≡ name.Send own → own ≡ slot
     same e = cc e
 sent_stage slot (publishing.Dropping own) over h table sends payload head is = absurd (cc h)
-
--- the fourth word of words with a number is the number
-fourth : (number : ℕ) (head : List ℕ) → 4 ≤ length (with_number (Some number) head)
-    → get_or (with_number (Some number) head) 3 0 ≡ number
-fourth number head long = elim (cases_lt 3 (length head)) [
-  | inl more ↦ ap (λ (b : Bool). get_or (if b then set head 3 number else head) 3 0) (lt-ltb 3 (length head) more)
-      ∙ get_or-set_same head 3 number 0 more
-  | inr none ↦ absurd (omega (arith, none, long, width (nat_lt 3 (length head))))
-]
-  where
-    width : (b : Bool) → length (if b then set head 3 number else head) ≡ length head
-    width true = length-set head 3 number
-    width false = refl
 
 -- a slot that was sent has the number behind the one that its publisher gave last
 pub sent_in_turn : (m n : World) (place slot : ℕ) (c : Call) (before : PublisherLaneState) → IsInTurn m (Publisher place) c n

@@ -1,6 +1,5 @@
 -- A receive that no other call overlaps is one of the machine.
-use Rattle.std.proofs.Common.{ℕ, ◌≡◌, ◌+◌, ◌<◌, ◌≤◌, ◌==◌, ◌&&◌, Bool, true, false, cond, not, List, [], ◌∷◌, ◌++◌, length, map}
-use Rattle.std.proofs.Common.{get_or}
+use Rattle.std.proofs.Common.{ℕ, ◌≡◌, ◌+◌, ◌<◌, ◌≤◌, ◌==◌, ◌&&◌, Bool, true, false, cond, not, List, [], ◌∷◌, ◌++◌, length, map, get_or}
 use Rattle.std.proofs.Common.{slice_get, Option, Some, None, refl, sym, ◌∙◌, ap, subst, if◌then◌else◌, inl, inr, arith, append-nil}
 use Rattle.std.specs.Prelude.{find, unwrap_or, option_and_then}
 use Rattle.std.specs.Global.{Vec}
@@ -35,8 +34,7 @@ use Rattle.iox_lanes_machine.proofs.Entries.{count_append}
 use Rattle.iox_lanes_machine.proofs.Mailboxes.{order_there}
 use Rattle.iox_lanes_machine.proofs.RestingRings.{mail_is}
 use Rattle.iox_lanes_machine.proofs.SubscriberUses.{recorded}
-use Rattle.iox_lanes_laws.specs.Subscribing.{OnlySubscriber, Takes, TakesNone, SomeWait, Gives, NoneOf, OneOf}
-use Rattle.iox_lanes_laws.specs.Subscribing.{Receives as ReceivesThen}
+use Rattle.iox_lanes_laws.specs.Subscribing.{OnlySubscriber, Takes, TakesNone, SomeWait, Gives, NoneOf, OneOf, Receives as ReceivesThen}
 use Rattle.iox_lanes_laws.proofs.Receives.{receives_in_turn}
 use Rattle.iox_lanes_service.specs.Laws.{ReceivesAreSteps, IsLaneStep, AreTaken, received_as, with_received, publisher_over}
 use Rattle.iox_lanes_service.specs.Naming.{LaneNaming, LaneLoan, LaneSample, sample_by_numbers, lane_mailbox, slots_held_over, slot_message}
@@ -62,7 +60,8 @@ use Rattle.iox_machine.specs.PortList.{those}
 use Rattle.iox_machine.specs.Ports.{subscriber_in}
 use Rattle.iox_machine.specs.Run.{Step}
 use Rattle.iox_machine.specs.Receiving.{Receives, IsGiver, gives, has_samples, lasting}
-use Rattle.iox_machine.specs.Service.{Service, Subscriber as Reader, mailbox, with_mailbox, with_subscriber}
+use Rattle.iox_machine.specs.Service.{Service, Subscriber as Reader, mailbox, with_mailbox}
+use Rattle.iox_machine.proofs.Shorthands.{with_subscriber}
 use Rattle.iox_machine.specs.State.{State, counted}
 use Rattle.iox_machine.specs.SubscriberUpdate.{UpdatesFirst}
 use Rattle.iox_machine.specs.Table.{at, contains}

@@ -1,9 +1,7 @@
 -- A send that no other call overlaps is one of the machine.
-use Rattle.std.proofs.Common.{ℕ, ◌≡◌, ◌+◌, ◌-◌, ◌<◌, ◌≤◌, ◌^◌, ◌==◌, ◌&&◌, ◌||◌, ◌⊎◌, not, cond, Bool, true, false, nat_lt, List, []}
-use Rattle.std.proofs.Common.{◌∷◌, ◌++◌}
+use Rattle.std.proofs.Common.{ℕ, ◌≡◌, ◌+◌, ◌-◌, ◌<◌, ◌≤◌, ◌^◌, ◌==◌, ◌&&◌, ◌||◌, ◌⊎◌, not, cond, Bool, true, false, nat_lt, List, [], arith}
 use Rattle.std.proofs.Common.{zero, suc, length, map, drop, get_or, is_some, slice_get, Option, Some, None, refl, sym, ◌∙◌, ap, subst}
-use Rattle.std.proofs.Common.{if◌then◌else◌, inl, inr}
-use Rattle.std.proofs.Common.{arith}
+use Rattle.std.proofs.Common.{if◌then◌else◌, inl, inr, ◌∷◌, ◌++◌}
 use Rattle.std.specs.Prelude.{count_by, option_map}
 use Rattle.std.specs.Option.{option_map_or}
 use Rattle.std.proofs.lemmas.Bool.{eq-eqb, ne_eqb}
@@ -53,8 +51,7 @@ use Rattle.iox_lanes_laws.proofs.PublisherLaws.{sends_in_turn, stage_idle}
 use Rattle.iox_lanes_laws.proofs.Publishers.{fits_is}
 use Rattle.iox_lanes_service.specs.Laws.{SendsAreSteps, send_replied}
 use Rattle.iox_lanes_service.specs.Naming.{LaneNaming, LaneLoan, LaneSample, reader_name, writer_name, slot_message, slot_sequence}
-use Rattle.iox_lanes_service.specs.Naming.{loan_by_numbers, slot_value}
-use Rattle.iox_lanes_service.specs.Naming.{lane_mailbox, slots_held_over, has_written}
+use Rattle.iox_lanes_service.specs.Naming.{lane_mailbox, slots_held_over, has_written, loan_by_numbers, slot_value}
 use Rattle.iox_lanes_service.specs.Ports.{LanePublisherIs, passing_over}
 use Rattle.iox_lanes_service.specs.Standing.{LanesStandFor}
 use Rattle.iox_lanes_service.proofs.Shapes.{message_sent}
@@ -73,12 +70,13 @@ use Rattle.iox_lanes_service.proofs.Used.{loan_forgotten, loan_unheld, own_apart
 use Rattle.iox_machine.specs.Choices.{Choices}
 use Rattle.iox_machine.specs.Mailbox as boxes
 use Rattle.iox_machine.specs.Message.{Loan, Message}
-use Rattle.iox_machine.specs.Message as messages
+use Rattle.iox_machine.specs.RunLaws as run_laws
 use Rattle.iox_machine.specs.PortList.{those}
 use Rattle.iox_machine.specs.Ports.{SendsLoan}
 use Rattle.iox_machine.specs.Sending.{Begins}
 use Rattle.iox_machine.specs.Sending as sending
-use Rattle.iox_machine.specs.Service.{Publisher as Writer, Send, Service, with_publisher}
+use Rattle.iox_machine.specs.Service.{Publisher as Writer, Send, Service}
+use Rattle.iox_machine.proofs.Shorthands.{with_publisher}
 use Rattle.iox_machine.specs.Table.{at, removed, contains}
 
 mapped_at : {A B : Type 0} (f : A → B) (xs : List A) (index : ℕ) (y : B) → slice_get (map f xs) index ≡ Some y
@@ -596,7 +594,7 @@ module _ {T : Type 0} (choices : Choices T) (value : List ℕ → T) (names : La
         ∙ ap (λ (k : ℕ). if failed_then choices who slot message overflow before.fails begun false tos
         then reply.Refused (refusal.Send error.UnableToDeliver) else reply.Delivered k) taken_is
 
-    sent_is : sending.numbered writer.0 (message_sent written_loan) ≡ message slot
+    sent_is : run_laws.numbered writer.0 (message_sent written_loan) ≡ message slot
     sent_is =
         ap (λ (sequence : Option ℕ). record {
           number = names.message slot;
@@ -642,7 +640,7 @@ module _ {T : Type 0} (choices : Choices T) (value : List ℕ → T) (names : La
     pub sends : SendsLoan choices number written_loan service (send_replied (send_answer before.fails delivery)) sent_service
     sends =
         match_some (at who service.publishers) writer.0 _ _ writer.1
-        (match_true (messages.is_written written_loan && not (is_some (writer.0).blocked)) _ _
+        (match_true (run_laws.is_written written_loan && not (is_some (writer.0).blocked)) _ _
         (ap (λ (o : Option (Send T)). not (is_some o)) (writer.2).free)
         (match_true (writer.0).stands _ _ (writer.2).stands
         (match_false (is_used_up (writer.0).last_sequence) _ _ (ap is_used_up (writer.2).last ∙ left_over before.last refl)

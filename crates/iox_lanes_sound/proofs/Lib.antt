@@ -1,2 +1,3 @@
--- The proof of the law on sound ports.
+-- The proofs of the laws on sound ports, and on what their lanes have.
 pub mod Sound
+mod Having

@@ -1,2 +1,3 @@
--- The definitions that the law on sound ports cites.
+-- The definitions that the laws on sound ports, and on what their lanes have, cite.
 pub mod Standing
+pub mod Having

@@ -1,8 +1,9 @@
 -- Names for parts of definitions: the keys and the values of options, the limits of their numbers, and what is said of words and texts.
 use Rattle.std.proofs.Common.{◌≡◌, ◌≤◌, ℕ, true, List, [], ◌∷◌, ◌++◌, Option, codes, decimal, length, map}
 use Rattle.std.specs.Prelude.{◌==◌, IfSome, flat_map, if◌then◌else◌}
-use Rattle.std.specs.List.{AllByRecursion, AllZip}
+use Rattle.std.specs.List.{AllByRecursion, AllZip, join_with_byte}
 use Rattle.std.specs.Option.{option_map}
+use Rattle.std.specs.Str.{byte}
 use Rattle.iox_describe_base.specs.Attributes.{Required}
 use Rattle.iox_describe_base.specs.declared.attribute.Attribute.{Attribute}
 use Rattle.iox_command.specs.declared.port.PortNumber.{PortNumber}
@@ -14,14 +15,13 @@ use Rattle.iox_command.specs.declared.service.EventOptions.{EventOptions}
 use Rattle.iox_command.specs.declared.service.RequestResponseOptions.{RequestResponseOptions}
 use Rattle.iox_command.specs.declared.step.ForeignStep.{ForeignStep}
 use Rattle.iox_line.specs.Attributes.{IsKey, IsPair, pair_word}
-use Rattle.iox_line.specs.Letters.{comma, space}
 use Rattle.iox_line.specs.Numbers.{IsNumber}
 use Rattle.iox_line.specs.Options.{option_words}
 use Rattle.iox_line.specs.Services.{IsNumberOrOff, number_or_off_word, switch_word}
 use Rattle.iox_line.specs.Steps.{WritesStep}
 use Rattle.iox_line.specs.Values.{strategy_word, allocation_word, handler_word, degradation_word}
 use Rattle.iox_line.specs.Visible.{IsVisibleText}
-use Rattle.iox_line.specs.Words.{joined, lacks}
+use Rattle.iox_line.specs.Words.{lacks}
 
 -- the keys of a publisher's options
 abbrev pub publisher_keys : List (List ℕ)
@@ -130,7 +130,7 @@ AllOf Good xs = AllByRecursion Good xs
 
 -- no byte of any of the words is a space
 abbrev pub AreWords : List (List ℕ) → Type 0
-AreWords words = AllByRecursion (λ word. lacks space word ≡ true) words
+AreWords words = AllByRecursion (λ word. lacks (byte " ") word ≡ true) words
 
 -- a name: 1 to 255 bytes of 0x21 to 0x7E
 abbrev pub IsName : List ℕ → Type 0
@@ -161,7 +161,7 @@ IsPort (port.Subscriber n) = IsNumber n
 -- options after a colon, with a comma between each two; nothing where there are none
 abbrev pub option_tail : List (List ℕ) → List ℕ
 option_tail [] = []
-option_tail (w ∷ ws) = codes ":" ++ joined comma (w ∷ ws)
+option_tail (w ∷ ws) = codes ":" ++ join_with_byte (byte ",") (w ∷ ws)
 
 -- what begins the list of an access, where the list that stands is that of another: a bar and the number
 abbrev pub beginning : ℕ → ℕ → List (List ℕ)
@@ -177,7 +177,7 @@ AllLack byte texts = AllOf (λ text. lacks byte text ≡ true) texts
 
 -- words with one space between each two
 abbrev pub spaced : List (List ℕ) → List ℕ
-spaced words = joined space words
+spaced words = join_with_byte (byte " ") words
 
 -- a byte of 0x21 to 0x7E
 abbrev pub IsVisible : ℕ → Type 0

@@ -2,11 +2,12 @@
 use Rattle.std.proofs.lemmas.Grind.{common_steps}
 use Rattle.std.proofs.Common.{arith, length, ◌+◌, ◌<◌, ◌≡◌, ℕ, ◌==◌, Bool, true, false, List, [], ◌∷◌, not, ◌&&◌, refl, cond, sym, ap}
 use Rattle.std.proofs.Common.{◌∙◌, eqb-true}
-use Rattle.iox_line.specs.Words.{lacks, before, beyond, no_words, words_of, pieces_of, pieces_left, onto_first, joined}
+use Rattle.std.specs.List.{join_with_byte}
+use Rattle.iox_line.specs.Words.{lacks, before, beyond, no_words, words_of, pieces_of, pieces_left, onto_first}
 use Rattle.iox_line.proofs.WordLemmas.{pieces_first, pieces_of-separated, pieces_of-alone}
 use Rattle.iox_line.proofs.Shorthands.{AllLack, AreWords, spaced}
 
-joined-onto : (sep b : ℕ) (w : List ℕ) (ws : List (List ℕ)) → joined sep ((b ∷ w) ∷ ws) ≡ b ∷ joined sep (w ∷ ws)
+joined-onto : (sep b : ℕ) (w : List ℕ) (ws : List (List ℕ)) → join_with_byte sep ((b ∷ w) ∷ ws) ≡ b ∷ join_with_byte sep (w ∷ ws)
 joined-onto sep b w [] = refl
 joined-onto sep b w (v ∷ ws) = refl
 
@@ -15,15 +16,17 @@ pub pieces_some : (sep : ℕ) (text : List ℕ) → (w : List ℕ) × (ws : List
 pieces_some sep text = (before sep text, pieces_left sep (beyond sep text), pieces_first sep text)
 
 joined_at : (sep b : ℕ) (bs w : List ℕ) (ws : List (List ℕ)) (t : Bool) → (b == sep) ≡ t → pieces_of sep bs ≡ w ∷ ws
-    → joined sep (pieces_of sep bs) ≡ bs
-    → joined sep (cond t ([] ∷ pieces_of sep bs) (onto_first b (pieces_of sep bs))) ≡ b ∷ bs
+    → join_with_byte sep (pieces_of sep bs) ≡ bs
+    → join_with_byte sep (cond t ([] ∷ pieces_of sep bs) (onto_first b (pieces_of sep bs))) ≡ b ∷ bs
 joined_at sep b bs w ws true e h p =
-    ap (λ l. joined sep ([] ∷ l)) h ∙ ap (λ l. sep ∷ joined sep l) (sym h) ∙ ap (λ l. sep ∷ l) p ∙ ap (λ x. x ∷ bs) (sym (eqb-true b sep e))
+    ap (λ l. join_with_byte sep ([] ∷ l)) h ∙ ap (λ l. sep ∷ join_with_byte sep l) (sym h) ∙ ap (λ l. sep ∷ l) p
+    ∙ ap (λ x. x ∷ bs) (sym (eqb-true b sep e))
 joined_at sep b bs w ws false e h p =
-    ap (λ l. joined sep (onto_first b l)) h ∙ joined-onto sep b w ws ∙ ap (λ l. b ∷ joined sep l) (sym h) ∙ ap (λ l. b ∷ l) p
+    ap (λ l. join_with_byte sep (onto_first b l)) h ∙ joined-onto sep b w ws ∙ ap (λ l. b ∷ join_with_byte sep l) (sym h)
+    ∙ ap (λ l. b ∷ l) p
 
 -- the pieces of a text, with separators between them, are the text
-pub joined-pieces_of : (sep : ℕ) (text : List ℕ) → joined sep (pieces_of sep text) ≡ text
+pub joined-pieces_of : (sep : ℕ) (text : List ℕ) → join_with_byte sep (pieces_of sep text) ≡ text
 joined-pieces_of sep [] = refl
 joined-pieces_of sep (b ∷ bs) = let r = pieces_some sep bs in joined_at sep b bs r.0 r.1 (b == sep) refl r.2 (joined-pieces_of sep bs)
 
@@ -53,9 +56,11 @@ pub are_words : (line : List ℕ) → AreWords (words_of line)
 are_words line = pieces_lack 32 line
 
 -- pieces with separators between them have these pieces
-pub pieces_of-joined : (sep : ℕ) (w : List ℕ) (ws : List (List ℕ)) → AllLack sep (w ∷ ws) → pieces_of sep (joined sep (w ∷ ws)) ≡ w ∷ ws
+pub pieces_of-joined : (sep : ℕ) (w : List ℕ) (ws : List (List ℕ)) → AllLack sep (w ∷ ws)
+    → pieces_of sep (join_with_byte sep (w ∷ ws)) ≡ w ∷ ws
 pieces_of-joined sep w [] a = pieces_of-alone sep w a.0
-pieces_of-joined sep w (v ∷ vs) a = pieces_of-separated sep w (joined sep (v ∷ vs)) a.0 ∙ ap (λ l. w ∷ l) (pieces_of-joined sep v vs a.1)
+pieces_of-joined sep w (v ∷ vs) a = pieces_of-separated sep w (join_with_byte sep (v ∷ vs)) a.0
+    ∙ ap (λ l. w ∷ l) (pieces_of-joined sep v vs a.1)
 
 -- words with spaces between them have these words
 pub words_of-spaced : (w : List ℕ) (ws : List (List ℕ)) → AreWords (w ∷ ws) → words_of (spaced (w ∷ ws)) ≡ w ∷ ws

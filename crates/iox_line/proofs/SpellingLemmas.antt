@@ -5,6 +5,7 @@ use Rattle.std.specs.Prelude.{filter}
 use Rattle.std.proofs.lemmas.List.Folds.{list_all-append}
 use Rattle.iox_describe_base.specs.declared.attribute.Attribute.{Attribute}
 use Rattle.iox_describe_base.specs.Attributes.{attribute, Required, required}
+use Rattle.std.specs.Str.{byte}
 use Rattle.iox_line.specs.Words.{lacks, has_no_space, before, beyond, begins}
 use Rattle.iox_line.specs.Options.{after}
 use Rattle.iox_line.specs.Visible.{IsVisibleText, is_visible_text}
@@ -13,7 +14,7 @@ use Rattle.iox_line.proofs.WordLemmas.{whole, whole_text, before-separated, beyo
 use Rattle.iox_line.proofs.MarkLemmas.{Unmarked, starts}
 use Rattle.iox_line.proofs.AfterLemmas.{after_some, and_left, and_right}
 use Rattle.iox_line.proofs.VisibleLemmas.{at_most, at_most_own, visible_sound, visible_complete, visible_no_space, both_true}
-use Rattle.iox_line.specs.Attributes.{pair_word, IsKey, IsPair, has_equals, Requires}
+use Rattle.iox_line.specs.Attributes.{pair_word, IsKey, IsPair, Requires}
 use Rattle.iox_line.specs.AttributesReading.{pair_parts, pair_in, pair_of, key_parts, key_in, key_of, pairs_of, require, requirements_of}
 use Rattle.iox_line.specs.AttributesReading.{few_pairs, specifier_of, few_requirements, verifier_of}
 use Rattle.iox_line.proofs.Shorthands.{AllOf, AreWords, Defines, SpecifierFits, VerifierFits, key_word}
@@ -134,30 +135,34 @@ specifier_own ws ps f d =
 
 -- requirements
 
--- whether a word of the pair has a =
-pair_equals : (a : Attribute) → IsPair a → has_equals (pair_word a) ≡ true
-pair_equals a p = ap not (list_all-append (λ b. not (b == 61)) a.key (61 ∷ a.value) ∙ ap (λ t. t && false) p.0.1)
+-- whether a word has no =
+abbrev lone : List ℕ → Bool
+lone word = lacks (byte "=") word
 
-key_equals : (k : List ℕ) → IsKey k → has_equals (key_word k) ≡ false
-key_equals k p = ap not p.1
+-- the word of a pair has one
+pair_equals : (a : Attribute) → IsPair a → lone (pair_word a) ≡ false
+pair_equals a p = list_all-append (λ b. not (b == 61)) a.key (61 ∷ a.value) ∙ ap (λ t. t && false) p.0.1
+
+key_equals : (k : List ℕ) → IsKey k → lone (key_word k) ≡ true
+key_equals k p = p.1
 
 -- with a pair in front the requirements are written with its word in front
 pair_front : (w : List ℕ) (ws : List (List ℕ)) (a : Attribute) (r : Required) → IsPair a → w ≡ pair_word a → Requires r ws
     → Requires (required (a ∷ r.pairs) r.keys) (w ∷ ws)
 pair_front w ws a r p e q =
-    let t : has_equals w ≡ true = ap has_equals e ∙ pair_equals a p in (
-      ap (λ b. cond b (w ∷ filter has_equals ws) (filter has_equals ws)) t ∙ ap (λ x. x ∷ filter has_equals ws) e ∙ ap
-          (λ l. pair_word a ∷ l) q.0,
-      ap (λ b. cond (not b) (w ∷ filter (λ v. not (has_equals v)) ws) (filter (λ v. not (has_equals v)) ws)) t ∙ q.1,
+    let t : lone w ≡ false = ap lone e ∙ pair_equals a p in (
+      ap (λ b. cond (not b) (w ∷ filter (λ v. not (lone v)) ws) (filter (λ v. not (lone v)) ws)) t
+          ∙ ap (λ x. x ∷ filter (λ v. not (lone v)) ws) e ∙ ap (λ l. pair_word a ∷ l) q.0,
+      ap (λ b. cond b (w ∷ filter lone ws) (filter lone ws)) t ∙ q.1,
     )
 
 key_front : (w : List ℕ) (ws : List (List ℕ)) (k : List ℕ) (r : Required) → IsKey k → w ≡ key_word k → Requires r ws
     → Requires (required r.pairs (k ∷ r.keys)) (w ∷ ws)
 key_front w ws k r p e q =
-    let t : has_equals w ≡ false = ap has_equals e ∙ key_equals k p in (
-      ap (λ b. cond b (w ∷ filter has_equals ws) (filter has_equals ws)) t ∙ q.0,
-      ap (λ b. cond (not b) (w ∷ filter (λ v. not (has_equals v)) ws) (filter (λ v. not (has_equals v)) ws)) t ∙ ap
-          (λ x. x ∷ filter (λ v. not (has_equals v)) ws) e ∙ ap (λ l. key_word k ∷ l) q.1,
+    let t : lone w ≡ true = ap lone e ∙ key_equals k p in (
+      ap (λ b. cond (not b) (w ∷ filter (λ v. not (lone v)) ws) (filter (λ v. not (lone v)) ws)) t ∙ q.0,
+      ap (λ b. cond b (w ∷ filter lone ws) (filter lone ws)) t ∙ ap
+          (λ x. x ∷ filter lone ws) e ∙ ap (λ l. key_word k ∷ l) q.1,
     )
 
 -- pairs and keys, each within the limits
@@ -195,31 +200,32 @@ no_keys (k ∷ ks) h = cc
 
 -- what such words are read as
 abbrev AreRead : List (List ℕ) → Type 0
-AreRead ws = (ps : List Attribute) (ks : List (List ℕ)) → AllOf IsPair ps → AllOf IsKey ks → filter has_equals ws ≡ map pair_word ps
-    → filter (λ v. not (has_equals v)) ws ≡ map key_word ks → requirements_of ws ≡ Some (required ps ks)
+AreRead ws = (ps : List Attribute) (ks : List (List ℕ)) → AllOf IsPair ps → AllOf IsKey ks
+    → filter (λ v. not (lone v)) ws ≡ map pair_word ps
+    → filter lone ws ≡ map key_word ks → requirements_of ws ≡ Some (required ps ks)
 
 read_at : (w : List ℕ) (ws : List (List ℕ)) (t : Bool) (ps : List Attribute) (ks : List (List ℕ)) → AreRead ws → AllOf IsPair ps
     → AllOf IsKey ks
-    → cond t (w ∷ filter has_equals ws) (filter has_equals ws) ≡ map pair_word ps
-    → cond (not t) (w ∷ filter (λ v. not (has_equals v)) ws) (filter (λ v. not (has_equals v)) ws) ≡ map key_word ks
+    → cond (not t) (w ∷ filter (λ v. not (lone v)) ws) (filter (λ v. not (lone v)) ws) ≡ map pair_word ps
+    → cond t (w ∷ filter lone ws) (filter lone ws) ≡ map key_word ks
     → require (pair_of w) (key_of w) (requirements_of ws) ≡ Some (required ps ks)
-read_at w ws true [] ks more p k e f = cc
-read_at w ws true (a ∷ ps) ks more p k e f =
+read_at w ws false [] ks more p k e f = cc
+read_at w ws false (a ∷ ps) ks more p k e f =
     let word : w ≡ pair_word a = cc in
-    let rest : filter has_equals ws ≡ map pair_word ps = cc in
+    let rest : filter (λ v. not (lone v)) ws ≡ map pair_word ps = cc in
     ap (λ o. require o (key_of w) (requirements_of ws)) (ap pair_of word ∙ pair_own a p.0) ∙ ap (λ o. require (Some a) (key_of w) o)
     (more ps ks p.1 k rest f)
-read_at w ws false ps [] more p k e f = cc
-read_at w ws false ps (l ∷ ks) more p k e f =
+read_at w ws true ps [] more p k e f = cc
+read_at w ws true ps (l ∷ ks) more p k e f =
     let word : w ≡ key_word l = cc in
-    let rest : filter (λ v. not (has_equals v)) ws ≡ map key_word ks = cc in
+    let rest : filter lone ws ≡ map key_word ks = cc in
     ap (λ o. require o (key_of w) (requirements_of ws)) (ap pair_of word ∙ (key_own l k.0).1) ∙ ap
     (λ o. require None o (requirements_of ws)) (ap key_of word ∙ (key_own l k.0).0)
     ∙ ap (λ o. require None (Some l) o) (more ps ks p k.1 e rest)
 
 requirements_own : (ws : List (List ℕ)) → AreRead ws
 requirements_own [] ps ks p k e f = ap (λ l. Some (required l [])) (no_pairs ps e) ∙ ap (λ l. Some (required ps l)) (no_keys ks f)
-requirements_own (w ∷ ws) ps ks p k e f = read_at w ws (has_equals w) ps ks (requirements_own ws) p k e f
+requirements_own (w ∷ ws) ps ks p k e f = read_at w ws (lone w) ps ks (requirements_own ws) p k e f
 
 least_at : (q r : Required) (t : Bool) → (nat_le (length q.pairs) 8 && nat_le (length q.keys) 8) ≡ t → cond t (Some q) None ≡ Some r
     → (length q.pairs ≤ 8) × (length q.keys ≤ 8) × (q ≡ r)
@@ -270,26 +276,26 @@ defined_marked (w ∷ ws) (a ∷ ps) d =
 
 -- whose words begin with an @ if they are those of requirements
 abbrev WouldBeMarked : List (List ℕ) → Type 0
-WouldBeMarked ws = (ps : List Attribute) (ks : List (List ℕ)) → filter has_equals ws ≡ map pair_word ps
-    → filter (λ v. not (has_equals v)) ws ≡ map key_word ks → AreMarked ws
+WouldBeMarked ws = (ps : List Attribute) (ks : List (List ℕ)) → filter (λ v. not (lone v)) ws ≡ map pair_word ps
+    → filter lone ws ≡ map key_word ks → AreMarked ws
 
 marked_at : (w : List ℕ) (ws : List (List ℕ)) (t : Bool) (ps : List Attribute) (ks : List (List ℕ)) → WouldBeMarked ws
-    → cond t (w ∷ filter has_equals ws) (filter has_equals ws) ≡ map pair_word ps
-    → cond (not t) (w ∷ filter (λ v. not (has_equals v)) ws) (filter (λ v. not (has_equals v)) ws) ≡ map key_word ks → AreMarked (w ∷ ws)
-marked_at w ws true [] ks more e f = cc
-marked_at w ws true (a ∷ ps) ks more e f =
+    → cond (not t) (w ∷ filter (λ v. not (lone v)) ws) (filter (λ v. not (lone v)) ws) ≡ map pair_word ps
+    → cond t (w ∷ filter lone ws) (filter lone ws) ≡ map key_word ks → AreMarked (w ∷ ws)
+marked_at w ws false [] ks more e f = cc
+marked_at w ws false (a ∷ ps) ks more e f =
     let word : w ≡ pair_word a = cc in
-    let rest : filter has_equals ws ≡ map pair_word ps = cc in
+    let rest : filter (λ v. not (lone v)) ws ≡ map pair_word ps = cc in
     (ap (λ x. begins 64 x) word, more ps ks rest f)
-marked_at w ws false ps [] more e f = cc
-marked_at w ws false ps (k ∷ ks) more e f =
+marked_at w ws true ps [] more e f = cc
+marked_at w ws true ps (k ∷ ks) more e f =
     let word : w ≡ key_word k = cc in
-    let rest : filter (λ v. not (has_equals v)) ws ≡ map key_word ks = cc in
+    let rest : filter lone ws ≡ map key_word ks = cc in
     (ap (λ x. begins 64 x) word, more ps ks e rest)
 
 would_be_marked : (ws : List (List ℕ)) → WouldBeMarked ws
 would_be_marked [] ps ks e f = tt
-would_be_marked (w ∷ ws) ps ks e f = marked_at w ws (has_equals w) ps ks (would_be_marked ws) e f
+would_be_marked (w ∷ ws) ps ks e f = marked_at w ws (lone w) ps ks (would_be_marked ws) e f
 
 -- words that require attributes begin with an @
 pub required_marked : (ws : List (List ℕ)) (r : Required) → Requires r ws → AreMarked ws

@@ -2,12 +2,13 @@
 use Rattle.std.proofs.Common.{◌≡◌, ℕ, ◌<◌, true, List, [], ◌∷◌, ◌++◌, Option, None, Some, refl, sym, ap, ◌∙◌, subst, codes, arith, length}
 use Rattle.std.specs.Option.{option_map}
 use Rattle.std.proofs.lemmas.List.{append-nil}
+use Rattle.std.specs.List.{join_with_byte}
 use Rattle.iox_command.specs.DescribeBase.declared.pattern.MessagingPattern.{MessagingPattern}
 use Rattle.iox_command.specs.declared.service.ServiceOptions.{ServiceOptions}
 use Rattle.iox_command.specs.declared.step.ForeignStep.{ForeignStep}
 use Rattle.iox_command.specs.declared.step.ForeignStep.TheVariants as step
 use Rattle.iox_command.specs.Patterns.{pattern_of}
-use Rattle.iox_line.specs.Words.{AreWritten, lacks, joined, pieces_of, pieces_left, before, beyond}
+use Rattle.iox_line.specs.Words.{AreWritten, lacks, pieces_of, pieces_left, before, beyond}
 use Rattle.iox_line.specs.Numbers.{IsNumber, tag, tagged}
 use Rattle.iox_line.specs.Options.{AnyOrder}
 use Rattle.iox_line.specs.Memory.{prepend}
@@ -46,8 +47,8 @@ parts_some None y p h = cc
 parts_some (Some n) None p h = cc
 parts_some (Some n) (Some o) p h = let e : (n, o) ≡ p = cc in (ap (λ q. Some q.0) e, ap (λ q. Some q.1) e)
 
-tail_at : (ws : List (List ℕ)) (w : List ℕ) (vs : List (List ℕ)) → ws ≡ w ∷ vs → option_tail ws ≡ 58 ∷ joined 44 ws
-tail_at ws w vs h = ap option_tail h ∙ ap (λ l. 58 ∷ joined 44 l) (sym h)
+tail_at : (ws : List (List ℕ)) (w : List ℕ) (vs : List (List ℕ)) → ws ≡ w ∷ vs → option_tail ws ≡ 58 ∷ join_with_byte 44 ws
+tail_at ws w vs h = ap option_tail h ∙ ap (λ l. 58 ∷ join_with_byte 44 l) (sym h)
 
 tail_text : (front : List ℕ) (o : Option (List ℕ)) → whole 58 front o ≡ front ++ option_tail (pieces_left 44 o)
 tail_text front None = sym (append-nil front)
@@ -96,8 +97,8 @@ tail_own n [] f l = (
       (beyond-alone 58 (tag 120 n) (tag_lacks n f)),
 )
 tail_own n (w ∷ ws) f l = (
-  before-separated 58 (tag 120 n) (joined 44 (w ∷ ws)) (tag_lacks n f),
-  ap (λ o. pieces_left 44 o) (beyond-separated 58 (tag 120 n) (joined 44 (w ∷ ws)) (tag_lacks n f)) ∙ pieces_of-joined 44 w ws l,
+  before-separated 58 (tag 120 n) (join_with_byte 44 (w ∷ ws)) (tag_lacks n f),
+  ap (λ o. pieces_left 44 o) (beyond-separated 58 (tag 120 n) (join_with_byte 44 (w ∷ ws)) (tag_lacks n f)) ∙ pieces_of-joined 44 w ws l,
 )
 
 published_own : (n : ℕ) (o : ServiceOptions) (chosen : List (List ℕ)) → IsNumber n → ServiceFits o → AnyOrder chosen (service_words o)

@@ -1,11 +1,12 @@
 -- Words for steps.
 use Rattle.std.proofs.Common.{◌≡◌, ℕ, ◌==◌, Bool, true, false, List, [], ◌∷◌, ◌++◌, refl, cond, codes, decimal}
+use Rattle.std.specs.List.{join_with_byte}
 use Rattle.iox_command.specs.DescribeBase.declared.pattern.MessagingPattern.{MessagingPattern}
 use Rattle.iox_command.specs.declared.step.ForeignStep.{ForeignStep}
 use Rattle.iox_command.specs.declared.step.ForeignStep.TheVariants as step
 use Rattle.iox_command.specs.declared.step.StepBefore.{StepBefore}
 use Rattle.iox_line.proofs.Shorthands.{AllOf, AreWords, WritesSteps, beginning, option_tail}
-use Rattle.iox_line.specs.Words.{has_no_space, joined}
+use Rattle.iox_line.specs.Words.{has_no_space}
 use Rattle.iox_line.specs.Numbers.{IsNumber, tag}
 use Rattle.iox_line.proofs.NumberLemmas.{decimal_no_space}
 use Rattle.iox_line.specs.Services.{service_words}
@@ -31,10 +32,10 @@ word_so (step.Register n) = refl
 word_so (step.Leave n) = refl
 word_so (step.Remove n) = refl
 
-joined_no_space : (ws : List (List ℕ)) → AreWords ws → has_no_space (joined 44 ws) ≡ true
+joined_no_space : (ws : List (List ℕ)) → AreWords ws → has_no_space (join_with_byte 44 ws) ≡ true
 joined_no_space [] a = refl
 joined_no_space (w ∷ []) a = a.0
-joined_no_space (w ∷ v ∷ ws) a = both_parts 32 w (44 ∷ joined 44 (v ∷ ws)) a.0 (joined_no_space (v ∷ ws) a.1)
+joined_no_space (w ∷ v ∷ ws) a = both_parts 32 w (44 ∷ join_with_byte 44 (v ∷ ws)) a.0 (joined_no_space (v ∷ ws) a.1)
 
 tail_no_space : (ws : List (List ℕ)) → AreWords ws → has_no_space (option_tail ws) ≡ true
 tail_no_space [] a = refl

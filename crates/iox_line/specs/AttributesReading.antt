@@ -1,12 +1,12 @@
 -- How attributes are read, word for word.
 use Rattle.std.specs.Prelude.{ℕ, Bool, ◌&&◌, ◌||◌, nat_le, List, [], ◌∷◌, length, Option, None, Some, if◌then◌else◌}
+use Rattle.std.specs.Str.{byte}
 use Rattle.iox_describe_base.specs.declared.attribute.Attribute.{Attribute}
 use Rattle.iox_describe_base.specs.Attributes.{attribute, Required, required}
 use Rattle.iox_line.specs.Words.{before, beyond}
 use Rattle.iox_line.specs.Options.{after}
 use Rattle.iox_line.specs.Visible.{is_visible_text}
 use Rattle.iox_line.specs.Memory.{prepend, some}
-use Rattle.iox_line.specs.Letters.{at_sign, equals_sign}
 
 -- a key and a value, if there is one and both are within the limits
 abbrev pub pair_parts : List ℕ → Option (List ℕ) → Option Attribute
@@ -16,11 +16,11 @@ pair_parts key (Some value) = if is_visible_text 1 64 key && is_visible_text 0 2
 -- the pair after an @
 abbrev pub pair_in : Option (List ℕ) → Option Attribute
 pair_in None = None
-pair_in (Some text) = pair_parts (before equals_sign text) (beyond equals_sign text)
+pair_in (Some text) = pair_parts (before (byte "=") text) (beyond (byte "=") text)
 
 -- the pair that a word is
 abbrev pub pair_of : List ℕ → Option Attribute
-pair_of word = pair_in (after (at_sign ∷ []) word)
+pair_of word = pair_in (after ((byte "@") ∷ []) word)
 
 -- a key, if there is no value and it is within the limits
 abbrev pub key_parts : List ℕ → Option (List ℕ) → Option (List ℕ)
@@ -30,11 +30,11 @@ key_parts key (Some value) = None
 -- the key after an @
 abbrev pub key_in : Option (List ℕ) → Option (List ℕ)
 key_in None = None
-key_in (Some text) = key_parts (before equals_sign text) (beyond equals_sign text)
+key_in (Some text) = key_parts (before (byte "=") text) (beyond (byte "=") text)
 
 -- the key that a word is
 abbrev pub key_of : List ℕ → Option (List ℕ)
-key_of word = key_in (after (at_sign ∷ []) word)
+key_of word = key_in (after ((byte "@") ∷ []) word)
 
 -- the pairs that words are
 abbrev pub pairs_of : List (List ℕ) → Option (List Attribute)

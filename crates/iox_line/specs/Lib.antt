@@ -1,5 +1,4 @@
 -- The definitions that contracts about lines cite.
-pub mod Letters
 pub mod Words
 pub mod Numbers
 pub mod Options

@@ -15,8 +15,8 @@ use Rattle.iox_domain_values.specs.declared.backpressure.BackpressureAction.{Bac
 use Rattle.iox_domain_values.specs.declared.degradation.DegradationAction.{DegradationAction}
 use Rattle.iox_line.specs.Options.{or_else, find, named, one}
 use Rattle.iox_line.specs.Values.{strategy_of, allocation_of, handler_of, degradation_of}
-use Rattle.iox_line.specs.Letters.{factory_letter, loan_letter, publisher_letter, sample_letter, subscriber_letter}
 use Rattle.std.specs.declared.alloc.AllocError.{AllocError}
+use Rattle.std.specs.Str.{byte}
 use Rattle.iox_command.specs.DescribeBase.declared.pattern.MessagingPattern.{MessagingPattern}
 use Rattle.iox_command.specs.declared.step.StepBefore.{StepBefore}
 use Rattle.iox_command.specs.Patterns.{pattern_of}
@@ -87,8 +87,8 @@ with_values letter (w ∷ ws) = both (tagged letter w) (numbers ws)
 
 -- one port
 abbrev pub port_of : List (List ℕ) → Option PortNumber
-port_of words = or_else (option_map (λ n. port.Publisher n) (only publisher_letter words))
-    (option_map (λ n. port.Subscriber n) (only subscriber_letter words))
+port_of words = or_else (option_map (λ n. port.Publisher n) (only (byte "p") words))
+    (option_map (λ n. port.Subscriber n) (only (byte "s") words))
 
 -- what a first part makes of what is read, if it is read
 abbrev pub bind : {X Y : Type 0} → Option X → (X → Option Y) → Option Y
@@ -113,12 +113,12 @@ subscriber_of ws =
 -- a factory and the options of a publisher
 abbrev pub publisher_command : List (List ℕ) → Option (Command ℕ)
 publisher_command [] = None
-publisher_command (w ∷ ws) = option_map (λ p. command.Publisher p.0 p.1) (both (tagged factory_letter w) (publisher_of ws))
+publisher_command (w ∷ ws) = option_map (λ p. command.Publisher p.0 p.1) (both (tagged (byte "f") w) (publisher_of ws))
 
 -- a factory and the options of a subscriber
 abbrev pub subscriber_command : List (List ℕ) → Option (Command ℕ)
 subscriber_command [] = None
-subscriber_command (w ∷ ws) = option_map (λ p. command.Subscriber p.0 p.1) (both (tagged factory_letter w) (subscriber_of ws))
+subscriber_command (w ∷ ws) = option_map (λ p. command.Subscriber p.0 p.1) (both (tagged (byte "f") w) (subscriber_of ws))
 
 -- the command that is made of a service, of its attributes and of its lists of steps, if all are read
 abbrev pub service_command : {A : Type 0} → (NamedService → A → List StepBefore → Command ℕ) → (List (List ℕ) → Option A)
@@ -160,23 +160,23 @@ of_service service.Foreign words = foreign_command words
 -- the command of a verb and the words after it
 abbrev pub of_verb : Verb → List (List ℕ) → Option (Command ℕ)
 of_verb verb.Node words = if no_words words then Some command.Node else None
-of_verb verb.Close words = option_map (λ n. command.Close n) (only factory_letter words)
-of_verb verb.Loan words = option_map (λ p. command.Loan p.0 p.1) (with_number publisher_letter words)
-of_verb verb.LoanUninit words = option_map (λ p. command.LoanUninit p.0 p.1) (with_number publisher_letter words)
-of_verb verb.Set words = option_map (λ p. command.Set p.0 p.1 p.2) (with_two loan_letter words)
-of_verb verb.Fill words = option_map (λ p. command.Fill p.0 p.1) (with_values loan_letter words)
-of_verb verb.Drop words = option_map (λ n. command.Drop n) (only loan_letter words)
-of_verb verb.Send words = option_map (λ n. command.Send n) (only loan_letter words)
-of_verb verb.Put words = option_map (λ p. command.Put p.0 p.1) (with_values publisher_letter words)
-of_verb verb.Retry words = option_map (λ p. command.Retry p.0 p.1) (with_number publisher_letter words)
-of_verb verb.GiveUp words = option_map (λ n. command.GiveUp n) (only publisher_letter words)
-of_verb verb.Receive words = option_map (λ n. command.Receive n) (only subscriber_letter words)
-of_verb verb.Read words = option_map (λ n. command.Read n) (only sample_letter words)
-of_verb verb.Sequence words = option_map (λ n. command.Sequence n) (only sample_letter words)
-of_verb verb.Release words = option_map (λ n. command.Release n) (only sample_letter words)
+of_verb verb.Close words = option_map (λ n. command.Close n) (only (byte "f") words)
+of_verb verb.Loan words = option_map (λ p. command.Loan p.0 p.1) (with_number (byte "p") words)
+of_verb verb.LoanUninit words = option_map (λ p. command.LoanUninit p.0 p.1) (with_number (byte "p") words)
+of_verb verb.Set words = option_map (λ p. command.Set p.0 p.1 p.2) (with_two (byte "l") words)
+of_verb verb.Fill words = option_map (λ p. command.Fill p.0 p.1) (with_values (byte "l") words)
+of_verb verb.Drop words = option_map (λ n. command.Drop n) (only (byte "l") words)
+of_verb verb.Send words = option_map (λ n. command.Send n) (only (byte "l") words)
+of_verb verb.Put words = option_map (λ p. command.Put p.0 p.1) (with_values (byte "p") words)
+of_verb verb.Retry words = option_map (λ p. command.Retry p.0 p.1) (with_number (byte "p") words)
+of_verb verb.GiveUp words = option_map (λ n. command.GiveUp n) (only (byte "p") words)
+of_verb verb.Receive words = option_map (λ n. command.Receive n) (only (byte "s") words)
+of_verb verb.Read words = option_map (λ n. command.Read n) (only (byte "m") words)
+of_verb verb.Sequence words = option_map (λ n. command.Sequence n) (only (byte "m") words)
+of_verb verb.Release words = option_map (λ n. command.Release n) (only (byte "m") words)
 of_verb verb.Update words = option_map (λ p. command.Update p) (port_of words)
 of_verb verb.Leave words = option_map (λ p. command.Leave p) (port_of words)
-of_verb verb.Has words = option_map (λ n. command.Has n) (only subscriber_letter words)
+of_verb verb.Has words = option_map (λ n. command.Has n) (only (byte "s") words)
 of_verb verb.Publisher words = publisher_command words
 of_verb verb.Subscriber words = subscriber_command words
 

@@ -1,6 +1,7 @@
 -- How a service is read, word for word.
 use Rattle.std.specs.Prelude.{ℕ, ◌+◌, ◌==◌, Bool, true, false, List, [], ◌∷◌, length, Option, None, Some, codes, if◌then◌else◌}
 use Rattle.std.specs.Option.{option_map}
+use Rattle.std.specs.Str.{byte}
 use Rattle.iox_command.specs.DescribeBase.declared.pattern.MessagingPattern.{MessagingPattern}
 use Rattle.iox_command.specs.DescribeBase.declared.pattern.MessagingPattern.TheVariants as pattern
 use Rattle.iox_command.specs.declared.service.NumberOrOff.{NumberOrOff}
@@ -15,7 +16,6 @@ use Rattle.iox_line.specs.Words.{choice, same, front, back}
 use Rattle.iox_line.specs.Visible.{is_visible_text}
 use Rattle.iox_line.specs.Numbers.{number_of, tagged}
 use Rattle.iox_line.specs.Options.{find, named, one}
-use Rattle.iox_line.specs.Letters.{at_sign, bar, node_letter}
 
 -- two values
 pub record Pair (X Y : Type 0) : Type 0 where
@@ -200,11 +200,12 @@ three_parts None kind name ws = None
 three_parts (Some node) None name ws = None
 three_parts (Some node) (Some kind) None ws = None
 three_parts (Some node) (Some kind) (Some name) ws =
-    option_map (λ o. named_service node name o (back at_sign (front bar ws)) (back bar ws)) (options_of kind (front at_sign (front bar ws)))
+    option_map (λ o. named_service node name o (back (byte "@") (front (byte "|") ws)) (back (byte "|") ws))
+    (options_of kind (front (byte "@") (front (byte "|") ws)))
 
 -- the service that words name
 abbrev pub service_of : List (List ℕ) → Option NamedService
 service_of [] = None
 service_of (w ∷ []) = None
 service_of (w ∷ v ∷ []) = None
-service_of (w ∷ v ∷ u ∷ ws) = three_parts (tagged node_letter w) (pattern_named v) (name_of u) ws
+service_of (w ∷ v ∷ u ∷ ws) = three_parts (tagged (byte "n") w) (pattern_named v) (name_of u) ws

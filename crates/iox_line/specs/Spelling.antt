@@ -1,13 +1,13 @@
 -- Which bytes spell a command: how a command is written, word for word.
 use Rattle.std.specs.Prelude.{ℕ, ◌<◌, ◌≤◌, ◌≡◌, true, List, [], ◌∷◌, ◌++◌, length, codes, decimal, map, IfSome}
-use Rattle.std.specs.List.{AllByRecursion, AllZip}
+use Rattle.std.specs.List.{AllByRecursion, AllZip, join_with_byte}
 use Rattle.std.specs.Option.{option_map}
+use Rattle.std.specs.Str.{byte}
 use Rattle.iox_command.specs.declared.command.Command.{Command}
 use Rattle.iox_command.specs.declared.command.Command.TheVariants as command
 use Rattle.iox_command.specs.declared.port.PortNumber.TheVariants as port
 use Rattle.iox_command.specs.Patterns.{pattern_of}
-use Rattle.iox_line.specs.Words.{joined, lacks}
-use Rattle.iox_line.specs.Letters.{space}
+use Rattle.iox_line.specs.Words.{lacks}
 use Rattle.iox_line.specs.Numbers.{IsNumber}
 use Rattle.iox_line.specs.Options.{AnyOrder, option_words}
 use Rattle.iox_line.specs.Services.{pattern_word, ServiceFits, Names}
@@ -110,5 +110,5 @@ pub record Spells (line : List ℕ) (c : Command ℕ) : Type 0 where
   pub words : List (List ℕ)
   pub fits : Fits c
   pub writes : Writes c words
-  pub are_words : AllByRecursion (λ word. lacks space word ≡ true) words
-  pub spaced_so : line ≡ joined space words
+  pub are_words : AllByRecursion (λ word. lacks (byte " ") word ≡ true) words
+  pub spaced_so : line ≡ join_with_byte (byte " ") words

@@ -1,14 +1,14 @@
 -- How steps of foreign processes are written in a line.
 use Rattle.std.specs.Prelude.{ℕ, ◌≡◌, ◌≤◌, ◌==◌, List, [], ◌∷◌, ◌++◌, codes, decimal, if◌then◌else◌}
+use Rattle.std.specs.List.{join_with_byte}
+use Rattle.std.specs.Str.{byte}
 use Rattle.iox_command.specs.DescribeBase.declared.pattern.MessagingPattern.{MessagingPattern}
 use Rattle.iox_command.specs.declared.step.ForeignStep.{ForeignStep}
 use Rattle.iox_command.specs.declared.step.ForeignStep.TheVariants as step
 use Rattle.iox_command.specs.declared.step.StepBefore.{StepBefore}
 use Rattle.iox_command.specs.Patterns.{pattern_of}
-use Rattle.iox_line.specs.Words.{joined}
 use Rattle.iox_line.specs.Numbers.{IsNumber}
 use Rattle.iox_line.specs.Options.{AnyOrder}
-use Rattle.iox_line.specs.Letters.{comma}
 use Rattle.iox_line.specs.Services.{service_words, ServiceFits}
 
 -- the word writes the step: its verb, a colon, an x and the number of its node; to publish, in either version, also options, if there are
@@ -17,9 +17,11 @@ abbrev pub WritesStep : ForeignStep → List ℕ → Type 0
 WritesStep (step.Lock node) word = word ≡ codes "lock:x" ++ decimal node
 WritesStep (step.GiveUp node) word = word ≡ codes "giveup:x" ++ decimal node
 WritesStep (step.Publish node options) word = (chosen : List (List ℕ)) × AnyOrder chosen (service_words options)
-    × (word ≡ codes "publish:x" ++ (decimal node ++ elim chosen [ [] ↦ [] | one ∷ more ↦ codes ":" ++ joined comma (one ∷ more) ]))
+    × (word ≡ codes "publish:x"
+    ++ (decimal node ++ elim chosen [ [] ↦ [] | one ∷ more ↦ codes ":" ++ join_with_byte (byte ",") (one ∷ more) ]))
 WritesStep (step.PublishV1 node options) word = (chosen : List (List ℕ)) × AnyOrder chosen (service_words options)
-    × (word ≡ codes "publish1:x" ++ (decimal node ++ elim chosen [ [] ↦ [] | one ∷ more ↦ codes ":" ++ joined comma (one ∷ more) ]))
+    × (word ≡ codes "publish1:x"
+    ++ (decimal node ++ elim chosen [ [] ↦ [] | one ∷ more ↦ codes ":" ++ join_with_byte (byte ",") (one ∷ more) ]))
 WritesStep (step.Register node) word = word ≡ codes "register:x" ++ decimal node
 WritesStep (step.Leave node) word = word ≡ codes "leave:x" ++ decimal node
 WritesStep (step.Remove node) word = word ≡ codes "remove:x" ++ decimal node

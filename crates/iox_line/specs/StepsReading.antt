@@ -1,6 +1,7 @@
 -- How foreign steps are read, word for word.
 use Rattle.std.specs.Prelude.{ℕ, ◌==◌, Bool, true, false, nat_lt, List, [], ◌∷◌, Option, None, Some, codes, if◌then◌else◌}
 use Rattle.std.specs.Option.{option_map}
+use Rattle.std.specs.Str.{byte}
 use Rattle.iox_command.specs.DescribeBase.declared.pattern.MessagingPattern.{MessagingPattern}
 use Rattle.iox_command.specs.declared.service.ServiceOptions.{ServiceOptions}
 use Rattle.iox_command.specs.declared.step.ForeignStep.{ForeignStep}
@@ -10,7 +11,6 @@ use Rattle.iox_line.specs.Words.{before, beyond, pieces_left, choice}
 use Rattle.iox_line.specs.Numbers.{number_of, tagged}
 use Rattle.iox_line.specs.Options.{after}
 use Rattle.iox_line.specs.Memory.{prepend}
-use Rattle.iox_line.specs.Letters.{bar, colon, comma, foreign_letter}
 use Rattle.iox_line.specs.ServicesReading.{options_of}
 use Rattle.iox_line.specs.declared.steps.step.StepVerb.{StepVerb}
 use Rattle.iox_line.specs.declared.steps.step.StepVerb.TheVariants as verb
@@ -42,18 +42,18 @@ node_and_options (Some node) (Some options) = Some (node, options)
 
 -- who publishes and with what options, after the colon of the verb: a node, and options after one more colon, if there is one
 abbrev pub published : MessagingPattern → List ℕ → Option (ℕ × ServiceOptions)
-published pattern text = node_and_options (tagged foreign_letter (before colon text))
-    (options_of pattern (pieces_left comma (beyond colon text)))
+published pattern text = node_and_options (tagged (byte "x") (before (byte ":") text))
+    (options_of pattern (pieces_left (byte ",") (beyond (byte ":") text)))
 
 -- the step of a verb and what stands after its colon
 abbrev pub step_at : MessagingPattern → StepVerb → List ℕ → Option ForeignStep
-step_at pattern verb.Lock text = option_map (λ n. step.Lock n) (tagged foreign_letter text)
-step_at pattern verb.GiveUp text = option_map (λ n. step.GiveUp n) (tagged foreign_letter text)
+step_at pattern verb.Lock text = option_map (λ n. step.Lock n) (tagged (byte "x") text)
+step_at pattern verb.GiveUp text = option_map (λ n. step.GiveUp n) (tagged (byte "x") text)
 step_at pattern verb.Publish text = option_map (λ p. step.Publish p.0 p.1) (published pattern text)
 step_at pattern verb.PublishV1 text = option_map (λ p. step.PublishV1 p.0 p.1) (published pattern text)
-step_at pattern verb.Register text = option_map (λ n. step.Register n) (tagged foreign_letter text)
-step_at pattern verb.Leave text = option_map (λ n. step.Leave n) (tagged foreign_letter text)
-step_at pattern verb.Remove text = option_map (λ n. step.Remove n) (tagged foreign_letter text)
+step_at pattern verb.Register text = option_map (λ n. step.Register n) (tagged (byte "x") text)
+step_at pattern verb.Leave text = option_map (λ n. step.Leave n) (tagged (byte "x") text)
+step_at pattern verb.Remove text = option_map (λ n. step.Remove n) (tagged (byte "x") text)
 
 -- the same, if there is a verb and a colon
 abbrev pub step_with : MessagingPattern → Option StepVerb → Option (List ℕ) → Option ForeignStep
@@ -63,7 +63,7 @@ step_with pattern (Some v) (Some text) = step_at pattern v text
 
 -- the step that a word is
 abbrev pub step_of : MessagingPattern → List ℕ → Option ForeignStep
-step_of pattern word = step_with pattern (step_verb_of (before colon word)) (beyond colon word)
+step_of pattern word = step_with pattern (step_verb_of (before (byte ":") word)) (beyond (byte ":") word)
 
 -- the steps that words are
 abbrev pub each_step : MessagingPattern → List (List ℕ) → Option (List ForeignStep)
@@ -106,7 +106,7 @@ bar_or_step (Some text) bar step = bar text
 abbrev pub lists_from : MessagingPattern → ℕ → Bool → List (List ℕ) → Option (List StepBefore)
 lists_from pattern now fresh [] = if fresh then None else Some []
 lists_from pattern now fresh (w ∷ ws)
-    = bar_or_step (after (bar ∷ []) w) (λ text. and_then (next_access fresh now text) (λ i. lists_from pattern i true ws))
+    = bar_or_step (after ((byte "|") ∷ []) w) (λ text. and_then (next_access fresh now text) (λ i. lists_from pattern i true ws))
     (prepend (listed_step pattern now w) (lists_from pattern now false ws))
 
 -- the lists of steps that words are

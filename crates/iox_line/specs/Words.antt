@@ -1,9 +1,9 @@
 -- The words of a line.
-use Rattle.std.specs.Prelude.{ℕ, ◌+◌, ◌==◌, ◌&&◌, Bool, true, false, not, List, [], ◌∷◌, ◌++◌, Option, None, Some, nat_eq, if◌then◌else◌}
+use Rattle.std.specs.Prelude.{ℕ, ◌+◌, ◌==◌, ◌&&◌, Bool, true, false, not, List, [], ◌∷◌, Option, None, Some, nat_eq, if◌then◌else◌}
 use Rattle.std.specs.Prelude.{◌≡◌}
 use Rattle.std.specs.List.{list_all}
 use Rattle.std.specs.Cmp.Lexicographic.{pointwise}
-use Rattle.iox_line.specs.Letters.{space}
+use Rattle.std.specs.Str.{byte}
 
 -- whether no byte is this one
 abbrev pub lacks : ℕ → List ℕ → Bool
@@ -11,13 +11,7 @@ lacks byte text = list_all (λ b. not (b == byte)) text
 
 -- whether no byte is a space
 abbrev pub has_no_space : List ℕ → Bool
-has_no_space word = lacks space word
-
--- pieces with one such byte between each two
-abbrev pub joined : ℕ → List (List ℕ) → List ℕ
-joined separator [] = []
-joined separator (w ∷ []) = w
-joined separator (w ∷ v ∷ ws) = w ++ separator ∷ joined separator (v ∷ ws)
+has_no_space word = lacks (byte " ") word
 
 -- a byte stands before the first of the pieces
 abbrev pub onto_first : ℕ → List (List ℕ) → List (List ℕ)
@@ -31,7 +25,7 @@ pieces_of separator (b ∷ bs) = if b == separator then [] ∷ pieces_of separat
 
 -- the pieces of a line between its spaces
 abbrev pub words_of : List ℕ → List (List ℕ)
-words_of line = pieces_of space line
+words_of line = pieces_of (byte " ") line
 
 -- the pieces of what is left of a text, if something is left
 abbrev pub pieces_left : ℕ → Option (List ℕ) → List (List ℕ)

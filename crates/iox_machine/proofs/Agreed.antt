@@ -3,17 +3,17 @@ use Rattle.std.proofs.Common.{◌≡◌, ◌⊎◌, ◌≤◌, ◌+◌, ℕ, Boo
 use Rattle.std.proofs.Common.{ap, subst, inl, inr, arith, ◌∙◌, true≢false}
 use Rattle.std.proofs.lemmas.Bool.{eqb-true, eq-eqb, false_from_ne_true}
 use Rattle.std.specs.List.{AllByRecursion, IsDistinct, list_any}
-use Rattle.std.specs.Prelude.{◌==◌, filter, find, fold, option_map}
-use Rattle.iox_machine.proofs.Shorthands.{factory_of}
+use Rattle.std.specs.Prelude.{◌==◌, filter, find, fold, option_map, bytes_eq}
 use Rattle.iox_machine.specs.Choices.{Choices}
 use Rattle.iox_machine.specs.AgreementLaws.{agreed_in, IsPublished, AreApart, IsAgreed, IsIn, OneAgreement}
 use Rattle.iox_machine.specs.Asked.{settings_of}
 use Rattle.iox_machine.specs.Factories.{with_open, CreatesService, OpensService, OpensOrCreatesService}
 use Rattle.iox_machine.specs.IndependenceLaws.{is_factory_of, is_of}
-use Rattle.iox_machine.specs.Phase.{Own, Phase, Absent, BeingMade, Published, Emptied, same_pattern, closed_by, acted}
+use Rattle.iox_machine.specs.Phase.{Own, Phase, Absent, BeingMade, Published, Emptied, same_pattern, acted}
+use Rattle.iox_machine.proofs.Shorthands.{closed_by, factory_of}
 use Rattle.iox_machine.specs.Run.{Step, Runs}
 use Rattle.iox_machine.specs.Service.{Service, new_service}
-use Rattle.iox_machine.specs.State.{State, Factory, new_state, counted, with_phase, is_service_of, same_name}
+use Rattle.iox_machine.specs.State.{State, Factory, new_state, counted, with_phase, is_service_of}
 use Rattle.iox_machine.specs.Table.{at, removed}
 use Rattle.iox_machine.proofs.Beginning.{or-first, or-second}
 use Rattle.iox_machine.proofs.Calls.{IsSettled, create-settles, open-settles, either-settles, fold-all}
@@ -68,14 +68,14 @@ count-at factory number node table =
 
 linked-other : (pattern : MessagingPattern) (name : List ℕ) (factory : Factory) (c : StaticConfig) (phase : Phase)
     → factory.pattern ≡ messaging.PublishSubscribe
-    → (same_pattern pattern factory.pattern && same_name name factory.name) ≡ false
-    → (same_pattern pattern messaging.PublishSubscribe && same_name factory.name name) ≡ true → Linked (settings.PublishSubscribe c) phase
+    → (same_pattern pattern factory.pattern && bytes_eq name factory.name) ≡ false
+    → (same_pattern pattern messaging.PublishSubscribe && bytes_eq factory.name name) ≡ true → Linked (settings.PublishSubscribe c) phase
 linked-other pattern name factory c phase is off of =
     absurd (true≢false (sym (at-itself factory.pattern factory.name (record { pattern = pattern; name = name; node = 0 })
     (pattern-is pattern messaging.PublishSubscribe
-    (both-true (same_pattern pattern messaging.PublishSubscribe) (same_name factory.name name) of).0 ∙ sym is)
+    (both-true (same_pattern pattern messaging.PublishSubscribe) (bytes_eq factory.name name) of).0 ∙ sym is)
     (sym (name-is factory.name name
-    (both-true (same_pattern pattern messaging.PublishSubscribe) (same_name factory.name name) of).1))) ∙ off))
+    (both-true (same_pattern pattern messaging.PublishSubscribe) (bytes_eq factory.name name) of).1))) ∙ off))
 
 any-removed : (test : Factory → Bool) (number : ℕ) (factory : Factory) (table : List (ℕ × Factory)) → Apart table
     → at number table ≡ Some factory → list_any (λ (entry : ℕ × Factory). test entry.1) table ≡ true
@@ -153,7 +153,7 @@ module _ {T : Type 0} where
         (λ service manned. any-joined (λ (entry : ℕ × Factory). is_service_of entry.1 service) old.factories
         ((old.made.factories + 1, factory) ∷ []) manned) old.services stands.manned)
         (λ entry served is. served is)
-        (λ is. subst (λ (b : Bool). list_any (λ (service : Service T). b && same_name service.name factory.name) old.services ≡ true)
+        (λ is. subst (λ (b : Bool). list_any (λ (service : Service T). b && bytes_eq service.name factory.name) old.services ≡ true)
         (sym is) (same.1 is)))
     | inr made ↦ subst (λ (it : List (Service T)). Stands (entered_state factory phase old answer it)) (sym made.1)
         (build (old.services ++ new_service factory.name made.0 ∷ [])
@@ -167,7 +167,7 @@ module _ {T : Type 0} where
         → Linked (settings.PublishSubscribe service.settings) phase) old.services (new_service factory.name made.0 ∷ []) fits.linked
         ((λ of. made.4), tt))
         (distinct-joined (new_service factory.name made.0) old.services
-        (each-false (λ (service : Service T). same_name service.name factory.name) old.services made.2) stands.apart)
+        (each-false (λ (service : Service T). bytes_eq service.name factory.name) old.services made.2) stands.apart)
         (all-joined (λ (service : Service T). list_any (λ (entry : ℕ × Factory). is_service_of entry.1 service)
         (with_factory factory old) ≡ true) old.services
         (new_service factory.name made.0 ∷ [])
@@ -186,7 +186,7 @@ module _ {T : Type 0} where
       serves : (c : StaticConfig) → factory.pattern ≡ messaging.PublishSubscribe
           → is_service_of {T = T} factory (new_service factory.name c) ≡ true
       serves c is =
-          and-true (same_pattern factory.pattern messaging.PublishSubscribe) (same_name factory.name factory.name)
+          and-true (same_pattern factory.pattern messaging.PublishSubscribe) (bytes_eq factory.name factory.name)
           (subst (λ (it : MessagingPattern). same_pattern it messaging.PublishSubscribe ≡ true) (sym is) refl) (name-itself factory.name)
 
       counted-so : (counted answer old.made).factories ≡ old.made.factories + 1
@@ -201,7 +201,7 @@ module _ {T : Type 0} where
           never h = omega (arith, h)
 
       build : (after : List (Service T))
-          → ((pattern : MessagingPattern) (name : List ℕ) → (same_pattern pattern factory.pattern && same_name name factory.name) ≡ false
+          → ((pattern : MessagingPattern) (name : List ℕ) → (same_pattern pattern factory.pattern && bytes_eq name factory.name) ≡ false
           → AllByRecursion (λ (service : Service T). is_of pattern name service ≡ true
           → Linked (settings.PublishSubscribe service.settings) (old.phases pattern name)) after)
           → AllByRecursion (λ (service : Service T). is_of factory.pattern factory.name service ≡ true
@@ -273,7 +273,7 @@ module _ {T : Type 0} where
       → Stands (record (with_phase factory.pattern factory.name (closed_by factory.node (old.phases factory.pattern factory.name)) old) {
         factories = removed number old.factories;
         services = cond (list_any (λ (entry : ℕ × Factory). same_pattern entry.1.pattern factory.pattern
-            && same_name entry.1.name factory.name)
+            && bytes_eq entry.1.name factory.name)
             (removed number old.factories))
             old.services (filter (λ (service : Service T). not (is_service_of factory service)) old.services);
       })
@@ -309,15 +309,15 @@ module _ {T : Type 0} where
           any-weaker (λ (entry : ℕ × Factory). is_factory_of factory.pattern factory.name entry.1)
           (λ (entry : ℕ × Factory). is_service_of entry.1 service)
           (λ entry it.
-          and-true (same_pattern entry.1.pattern messaging.PublishSubscribe) (same_name service.name entry.1.name)
+          and-true (same_pattern entry.1.pattern messaging.PublishSubscribe) (bytes_eq service.name entry.1.name)
           (subst (λ (p : MessagingPattern). same_pattern p messaging.PublishSubscribe ≡ true)
           (sym (pattern-is entry.1.pattern factory.pattern
-          (both-true (same_pattern entry.1.pattern factory.pattern) (same_name entry.1.name factory.name) it).0))
-          (both-true (same_pattern factory.pattern messaging.PublishSubscribe) (same_name service.name factory.name) of).0)
-          (subst (λ (n : List ℕ). same_name service.name n ≡ true)
+          (both-true (same_pattern entry.1.pattern factory.pattern) (bytes_eq entry.1.name factory.name) it).0))
+          (both-true (same_pattern factory.pattern messaging.PublishSubscribe) (bytes_eq service.name factory.name) of).0)
+          (subst (λ (n : List ℕ). bytes_eq service.name n ≡ true)
           (sym (name-is entry.1.name factory.name
-          (both-true (same_pattern entry.1.pattern factory.pattern) (same_name entry.1.name factory.name) it).1))
-          (both-true (same_pattern factory.pattern messaging.PublishSubscribe) (same_name service.name factory.name) of).1))
+          (both-true (same_pattern entry.1.pattern factory.pattern) (bytes_eq entry.1.name factory.name) it).1))
+          (both-true (same_pattern factory.pattern messaging.PublishSubscribe) (bytes_eq service.name factory.name) of).1))
           (removed number old.factories) is
 
       manned-on : (service : Service T) → (is_service_of factory service ≡ true → (remains number factory old) ≡ true)
@@ -338,13 +338,13 @@ module _ {T : Type 0} where
           flip true is =
               absurd (true≢false (sym (at-itself factory.pattern factory.name entry.1
               (pattern-is entry.1.pattern messaging.PublishSubscribe
-              (both-true (same_pattern entry.1.pattern messaging.PublishSubscribe) (same_name service.name entry.1.name) of).0
+              (both-true (same_pattern entry.1.pattern messaging.PublishSubscribe) (bytes_eq service.name entry.1.name) of).0
               ∙ sym (pattern-is factory.pattern messaging.PublishSubscribe
-              (both-true (same_pattern factory.pattern messaging.PublishSubscribe) (same_name service.name factory.name) is).0))
+              (both-true (same_pattern factory.pattern messaging.PublishSubscribe) (bytes_eq service.name factory.name) is).0))
               (sym (name-is service.name entry.1.name
-              (both-true (same_pattern entry.1.pattern messaging.PublishSubscribe) (same_name service.name entry.1.name) of).1)
+              (both-true (same_pattern entry.1.pattern messaging.PublishSubscribe) (bytes_eq service.name entry.1.name) of).1)
               ∙ name-is service.name factory.name
-              (both-true (same_pattern factory.pattern messaging.PublishSubscribe) (same_name service.name factory.name) is).1)) ∙ off))
+              (both-true (same_pattern factory.pattern messaging.PublishSubscribe) (bytes_eq service.name factory.name) is).1)) ∙ off))
           flip false is = refl
 
       unless-of : (service : Service T) → not (is_service_of factory service) ≡ true → is_service_of factory service ≡ true

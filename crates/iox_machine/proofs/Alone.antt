@@ -4,9 +4,9 @@ use Rattle.std.proofs.Common.{Some, Result, Ok, Err, refl, sym, ap, subst, inl, 
 use Rattle.std.specs.Global.{Vec}
 use Rattle.std.specs.List.{list_any}
 use Rattle.std.specs.Option.{option_map_or}
-use Rattle.std.specs.Prelude.{◌==◌, nat_lt, nat_le, is_some, find, filter, fold, MatchBool, MatchOption, MatchResult}
+use Rattle.std.specs.Prelude.{◌==◌, nat_lt, nat_le, is_some, find, filter, fold, MatchBool, MatchOption, MatchResult, bytes_eq}
 use Rattle.std.specs.Vec.{vec_items}
-use Rattle.iox_machine.proofs.Shorthands.{factory_of, left}
+use Rattle.iox_machine.proofs.Shorthands.{factory_of, left, with_subscriber, with_publisher, closed_by, IsRefused, IsSkipped}
 use Rattle.iox_machine.specs.Choices.{Choices}
 use Rattle.iox_machine.specs.AgreementLaws.{agreed_in}
 use Rattle.iox_machine.specs.Agreement.{Agreement, unfit, event_verdict, publish_subscribe_verdict, request_response_verdict}
@@ -16,17 +16,17 @@ use Rattle.iox_machine.specs.Asked.{settings_of}
 use Rattle.iox_machine.specs.Factories.{Acts, CreatesService, OpensService, OpensOrCreatesService, Negotiates, Enters, create_refusal}
 use Rattle.iox_machine.specs.Factories.{either_lacking}
 use Rattle.iox_machine.specs.IndependenceLaws.{is_factory_of, is_of, is_first, asks, concerns, IsLeft, IsAlone, ServicesAreAsIfAlone}
-use Rattle.iox_machine.specs.Message.{Loan, Sample, is_written}
+use Rattle.iox_machine.specs.Message.{Loan, Sample}
+use Rattle.iox_machine.specs.RunLaws.{is_written}
 use Rattle.iox_machine.specs.Negotiation.{Call, Answer, Creates, Opens, OpensOrCreates}
-use Rattle.iox_machine.specs.Phase.{Own, Phase, Absent, same_pattern, closed_by, acted}
+use Rattle.iox_machine.specs.Phase.{Own, Phase, Absent, same_pattern, acted}
 use Rattle.iox_machine.specs.Ports.{AtFree, AtBlocked, publisher_in, subscriber_in, LendsLoan, Puts, SendsLoan, Writes, Releases}
 use Rattle.iox_machine.specs.PublisherUpdate as publishing
 use Rattle.iox_machine.specs.Receiving.{Receives, has_samples}
-use Rattle.iox_machine.specs.Replies.{IsSkipped, IsRefused}
 use Rattle.iox_machine.specs.Run.{Step, Runs, AtFactory}
 use Rattle.iox_machine.specs.Sending.{GoesOn}
-use Rattle.iox_machine.specs.Service.{Service, Publisher, Subscriber, Send, with_publisher, with_subscriber}
-use Rattle.iox_machine.specs.State.{State, Factory, AtOne, new_state, with_phase, is_service_of, same_name, counted, replaced}
+use Rattle.iox_machine.specs.Service.{Service, Publisher, Subscriber, Send}
+use Rattle.iox_machine.specs.State.{State, Factory, AtOne, new_state, with_phase, is_service_of, counted, replaced}
 use Rattle.iox_machine.specs.SubscriberUpdate as subscribing
 use Rattle.iox_machine.specs.Table.{at, removed}
 use Rattle.iox_machine.proofs.Agreed.{step-stands, new-stands}
@@ -83,12 +83,12 @@ module _ {T : Type 0} (pattern : MessagingPattern) (name : List ℕ) where
   pub own-phase : (state : State T) → own_phases pattern name state.phases pattern name ≡ state.phases pattern name
   own-phase state =
       ap (λ (b : Bool). cond b (state.phases pattern name) (Absent 0))
-      (and-true (same_pattern pattern pattern) (same_name name name) (pattern-itself pattern) (name-itself name))
+      (and-true (same_pattern pattern pattern) (bytes_eq name name) (pattern-itself pattern) (name-itself name))
 
   -- another phase of the service
   own-with : (phase : Phase) (state : State T)
       → own_phases pattern name (with_phase pattern name phase state).phases ≡ (with_phase pattern name phase (own_of state)).phases
-  own-with phase state = λ i one other. here (same_pattern one pattern && same_name other name) (state.phases one other) i
+  own-with phase state = λ i one other. here (same_pattern one pattern && bytes_eq other name) (state.phases one other) i
     where
       here : (b : Bool) (was : Phase) → cond b (cond b phase was) (Absent 0) ≡ cond b phase (cond b was (Absent 0))
       here true was = refl
@@ -104,18 +104,18 @@ module _ {T : Type 0} (pattern : MessagingPattern) (name : List ℕ) where
   own-left old new (phase, factories, services) =
       λ i. record {
         made = new.made;
-        phases = λ one other. here one other (same_pattern one pattern && same_name other name) refl i;
+        phases = λ one other. here one other (same_pattern one pattern && bytes_eq other name) refl i;
         factories = factories i;
         services = services i;
       }
     where
-      here : (one : MessagingPattern) (other : List ℕ) (b : Bool) → (same_pattern one pattern && same_name other name) ≡ b
+      here : (one : MessagingPattern) (other : List ℕ) (b : Bool) → (same_pattern one pattern && bytes_eq other name) ≡ b
           → cond b (new.phases one other) (Absent 0) ≡ cond b (old.phases one other) (Absent 0)
       here one other true is =
           subst (λ (p : MessagingPattern). new.phases p other ≡ old.phases p other)
-          (sym (pattern-is one pattern (both-true (same_pattern one pattern) (same_name other name) is).0))
+          (sym (pattern-is one pattern (both-true (same_pattern one pattern) (bytes_eq other name) is).0))
           (subst (λ (n : List ℕ). new.phases pattern n ≡ old.phases pattern n)
-          (sym (name-is other name (both-true (same_pattern one pattern) (same_name other name) is).1)) phase)
+          (sym (name-is other name (both-true (same_pattern one pattern) (bytes_eq other name) is).1)) phase)
       here one other false is = refl
 
   refused-own : (why : Refusal) (old : State T) (answer : Reply T) (new : State T) → IsRefused why old answer new
@@ -179,7 +179,7 @@ module _ {T : Type 0} (pattern : MessagingPattern) (name : List ℕ) where
             did,
             ap own_of came
                 ∙ ap (λ (list : List (Service T)). record (own_of old) { made = counted answer old.made; services = list })
-                (replaced-own (λ (n : List ℕ). same_pattern pattern messaging.PublishSubscribe && same_name n name)
+                (replaced-own (λ (n : List ℕ). same_pattern pattern messaging.PublishSubscribe && bytes_eq n name)
                 (λ (other : Service T). is_some (found other)) service after old.services
                 (elim (by-option (found service) ⊥ (λ one. Does one service answer after) did) [
                   | inl v ↦ absurd v.1
@@ -228,14 +228,14 @@ module _ {T : Type 0} (pattern : MessagingPattern) (name : List ℕ) where
   own-service : (factory : Factory) (service : Service T) → is_factory_of pattern name factory ≡ true
       → is_service_of factory service ≡ true → is_of pattern name service ≡ true
   own-service factory service own of =
-      and-true (same_pattern pattern messaging.PublishSubscribe) (same_name service.name name)
+      and-true (same_pattern pattern messaging.PublishSubscribe) (bytes_eq service.name name)
       (subst (λ (p : MessagingPattern). same_pattern p messaging.PublishSubscribe ≡ true)
       (pattern-is factory.pattern pattern
-      (both-true (same_pattern factory.pattern pattern) (same_name factory.name name) own).0)
-      (both-true (same_pattern factory.pattern messaging.PublishSubscribe) (same_name service.name factory.name) of).0)
-      (subst (λ (n : List ℕ). same_name service.name n ≡ true)
-      (name-is factory.name name (both-true (same_pattern factory.pattern pattern) (same_name factory.name name) own).1)
-      (both-true (same_pattern factory.pattern messaging.PublishSubscribe) (same_name service.name factory.name) of).1)
+      (both-true (same_pattern factory.pattern pattern) (bytes_eq factory.name name) own).0)
+      (both-true (same_pattern factory.pattern messaging.PublishSubscribe) (bytes_eq service.name factory.name) of).0)
+      (subst (λ (n : List ℕ). bytes_eq service.name n ≡ true)
+      (name-is factory.name name (both-true (same_pattern factory.pattern pattern) (bytes_eq factory.name name) own).1)
+      (both-true (same_pattern factory.pattern messaging.PublishSubscribe) (bytes_eq service.name factory.name) of).1)
 
   some-of : (b : Bool) (service : Service T) → is_some (cond b (Some service) None) ≡ true → b ≡ true
   some-of true service is = refl
@@ -301,7 +301,7 @@ module _ {T : Type 0} (pattern : MessagingPattern) (name : List ℕ) where
                   phases = own-with phase old i;
                   factories = filter-joined-on (λ (entry : ℕ × Factory). is_factory_of pattern name entry.1) old.factories
                       (old.made.factories + 1, record { pattern = pattern; name = name; node = factory.node })
-                      (and-true (same_pattern pattern pattern) (same_name name name) (pattern-itself pattern) (name-itself name)) i;
+                      (and-true (same_pattern pattern pattern) (bytes_eq name name) (pattern-itself pattern) (name-itself name)) i;
                   services = own-open pattern name phase old.services
                       (λ agreed told_so. patterned agreed
                       (ap agreed_in (ap (λ (state : State T). state.phases pattern name) came ∙ phase-there pattern name phase old)
@@ -462,7 +462,7 @@ module _ {T : Type 0} (pattern : MessagingPattern) (name : List ℕ) where
         × (new ≡ record (with_phase factory.pattern factory.name (closed_by factory.node (old.phases factory.pattern factory.name)) old) {
           factories = removed number old.factories;
           services = cond (list_any (λ (entry : ℕ × Factory). same_pattern entry.1.pattern factory.pattern
-              && same_name entry.1.name factory.name)
+              && bytes_eq entry.1.name factory.name)
               (removed number old.factories))
               old.services (filter (λ (service : Service T). not (is_service_of factory service)) old.services);
         }))
@@ -504,7 +504,7 @@ module _ {T : Type 0} (pattern : MessagingPattern) (name : List ℕ) where
         used-same =
             any-own (is_of pattern name) (λ (service : Service T). is_service_of (of_node node) service && is_used_by number service)
             (λ service both. own-service (of_node node) service
-            (and-true (same_pattern pattern pattern) (same_name name name) (pattern-itself pattern) (name-itself name))
+            (and-true (same_pattern pattern pattern) (bytes_eq name name) (pattern-itself pattern) (name-itself name))
             (both-true (is_service_of (of_node node) service) (is_used_by number service) both).0) old.services
 
         after : State T
@@ -594,9 +594,9 @@ module _ {T : Type 0} (pattern : MessagingPattern) (name : List ℕ) where
             (subst (λ (f : Factory). ClosesIt number f old answer new → ClosesIt number f (own_of old) answer (own_of new))
             (λ i. record {
               pattern = sym (pattern-is factory.pattern pattern
-                  (both-true (same_pattern factory.pattern pattern) (same_name factory.name name) own).0) i;
+                  (both-true (same_pattern factory.pattern pattern) (bytes_eq factory.name name) own).0) i;
               name = sym (name-is factory.name name
-                  (both-true (same_pattern factory.pattern pattern) (same_name factory.name name) own).1) i;
+                  (both-true (same_pattern factory.pattern pattern) (bytes_eq factory.name name) own).1) i;
               node = factory.node;
             }) (closes-own number factory.node old answer new) did)
 
@@ -607,23 +607,23 @@ module _ {T : Type 0} (pattern : MessagingPattern) (name : List ℕ) where
     own-step command.Node old answer new stands (inr refused) on = inr (refused-own (refusal.Hub OutOfMemory) old answer new refused)
     own-step (command.Create node other named attributes steps) old answer new stands h on =
         own-creates steps (factory_of node other named) named attributes old answer new
-        (pattern-is (pattern_of named) pattern (both-true (same_pattern (pattern_of named) pattern) (same_name other name) on).0)
-        (name-is other name (both-true (same_pattern (pattern_of named) pattern) (same_name other name) on).1)
+        (pattern-is (pattern_of named) pattern (both-true (same_pattern (pattern_of named) pattern) (bytes_eq other name) on).0)
+        (name-is other name (both-true (same_pattern (pattern_of named) pattern) (bytes_eq other name) on).1)
         (stands.fits pattern name).patterned h
     own-step (command.Open node other named required steps) old answer new stands h on =
         own-opens steps (factory_of node other named) named required old answer new
-        (pattern-is (pattern_of named) pattern (both-true (same_pattern (pattern_of named) pattern) (same_name other name) on).0)
-        (name-is other name (both-true (same_pattern (pattern_of named) pattern) (same_name other name) on).1)
+        (pattern-is (pattern_of named) pattern (both-true (same_pattern (pattern_of named) pattern) (bytes_eq other name) on).0)
+        (name-is other name (both-true (same_pattern (pattern_of named) pattern) (bytes_eq other name) on).1)
         (stands.fits pattern name).patterned h
     own-step (command.OpenOrCreate node other named required steps) old answer new stands h on =
         own-either steps (factory_of node other named) named required old answer new
-        (pattern-is (pattern_of named) pattern (both-true (same_pattern (pattern_of named) pattern) (same_name other name) on).0)
-        (name-is other name (both-true (same_pattern (pattern_of named) pattern) (same_name other name) on).1)
+        (pattern-is (pattern_of named) pattern (both-true (same_pattern (pattern_of named) pattern) (bytes_eq other name) on).0)
+        (name-is other name (both-true (same_pattern (pattern_of named) pattern) (bytes_eq other name) on).1)
         (stands.fits pattern name).patterned h
     own-step (command.Foreign one other steps) old answer new stands h on =
         own-acts one other steps old answer new
-        (pattern-is one pattern (both-true (same_pattern one pattern) (same_name other name) on).0)
-        (name-is other name (both-true (same_pattern one pattern) (same_name other name) on).1) h
+        (pattern-is one pattern (both-true (same_pattern one pattern) (bytes_eq other name) on).0)
+        (name-is other name (both-true (same_pattern one pattern) (bytes_eq other name) on).1) h
     own-step (command.Close factory) old answer new stands h on = own-closes factory old answer new on h
     own-step (command.Publisher factory options) old answer new stands h on =
         own-factory types choices buffer factory
@@ -785,7 +785,7 @@ module _ {T : Type 0} (pattern : MessagingPattern) (name : List ℕ) where
   pub own-new : own_of new_state ≡ new_state
   own-new = λ i. record {
     made = record { nodes = 0; factories = 0; publishers = 0; subscribers = 0; loans = 0; samples = 0 };
-    phases = λ one other. here (same_pattern one pattern && same_name other name) i;
+    phases = λ one other. here (same_pattern one pattern && bytes_eq other name) i;
     factories = [];
     services = [];
   }

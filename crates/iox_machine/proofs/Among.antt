@@ -6,19 +6,19 @@ use Rattle.std.specs.List.{list_any}
 use Rattle.std.specs.Option.{option_map_or}
 use Rattle.std.specs.Prelude.{◌==◌, nat_lt, is_some, find, MatchOption}
 use Rattle.std.specs.Vec.{vec_items}
-use Rattle.iox_machine.proofs.Shorthands.{left}
 use Rattle.iox_machine.specs.Choices.{Choices}
 use Rattle.iox_machine.specs.AmongLaws.{with_services, StepsAmong, UnknownIsSkipped}
 use Rattle.iox_machine.specs.Arriving.{PublisherArrives, SubscriberArrives, new_publisher, new_subscriber}
-use Rattle.iox_machine.specs.Message.{Loan, Sample, is_written}
+use Rattle.iox_machine.specs.Message.{Loan, Sample}
+use Rattle.iox_machine.specs.RunLaws.{is_written}
 use Rattle.iox_machine.specs.Named.{is_on_ports, has_named}
 use Rattle.iox_machine.specs.Ports.{AtFree, AtBlocked, publisher_in, subscriber_in, LendsLoan, Puts, SendsLoan, Writes, Releases}
 use Rattle.iox_machine.specs.PublisherUpdate as publishing
 use Rattle.iox_machine.specs.Receiving.{Receives, has_samples}
-use Rattle.iox_machine.specs.Replies.{IsSkipped}
 use Rattle.iox_machine.specs.Run.{Step, AtFactory}
 use Rattle.iox_machine.specs.Sending.{GoesOn}
-use Rattle.iox_machine.specs.Service.{Service, Publisher, Subscriber, Send, with_publisher, with_subscriber}
+use Rattle.iox_machine.specs.Service.{Service, Publisher, Subscriber, Send}
+use Rattle.iox_machine.proofs.Shorthands.{with_publisher, with_subscriber, left, IsSkipped}
 use Rattle.iox_machine.specs.State.{State, Factory, Made, AtOne, counted, replaced, is_service_of}
 use Rattle.iox_machine.specs.SubscriberUpdate as subscribing
 use Rattle.iox_machine.specs.Table.{at, removed}

@@ -3,7 +3,6 @@ use Rattle.std.proofs.Common.{◌≡◌, ◌≤◌, ◌<◌, ◌+◌, ℕ, Bool,
 use Rattle.std.proofs.Common.{arith, ◌∙◌, true≢false}
 use Rattle.std.proofs.lemmas.Bool.{eqb-true, eq-eqb, false_from_ne_true}
 use Rattle.std.specs.List.{AllByRecursion, list_any}
-use Rattle.std.specs.Prelude.{◌==◌}
 use Rattle.iox_machine.proofs.Shorthands.{factory_of}
 use Rattle.iox_machine.specs.Choices.{Choices}
 use Rattle.iox_machine.specs.AgreementLaws.{AreAbove, IsLaterThan, LivesStartAnew}
@@ -11,7 +10,8 @@ use Rattle.iox_machine.specs.NumberLaws.{publisher_told, subscriber_told, loan_t
 use Rattle.iox_machine.specs.Phase.{same_pattern}
 use Rattle.iox_machine.specs.Run.{Step, Runs}
 use Rattle.iox_machine.specs.Service.{Service}
-use Rattle.iox_machine.specs.State.{State, Made, Factory, new_state, counted, is_service_of, same_name}
+use Rattle.iox_machine.specs.State.{State, Made, Factory, new_state, counted, is_service_of}
+use Rattle.std.specs.Prelude.{bytes_eq, ◌==◌}
 use Rattle.iox_machine.proofs.Agreed.{new-stands, runs-stand}
 use Rattle.iox_machine.proofs.Beginning.{or-first, or-second}
 use Rattle.iox_machine.proofs.Cases.{both-true, same-some, never-some}
@@ -98,12 +98,12 @@ sample-next made other number is next = never-some number is
 module _ {T : Type 0} (name : List ℕ) (bound : Made) where
   -- A service of this name goes by later numbers.
   abbrev Later : Service T → Type 0
-  Later service = same_name service.name name ≡ true → IsLaterThan bound service
+  Later service = bytes_eq service.name name ≡ true → IsLaterThan bound service
 
   kept-later : (made : Made) (service : Service T) (answer : Reply T) (after : Service T) → Kept made service answer after
       → Before bound made → Later service → Later after
   kept-later made service answer after kept before later is =
-      let was : IsLaterThan bound service = later (subst (λ (n : List ℕ). same_name n name ≡ true) kept.name is) in (
+      let was : IsLaterThan bound service = later (subst (λ (n : List ℕ). bytes_eq n name ≡ true) kept.name is) in (
         above-all bound.publishers after.publishers (λ number found. elim
             (added number service.publishers (publisher_told answer) after.publishers kept.publishers found) [
               | inl there ↦ above-has bound.publishers service.publishers was.0 number there
@@ -186,29 +186,29 @@ module _ {T : Type 0} (name : List ℕ) (bound : Made) where
 
 -- whether a factory is of the publish-subscribe service of a name
 abbrev names : List ℕ → Factory → Bool
-names name factory = same_pattern factory.pattern messaging.PublishSubscribe && same_name name factory.name
+names name factory = same_pattern factory.pattern messaging.PublishSubscribe && bytes_eq name factory.name
 
 no-service : {T : Type 0} (state : State T) (name : List ℕ) → Stands state
     → list_any (λ (entry : ℕ × Factory). names name entry.1) state.factories ≡ false
-    → AllByRecursion (λ (service : Service T). same_name service.name name ≡ false) state.services
+    → AllByRecursion (λ (service : Service T). bytes_eq service.name name ≡ false) state.services
 no-service {T} state name stands none =
     all-weaker (λ (service : Service T). list_any (λ (entry : ℕ × Factory). is_service_of entry.1 service) state.factories ≡ true)
-    (λ (service : Service T). same_name service.name name ≡ false)
-    (λ service manned. false_from_ne_true (same_name service.name name) (λ is. true≢false (sym (any-weaker
+    (λ (service : Service T). bytes_eq service.name name ≡ false)
+    (λ service manned. false_from_ne_true (bytes_eq service.name name) (λ is. true≢false (sym (any-weaker
     (λ (entry : ℕ × Factory). is_service_of entry.1 service) (λ (entry : ℕ × Factory). names name entry.1)
-    (λ entry of. and-true (same_pattern entry.1.pattern messaging.PublishSubscribe) (same_name name entry.1.name)
-    (both-true (same_pattern entry.1.pattern messaging.PublishSubscribe) (same_name service.name entry.1.name) of).0
-    (subst (λ (n : List ℕ). same_name n entry.1.name ≡ true) (name-is service.name name is)
-    (both-true (same_pattern entry.1.pattern messaging.PublishSubscribe) (same_name service.name entry.1.name) of).1))
+    (λ entry of. and-true (same_pattern entry.1.pattern messaging.PublishSubscribe) (bytes_eq name entry.1.name)
+    (both-true (same_pattern entry.1.pattern messaging.PublishSubscribe) (bytes_eq service.name entry.1.name) of).0
+    (subst (λ (n : List ℕ). bytes_eq n entry.1.name ≡ true) (name-is service.name name is)
+    (both-true (same_pattern entry.1.pattern messaging.PublishSubscribe) (bytes_eq service.name entry.1.name) of).1))
     state.factories manned) ∙ none))) state.services stands.manned
 
 pub lives-start-anew : {T : Type 0} (choices : Choices T) → LivesStartAnew choices
 lives-start-anew {T} choices types buffer before told old run name none =
-    let gone : AllByRecursion (λ (service : Service T). same_name service.name name ≡ false) old.services =
+    let gone : AllByRecursion (λ (service : Service T). bytes_eq service.name name ≡ false) old.services =
     no-service old name (runs-stand types choices buffer before new_state told old run new-stands) none in (
-      none-passes (λ (service : Service T). same_name service.name name) old.services gone,
+      none-passes (λ (service : Service T). bytes_eq service.name name) old.services gone,
       (λ asked answers new ran. runs-later name old.made types choices buffer asked old answers new
           (omega arith, omega arith, omega arith, omega arith) ran
-          (all-weaker (λ (service : Service T). same_name service.name name ≡ false) (Later name old.made)
+          (all-weaker (λ (service : Service T). bytes_eq service.name name ≡ false) (Later name old.made)
           (λ service off is. absurd (true≢false (sym is ∙ off))) old.services gone)),
     )

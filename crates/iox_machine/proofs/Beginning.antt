@@ -6,7 +6,8 @@ use Rattle.iox_machine.specs.Choices.{Choices}
 use Rattle.iox_machine.specs.AgreementLaws.{ServicesStartEmpty}
 use Rattle.iox_machine.specs.Run.{Step}
 use Rattle.iox_machine.specs.Service.{Service, new_service}
-use Rattle.iox_machine.specs.State.{State, Factory, same_name}
+use Rattle.iox_machine.specs.State.{State, Factory}
+use Rattle.std.specs.Prelude.{bytes_eq}
 use Rattle.iox_machine.proofs.Lists.{all-weaker}
 use Rattle.iox_machine.proofs.Moving.{IsNegotiated, creates, opens, opens-or-creates, negotiated-keeps, closed, closed-keeps}
 use Rattle.iox_machine.proofs.Moving.{replaced-keeps}
@@ -28,15 +29,15 @@ or-second false c e = e
 module _ {T : Type 0} where
   -- a service of this name is one of these
   abbrev pub Named : List (Service T) → Service T → Type 0
-  Named services service = list_any (λ (other : Service T). same_name other.name service.name) services ≡ true
+  Named services service = list_any (λ (other : Service T). bytes_eq other.name service.name) services ≡ true
 
   pub each-named : (services : List (Service T)) → AllByRecursion (Named services) services
   each-named [] = tt
   each-named (one ∷ more) = (
-    or-first (same_name one.name one.name) (list_any (λ (other : Service T). same_name other.name one.name) more) (name-itself one.name),
+    or-first (bytes_eq one.name one.name) (list_any (λ (other : Service T). bytes_eq other.name one.name) more) (name-itself one.name),
     all-weaker (Named more) (Named (one ∷ more))
-        (λ service named. or-second (same_name one.name service.name)
-        (list_any (λ (other : Service T). same_name other.name service.name) more) named) more (each-named more),
+        (λ service named. or-second (bytes_eq one.name service.name)
+        (list_any (λ (other : Service T). bytes_eq other.name service.name) more) named) more (each-named more),
   )
 
   -- A service is of a name that was there, or it has nothing.
@@ -52,7 +53,7 @@ module _ {T : Type 0} where
     beside asked old answer new (inr (has, service, after, first, kept, off, came)) =
         subst (λ (state : State T). AllByRecursion (Starts old.services) state.services) (sym came)
         (replaced-keeps (Named old.services) (Starts old.services) has service after old.services (λ it named. inl named)
-        (λ named. inl (subst (λ (name : List ℕ). list_any (λ (other : Service T). same_name other.name name) old.services ≡ true)
+        (λ named. inl (subst (λ (name : List ℕ). list_any (λ (other : Service T). bytes_eq other.name name) old.services ≡ true)
         (sym kept.name) named)) first (each-named old.services))
 
     negotiating : (factory : Factory) (old : State T) (answer : Reply T) (new : State T) → IsNegotiated factory old answer new

@@ -9,8 +9,8 @@ use Rattle.iox_machine.specs.Factories.{Negotiates, Enters, CreatesService, Open
 use Rattle.iox_machine.specs.Factories.{create_refusal, either_lacking}
 use Rattle.iox_machine.specs.Negotiation.{Call, Answer, Fails, Rounds, Access, Locks, CreateLooks, Creates, OpensFound, OpenLooks, Opens}
 use Rattle.iox_machine.specs.Negotiation.{EitherLooks, OpensOrCreates, registered, opened, created}
-use Rattle.iox_machine.specs.Phase.{Node, Own, Phase, Absent, BeingMade, Published, Emptied, is_in, entered, acted, closed_by}
-use Rattle.iox_machine.specs.Replies.{IsSkipped, IsRefused}
+use Rattle.iox_machine.specs.Phase.{Node, Own, Phase, Absent, BeingMade, Published, Emptied, is_in, entered, acted}
+use Rattle.iox_machine.proofs.Shorthands.{IsSkipped, IsRefused, closed_by}
 use Rattle.iox_machine.specs.State.{State, Factory, counted, with_phase}
 use Rattle.iox_machine.proofs.Cases.{by-bool, by-option, by-result}
 use Rattle.iox_machine.proofs.Lists.{all-filtered, all-taken}

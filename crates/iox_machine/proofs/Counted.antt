@@ -3,17 +3,17 @@ use Rattle.std.proofs.Common.{◌≡◌, ◌≤◌, ◌+◌, ℕ, Bool, true, fa
 use Rattle.std.proofs.Common.{ap, subst, inl, inr, arith, ◌∙◌, true≢false}
 use Rattle.std.proofs.lemmas.Bool.{eqb-true, eq-eqb, false_from_ne_true}
 use Rattle.std.specs.List.{AllByRecursion, IsDistinct, cons_option, list_any}
-use Rattle.std.specs.Prelude.{◌==◌, not, filter, filter_map, find, flat_map, fold, take}
-use Rattle.iox_machine.proofs.Shorthands.{factory_of}
+use Rattle.std.specs.Prelude.{◌==◌, not, filter, filter_map, find, flat_map, fold, take, bytes_eq}
 use Rattle.iox_machine.specs.Choices.{Choices}
 use Rattle.iox_machine.specs.Factories.{with_open}
 use Rattle.iox_machine.specs.Message.{Loan, Sample}
 use Rattle.iox_machine.specs.NumberLaws.{GoOn, AreToldOnce, NumbersGoUp, NumbersNameOne, numbers_in, node_told, factory_told}
 use Rattle.iox_machine.specs.NumberLaws.{publisher_told, subscriber_told, loan_told, sample_told}
-use Rattle.iox_machine.specs.Phase.{Phase, Absent, BeingMade, Published, Emptied, acted, closed_by, same_pattern}
+use Rattle.iox_machine.specs.Phase.{Phase, Absent, BeingMade, Published, Emptied, acted, same_pattern}
+use Rattle.iox_machine.proofs.Shorthands.{closed_by, factory_of}
 use Rattle.iox_machine.specs.Run.{Step, Runs}
 use Rattle.iox_machine.specs.Service.{Service, Publisher, Subscriber, new_service}
-use Rattle.iox_machine.specs.State.{State, Made, Factory, new_state, counted, is_service_of, replaced, same_name, with_phase}
+use Rattle.iox_machine.specs.State.{State, Made, Factory, new_state, counted, is_service_of, replaced, with_phase}
 use Rattle.iox_machine.specs.Table.{contains, removed}
 use Rattle.iox_machine.proofs.Cases.{same-some, never-some}
 use Rattle.iox_machine.proofs.Counts.{Adds, adds-itself, adds-filtered, adds-joined, times, of_told, one_if, behind, never-one}
@@ -128,12 +128,12 @@ module _ {T V : Type 0} (table : Service T → List (ℕ × V)) where
       made c false = standing-more number (new_service name c) services (none c)
 
       here : (s : Settings) → times number (standing (elim s [
-        | settings.PublishSubscribe c ↦ cond (list_any (λ (service : Service T). same_name service.name name) services) services
+        | settings.PublishSubscribe c ↦ cond (list_any (λ (service : Service T). bytes_eq service.name name) services) services
             (services ++ new_service name c ∷ [])
         | settings.Event c ↦ services
         | settings.RequestResponse c ↦ services
       ])) ≤ times number (standing services)
-      here (settings.PublishSubscribe c) = made c (list_any (λ (service : Service T). same_name service.name name) services)
+      here (settings.PublishSubscribe c) = made c (list_any (λ (service : Service T). bytes_eq service.name name) services)
       here (settings.Event c) = omega arith
       here (settings.RequestResponse c) = omega arith
 
@@ -247,13 +247,13 @@ module _ {T : Type 0} where
       (closed_by factory.node (old.phases factory.pattern factory.name)) old) {
         factories = removed number old.factories;
         services = cond (list_any (λ (entry : ℕ × Factory). same_pattern entry.1.pattern factory.pattern
-            && same_name entry.1.name factory.name)
+            && bytes_eq entry.1.name factory.name)
             (removed number old.factories))
             old.services (filter (λ (service : Service T). not (is_service_of factory service)) old.services);
       }) new answer told came tt refl
       (adds-filtered old.factories old.factories None (adds-itself old.factories) (λ (entry : ℕ × Factory). not (entry.0 == number)))
       (λ V table none one. fewer table one
-      (list_any (λ (entry : ℕ × Factory). same_pattern entry.1.pattern factory.pattern && same_name entry.1.name factory.name)
+      (list_any (λ (entry : ℕ × Factory). same_pattern entry.1.pattern factory.pattern && bytes_eq entry.1.name factory.name)
       (removed number old.factories)))
     where
       fewer : {V : Type 0} (table : Service T → List (ℕ × V)) (one : ℕ) (b : Bool)

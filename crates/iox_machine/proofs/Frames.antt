@@ -6,19 +6,18 @@ use Rattle.std.specs.List.{list_all}
 use Rattle.std.specs.Prelude.{◌^◌, ◌||◌, ◌==◌, nat_le, nat_lt, is_some, unwrap_or, option_map, option_and_then, fold, filter, slice_get}
 use Rattle.std.specs.Prelude.{MatchBool, drop, zip}
 use Rattle.std.specs.Option.{option_map_or}
-use Rattle.iox_machine.specs.RunLaws.{sent_as}
-use Rattle.iox_machine.proofs.Shorthands.{given_back, registered}
+use Rattle.iox_machine.proofs.Shorthands.{given_back, registered, with_subscriber, with_publisher, IsRefused, IsSkipped}
 use Rattle.iox_machine.specs.Choices.{Choices}
 use Rattle.iox_machine.proofs.Delivering.{Outcomes, by-outcome, first_of, offered, deliver, goes-on-so, keeping, at_once, by-send, sending}
 use Rattle.iox_machine.specs.Arriving.{worst_case, PublisherArrives, SubscriberArrives}
 use Rattle.iox_machine.specs.Mailbox.{Mailbox, put, newest}
-use Rattle.iox_machine.specs.Message.{Message, Loan, is_written}
+use Rattle.iox_machine.specs.Message.{Message, Loan}
+use Rattle.iox_machine.specs.RunLaws.{is_written, sent_as}
 use Rattle.iox_machine.specs.PortList.{those}
 use Rattle.iox_machine.specs.Ports.{publisher_in, subscriber_in, LendsLoan, Puts, SendsLoan, Writes}
 use Rattle.iox_machine.specs.PublisherUpdate as publishing
-use Rattle.iox_machine.specs.Replies.{IsSkipped, IsRefused}
 use Rattle.iox_machine.specs.Sending.{GoesOn, Begins, Sends}
-use Rattle.iox_machine.specs.Service.{Service, Publisher, Subscriber, Send, with_publisher, with_subscriber, mailbox, with_mailbox, connect}
+use Rattle.iox_machine.specs.Service.{Service, Publisher, Subscriber, Send, mailbox, with_mailbox, connect}
 use Rattle.iox_machine.specs.SubscriberUpdate as subscribing
 use Rattle.iox_machine.specs.Table.{at, contains, removed}
 use Rattle.iox_machine.proofs.Cases.{by-bool, by-option, same-some, never-some, chosen, both-true}

@@ -28,7 +28,7 @@ module _ {T : Type 0} where
       on low high number up above = omega (arith, up, above)
 
   -- the numbers behind the first one
-  goes-on : (last : ℕ) (x : Message T) (xs : List (Message T)) → GoOnBehind (Some last) (x ∷ xs) → GoOnBehind (Some (last + 1)) xs
+  pub goes-on : (last : ℕ) (x : Message T) (xs : List (Message T)) → GoOnBehind (Some last) (x ∷ xs) → GoOnBehind (Some (last + 1)) xs
   goes-on last x xs on = subst (λ (o : Option ℕ). GoOnBehind o xs) on.0 on.1
 
   pub part-rises : (top last : ℕ) (part whole : List (Message T)) → last + length whole ≤ top → GoOnBehind (Some last) whole
@@ -51,11 +51,11 @@ module _ {T : Type 0} where
   between-at low high number x is =
       ap (λ (o : Option ℕ). option_map_or (λ (n : ℕ). nat_lt low n && nat_lt n high) o false) is
 
-  under-low : (low high number : ℕ) (x : Message T) → x.sequence ≡ Some number → number ≤ low → is_between low high x ≡ false
+  pub under-low : (low high number : ℕ) (x : Message T) → x.sequence ≡ Some number → number ≤ low → is_between low high x ≡ false
   under-low low high number x is h =
       between-at low high number x is ∙ and_left (nat_lt low number) (nat_lt number high) (le-ltb low number h)
 
-  over-high : (low high number : ℕ) (x : Message T) → x.sequence ≡ Some number → high ≤ number → is_between low high x ≡ false
+  pub over-high : (low high number : ℕ) (x : Message T) → x.sequence ≡ Some number → high ≤ number → is_between low high x ≡ false
   over-high low high number x is h =
       between-at low high number x is ∙ and_right (nat_lt low number) (nat_lt number high) (le-ltb number high h)
 
@@ -200,19 +200,19 @@ module _ {T : Type 0} where
 
   -- ---- what isn't in a part
 
-  from-map : (P : ℕ → Type 0) (xs : List (Message T)) → AllByRecursion P (map (λ (x : Message T). x.number) xs)
+  pub from-map : (P : ℕ → Type 0) (xs : List (Message T)) → AllByRecursion P (map (λ (x : Message T). x.number) xs)
       → AllByRecursion (λ (x : Message T). P x.number) xs
   from-map P [] all = tt
   from-map P (x ∷ xs) all = (all.0, from-map P xs all.1)
 
-  not-among : (x : Message T) (xs : List (Message T)) → AllByRecursion (λ (y : Message T). (x.number == y.number) ≡ false) xs
+  pub not-among : (x : Message T) (xs : List (Message T)) → AllByRecursion (λ (y : Message T). (x.number == y.number) ≡ false) xs
       → has_message xs x ≡ false
   not-among x [] all = refl
   not-among x (y ∷ ys) all =
       or_from (y.number == x.number) (has_message ys x)
       (ne_eqb y.number x.number (λ same. eqb-false x.number y.number all.0 (sym same))) (not-among x ys all.1)
 
-  part-not-among : (x : Message T) (part whole : List (Message T)) → IsPartOf part whole → has_message whole x ≡ false
+  pub part-not-among : (x : Message T) (part whole : List (Message T)) → IsPartOf part whole → has_message whole x ≡ false
       → has_message part x ≡ false
   part-not-among x part [] h off = subst (λ (l : List (Message T)). has_message l x ≡ false) (sym h) refl
   part-not-among x part (y ∷ whole) (inl h) off =

@@ -5,9 +5,8 @@ use Rattle.std.proofs.lemmas.Bool.{eqb-true, eq-eqb}
 use Rattle.std.specs.Global.{Vec}
 use Rattle.std.specs.List.{AllByRecursion, list_any, list_all}
 use Rattle.std.specs.Prelude.{◌==◌, nat_lt, nat_le, is_some, filter, find, fold, slice_get, unwrap_or, zip, MatchBool, MatchOption}
-use Rattle.std.specs.Prelude.{MatchResult}
 use Rattle.std.specs.Vec.{vec_items}
-use Rattle.iox_machine.proofs.Shorthands.{RefusesNode, factory_of, given_back, left, now_at, parting, registered, taken}
+use Rattle.iox_machine.proofs.Shorthands.{RefusesNode, factory_of, given_back, left, now_at, parting, registered, taken, with_subscriber}
 use Rattle.iox_machine.specs.Choices.{Choices}
 use Rattle.iox_machine.proofs.AlwaysChosen.{answers-go, delivers-goes}
 use Rattle.iox_machine.proofs.Delivering.{Outcomes, keeping, sending}
@@ -21,19 +20,20 @@ use Rattle.iox_machine.specs.Factories.{either_lacking}
 use Rattle.iox_machine.specs.GoingLaws.{EachIsAnswered, AlwaysChoose}
 use Rattle.iox_machine.specs.Lending.{Lends, LendsLonger, loan_refusal}
 use Rattle.iox_machine.specs.Mailbox.{Mailbox, has_data}
-use Rattle.iox_machine.specs.Message.{Message, Loan, Sample, is_written}
+use Rattle.iox_machine.specs.Message.{Message, Loan, Sample}
 use Rattle.iox_machine.specs.Negotiation.{Call, Answer, Creates, Opens, OpensOrCreates}
-use Rattle.iox_machine.specs.Phase.{Own, acted, closed_by, same_pattern}
+use Rattle.iox_machine.specs.Phase.{Own, acted, same_pattern}
 use Rattle.iox_machine.specs.PortList.{those, unless}
 use Rattle.iox_machine.specs.Ports.{AtFree, AtBlocked, publisher_in, subscriber_in, LendsLoan, Puts, SendsLoan, Writes, Releases}
 use Rattle.iox_machine.specs.PublisherUpdate as publishing
 use Rattle.iox_machine.specs.Receiving.{Receives, Takes, IsGiver, gives, has_samples, lasting}
-use Rattle.iox_machine.specs.Replies.{IsSkipped, IsRefused}
 use Rattle.iox_machine.specs.Run.{Step, AtFactory}
-use Rattle.iox_machine.specs.RunLaws.{AllMessages, sent_as}
+use Rattle.iox_machine.specs.RunLaws.{AllMessages, sent_as, is_written}
 use Rattle.iox_machine.specs.Sending.{GoesOn, Begins, Sends}
-use Rattle.iox_machine.specs.Service.{Service, Publisher, Subscriber, Send, with_publisher, with_subscriber, mailbox, with_mailbox, connect}
-use Rattle.iox_machine.specs.State.{State, Factory, AtOne, is_service_of, counted, replaced, same_name, with_phase}
+use Rattle.iox_machine.specs.Service.{Service, Publisher, Subscriber, Send, mailbox, with_mailbox, connect}
+use Rattle.iox_machine.proofs.Shorthands.{with_publisher, IsSkipped, IsRefused, closed_by}
+use Rattle.iox_machine.specs.State.{State, Factory, AtOne, is_service_of, counted, replaced, with_phase}
+use Rattle.std.specs.Prelude.{bytes_eq, MatchResult}
 use Rattle.iox_machine.specs.SubscriberUpdate as subscribing
 use Rattle.iox_machine.specs.SubscriberUpdate.{Parted, part, gone_from}
 use Rattle.iox_machine.specs.Table.{at, changed, contains, removed}
@@ -531,7 +531,7 @@ module _ {T : Type 0} (choices : Choices T) (always : AlwaysChoose choices) wher
           old) {
             factories = removed number old.factories;
             services = cond (list_any (λ (entry : ℕ × Factory). same_pattern entry.1.pattern factory.pattern
-                && same_name entry.1.name factory.name)
+                && bytes_eq entry.1.name factory.name)
                 (removed number old.factories))
                 old.services (filter (λ (service : Service T). not (is_service_of factory service)) old.services);
           }

@@ -4,13 +4,12 @@ use Rattle.std.proofs.Common.{subst, inl, inr, ◌∙◌}
 use Rattle.std.proofs.lemmas.Bool.{eqb-true, eqb-false, or_left, or_right, or_cases, cases_Bool, true≢false}
 use Rattle.std.specs.List.{list_any}
 use Rattle.std.specs.Prelude.{◌==◌, is_some, option_map, find}
-use Rattle.iox_machine.proofs.Shorthands.{left, registered}
+use Rattle.iox_machine.proofs.Shorthands.{left, registered, with_subscriber, IsSkipped}
 use Rattle.iox_machine.specs.Arriving.{SubscriberArrives}
 use Rattle.iox_machine.specs.Message.{Sample}
 use Rattle.iox_machine.specs.Ports.{Releases}
 use Rattle.iox_machine.specs.Receiving.{Takes}
-use Rattle.iox_machine.specs.Replies.{IsSkipped}
-use Rattle.iox_machine.specs.Service.{Service, Subscriber, with_subscriber}
+use Rattle.iox_machine.specs.Service.{Service, Subscriber}
 use Rattle.iox_machine.specs.State.{Factory, replaced}
 use Rattle.iox_machine.specs.SubscriberUpdate as subscribing
 use Rattle.iox_machine.specs.Table.{at}

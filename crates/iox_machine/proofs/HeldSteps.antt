@@ -5,24 +5,24 @@ use Rattle.std.proofs.lemmas.Bool.{eqb-true, eqb-false, and_from, or_left, or_ri
 use Rattle.std.specs.Global.{Vec}
 use Rattle.std.specs.List.{AllByRecursion, list_any}
 use Rattle.std.specs.Option.{option_map_or}
-use Rattle.std.specs.Prelude.{◌==◌, nat_lt, is_some, find, filter, fold, MatchOption}
+use Rattle.std.specs.Prelude.{◌==◌, nat_lt, is_some, find, filter, fold, MatchOption, bytes_eq}
 use Rattle.std.specs.Vec.{vec_items}
-use Rattle.iox_machine.proofs.Shorthands.{factory_of, left}
+use Rattle.iox_machine.proofs.Shorthands.{factory_of, left, with_subscriber, with_publisher, IsRefused, IsSkipped}
 use Rattle.iox_machine.specs.Choices.{Choices}
 use Rattle.iox_machine.specs.Arriving.{PublisherArrives, SubscriberArrives, new_publisher, new_subscriber}
 use Rattle.iox_machine.specs.Closing.{is_used_by}
 use Rattle.iox_machine.specs.Factories.{with_open}
-use Rattle.iox_machine.specs.Message.{Loan, Sample, is_written}
+use Rattle.iox_machine.specs.Message.{Loan, Sample}
+use Rattle.iox_machine.specs.RunLaws.{is_written}
 use Rattle.iox_machine.specs.MessageLaws.{is_release_of, HeldIsRead}
 use Rattle.iox_machine.specs.Phase.{Phase, Absent, BeingMade, Published, Emptied, acted, same_pattern}
 use Rattle.iox_machine.specs.Ports.{AtFree, AtBlocked, publisher_in, subscriber_in, LendsLoan, Puts, SendsLoan, Writes, Releases}
 use Rattle.iox_machine.specs.PublisherUpdate as publishing
 use Rattle.iox_machine.specs.Receiving.{Receives, has_samples, lasting}
-use Rattle.iox_machine.specs.Replies.{IsSkipped, IsRefused}
 use Rattle.iox_machine.specs.Run.{Step, Runs, AtFactory}
 use Rattle.iox_machine.specs.Sending.{GoesOn}
-use Rattle.iox_machine.specs.Service.{Service, Publisher, Subscriber, Send, with_publisher, with_subscriber, new_service}
-use Rattle.iox_machine.specs.State.{State, Factory, AtOne, is_service_of, same_name, replaced, counted, with_phase, new_state}
+use Rattle.iox_machine.specs.Service.{Service, Publisher, Subscriber, Send, new_service}
+use Rattle.iox_machine.specs.State.{State, Factory, AtOne, is_service_of, replaced, counted, with_phase, new_state}
 use Rattle.iox_machine.specs.SubscriberUpdate as subscribing
 use Rattle.iox_machine.specs.Table.{at, removed}
 use Rattle.iox_machine.specs.UseLaws.{IsOpen}
@@ -64,7 +64,7 @@ same-patterns pattern.PublishSubscribe pattern.RequestResponse h k = never (sym 
 same-patterns pattern.Event other h k = never (sym h)
 same-patterns pattern.RequestResponse other h k = never (sym h)
 
-same-names : (name one other : List ℕ) → same_name name one ≡ true → same_name name other ≡ true → same_name one other ≡ true
+same-names : (name one other : List ℕ) → bytes_eq name one ≡ true → bytes_eq name other ≡ true → bytes_eq one other ≡ true
 same-names name one other h k = (bytes_decides one other).1 (sym ((bytes_decides name one).0 h) ∙ (bytes_decides name other).0 k)
 
 module _ {T : Type 0} (sample : ℕ) where
@@ -232,12 +232,12 @@ module _ {T : Type 0} (sample : ℕ) where
       one-more false c = any-more test services (new_service name c ∷ []) any
 
       opened : (s : Settings) → list_any test (elim s [
-        | settings.PublishSubscribe c ↦ cond (list_any (λ (service : Service T). same_name service.name name) services) services
+        | settings.PublishSubscribe c ↦ cond (list_any (λ (service : Service T). bytes_eq service.name name) services) services
             (services ++ new_service name c ∷ [])
         | settings.Event c ↦ services
         | settings.RequestResponse c ↦ services
       ]) ≡ true
-      opened (settings.PublishSubscribe c) = one-more (list_any (λ (service : Service T). same_name service.name name) services) c
+      opened (settings.PublishSubscribe c) = one-more (list_any (λ (service : Service T). bytes_eq service.name name) services) c
       opened (settings.Event c) = any
       opened (settings.RequestResponse c) = any
   any-open test name (Emptied life agreed by) services any = any
@@ -313,26 +313,26 @@ module _ {T : Type 0} (sample : ℕ) where
     -- a service whose samples are out has another factory, where the one that is closed is of it
     has-other : (service : Service T) → (is_service_of factory service && is_used_by number service) ≡ false → IsOwned factories service
         → is_some (at sample service.samples) ≡ true → is_service_of factory service ≡ true
-        → list_any (λ (entry : ℕ × Factory). same_pattern entry.1.pattern factory.pattern && same_name entry.1.name factory.name)
+        → list_any (λ (entry : ℕ × Factory). same_pattern entry.1.pattern factory.pattern && bytes_eq entry.1.name factory.name)
         (removed number factories) ≡ true
     has-other service unused own has of_it = with_sample (at sample service.samples) refl has
       where
         with_sample : (o : Option (Sample T)) → at sample service.samples ≡ o → is_some o ≡ true
-            → list_any (λ (entry : ℕ × Factory). same_pattern entry.1.pattern factory.pattern && same_name entry.1.name factory.name)
+            → list_any (λ (entry : ℕ × Factory). same_pattern entry.1.pattern factory.pattern && bytes_eq entry.1.name factory.name)
             (removed number factories) ≡ true
         with_sample None e is = never (sym is)
         with_sample (Some held) e is =
             let it : (holder : ℕ × Bool) × (holder_at held.subscriber service ≡ Some holder) × IsOpen factories service.name holder.0 =
             own.1 sample held e in
             let other : Factory = it.2.0 in
-            let its : (same_pattern other.pattern pattern.PublishSubscribe ≡ true) × (same_name service.name other.name ≡ true) =
-            both-true (same_pattern other.pattern pattern.PublishSubscribe) (same_name service.name other.name) it.2.2 in
-            let closing : (same_pattern factory.pattern pattern.PublishSubscribe ≡ true) × (same_name service.name factory.name ≡ true) =
-            both-true (same_pattern factory.pattern pattern.PublishSubscribe) (same_name service.name factory.name) of_it in
-            any-at (λ (one : Factory). same_pattern one.pattern factory.pattern && same_name one.name factory.name) it.0.0 other
+            let its : (same_pattern other.pattern pattern.PublishSubscribe ≡ true) × (bytes_eq service.name other.name ≡ true) =
+            both-true (same_pattern other.pattern pattern.PublishSubscribe) (bytes_eq service.name other.name) it.2.2 in
+            let closing : (same_pattern factory.pattern pattern.PublishSubscribe ≡ true) × (bytes_eq service.name factory.name ≡ true) =
+            both-true (same_pattern factory.pattern pattern.PublishSubscribe) (bytes_eq service.name factory.name) of_it in
+            any-at (λ (one : Factory). same_pattern one.pattern factory.pattern && bytes_eq one.name factory.name) it.0.0 other
             (removed number factories)
             (used-open service unused it.0.0 it.2 (sample-uses service sample held it.0 e it.1) ∙ it.2.1)
-            (and_from (same_pattern other.pattern factory.pattern) (same_name other.name factory.name)
+            (and_from (same_pattern other.pattern factory.pattern) (bytes_eq other.name factory.name)
             (same-patterns other.pattern factory.pattern its.0 closing.0) (same-names service.name other.name factory.name its.1 closing.1))
 
     all-closing : (services : List (Service T))
@@ -349,7 +349,7 @@ module _ {T : Type 0} (sample : ℕ) where
     there-closing : (services : List (Service T))
         → list_any (λ (service : Service T). is_service_of factory service && is_used_by number service) services ≡ false
         → AllByRecursion (IsOwned factories) services
-        → list_any (λ (entry : ℕ × Factory). same_pattern entry.1.pattern factory.pattern && same_name entry.1.name factory.name)
+        → list_any (λ (entry : ℕ × Factory). same_pattern entry.1.pattern factory.pattern && bytes_eq entry.1.name factory.name)
         (removed number factories) ≡ false
         → list_any (λ (service : Service T). is_some (at sample service.samples)) services ≡ true
         → list_any (λ (service : Service T). is_some (at sample service.samples))
@@ -365,7 +365,7 @@ module _ {T : Type 0} (sample : ℕ) where
 
         step : (list_any (λ (it : Service T). is_service_of factory it && is_used_by number it) more ≡ false
             → AllByRecursion (IsOwned factories) more
-            → list_any (λ (entry : ℕ × Factory). same_pattern entry.1.pattern factory.pattern && same_name entry.1.name factory.name)
+            → list_any (λ (entry : ℕ × Factory). same_pattern entry.1.pattern factory.pattern && bytes_eq entry.1.name factory.name)
             (removed number factories) ≡ false
             → list_any test more ≡ true
             → list_any test (filter (λ (it : Service T). not (is_service_of factory it)) more) ≡ true)
@@ -389,14 +389,14 @@ module _ {T : Type 0} (sample : ℕ) where
       stays-refused releases (refusal.Close StillInUse) old old answer new refl refl refused all
   stays-closed releases number old answer new (inr (inr (factory, found, unused, told, came))) all =
       subst (λ (s : State T). Stays releases old s) (sym came)
-      (step (list_any (λ (entry : ℕ × Factory). same_pattern entry.1.pattern factory.pattern && same_name entry.1.name factory.name)
+      (step (list_any (λ (entry : ℕ × Factory). same_pattern entry.1.pattern factory.pattern && bytes_eq entry.1.name factory.name)
       (removed number old.factories)) refl)
     where
       kept : AllByRecursion (IsOwned (removed number old.factories)) old.services
       kept = all-closing number factory old.factories found old.services unused all
 
       step : (b : Bool)
-          → list_any (λ (entry : ℕ × Factory). same_pattern entry.1.pattern factory.pattern && same_name entry.1.name factory.name)
+          → list_any (λ (entry : ℕ × Factory). same_pattern entry.1.pattern factory.pattern && bytes_eq entry.1.name factory.name)
           (removed number old.factories) ≡ b
           → AllByRecursion (IsOwned (removed number old.factories))
           (cond b old.services (filter (λ (service : Service T). not (is_service_of factory service)) old.services))

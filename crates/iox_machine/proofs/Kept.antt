@@ -5,21 +5,20 @@ use Rattle.std.proofs.lemmas.List.{length-map, length-set}
 use Rattle.std.specs.List.{list_any, list_all}
 use Rattle.std.specs.Option.{option_map_or}
 use Rattle.std.specs.Prelude.{◌==◌, ⊤, nat_lt, nat_le, is_some, filter, slice_get, replicate, MatchBool, drop, zip}
-use Rattle.iox_machine.specs.RunLaws.{sent_as}
-use Rattle.iox_machine.proofs.Shorthands.{given_back, left, registered}
+use Rattle.iox_machine.proofs.Shorthands.{given_back, left, registered, with_subscriber, with_publisher, IsRefused, IsSkipped}
 use Rattle.iox_machine.specs.Choices.{Choices}
 use Rattle.iox_machine.proofs.Delivering.{Outcomes, by-outcome, first_of, offered, deliver, goes-on-so, keeping, at_once, by-send, sending}
 use Rattle.iox_machine.specs.Arriving.{worst_case, PublisherArrives, SubscriberArrives}
 use Rattle.iox_machine.specs.Mailbox.{Mailbox, newest, put}
-use Rattle.iox_machine.specs.Message.{Message, Loan, Sample, is_written}
+use Rattle.iox_machine.specs.Message.{Message, Loan, Sample}
+use Rattle.iox_machine.specs.RunLaws.{is_written, sent_as}
 use Rattle.iox_machine.specs.NumberLaws.{publisher_told, subscriber_told, loan_told, sample_told}
 use Rattle.iox_machine.specs.PortList.{those, unless}
 use Rattle.iox_machine.specs.Ports.{LendsLoan, Puts, SendsLoan, Writes, Releases}
 use Rattle.iox_machine.specs.PublisherUpdate as publishing
 use Rattle.iox_machine.specs.Receiving.{Receives, Takes, lasting, has_samples}
-use Rattle.iox_machine.specs.Replies.{IsSkipped, IsRefused}
 use Rattle.iox_machine.specs.Sending.{GoesOn, Begins, Sends}
-use Rattle.iox_machine.specs.Service.{Service, Publisher, Subscriber, Send, with_publisher, with_subscriber, mailbox, with_mailbox, connect}
+use Rattle.iox_machine.specs.Service.{Service, Publisher, Subscriber, Send, mailbox, with_mailbox, connect}
 use Rattle.iox_machine.specs.State.{Made}
 use Rattle.iox_machine.specs.SubscriberUpdate as subscribing
 use Rattle.iox_machine.specs.Table.{at, changed, removed}

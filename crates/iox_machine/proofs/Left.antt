@@ -4,15 +4,15 @@ use Rattle.std.proofs.Common.{subst, inl, inr, arith, ◌∙◌, true≢false}
 use Rattle.std.proofs.lemmas.Bool.{eqb-true, eq-eqb, false_from_ne_true}
 use Rattle.std.specs.List.{list_any}
 use Rattle.std.specs.Option.{option_map_or}
-use Rattle.std.specs.Prelude.{◌==◌, find, filter, fold, take, option_map}
-use Rattle.iox_machine.proofs.Shorthands.{factory_of}
+use Rattle.std.specs.Prelude.{◌==◌, find, filter, fold, take, option_map, bytes_eq}
 use Rattle.iox_machine.specs.Choices.{Choices}
 use Rattle.iox_machine.specs.Factories.{with_open}
 use Rattle.iox_machine.specs.IndependenceLaws.{is_factory_of, is_of, asks, AsksNothing, IsLeft, OthersAreLeft}
-use Rattle.iox_machine.specs.Phase.{Phase, same_pattern, closed_by, acted}
+use Rattle.iox_machine.specs.Phase.{Phase, same_pattern, acted}
+use Rattle.iox_machine.proofs.Shorthands.{closed_by, factory_of}
 use Rattle.iox_machine.specs.Run.{Step, Runs}
 use Rattle.iox_machine.specs.Service.{Service, new_service}
-use Rattle.iox_machine.specs.State.{State, Factory, new_state, with_phase, replaced, same_name, is_service_of}
+use Rattle.iox_machine.specs.State.{State, Factory, new_state, with_phase, replaced, is_service_of}
 use Rattle.iox_machine.specs.Table.{at, removed}
 use Rattle.iox_machine.proofs.Agreed.{Settled, create-view, open-view, either-view, new-stands, step-stands, runs-stand}
 use Rattle.iox_machine.proofs.Cases.{same-some}
@@ -102,7 +102,7 @@ module _ {T : Type 0} (pattern : MessagingPattern) (name : List ℕ) where
 
   -- another phase under another name
   phase-off : (one : MessagingPattern) (other : List ℕ) (phase : Phase) (state : State T)
-      → (same_pattern one pattern && same_name other name) ≡ false
+      → (same_pattern one pattern && bytes_eq other name) ≡ false
       → (with_phase one other phase state).phases pattern name ≡ state.phases pattern name
   phase-off one other phase state off =
       ap (λ (b : Bool). cond b phase (state.phases pattern name))
@@ -115,7 +115,7 @@ module _ {T : Type 0} (pattern : MessagingPattern) (name : List ℕ) where
       subst (λ (it : State T). IsLeft pattern name old it) (sym came) (
         refl,
         refl,
-        filter-replaced-off (λ (n : List ℕ). same_pattern pattern messaging.PublishSubscribe && same_name n name) has_it service after
+        filter-replaced-off (λ (n : List ℕ). same_pattern pattern messaging.PublishSubscribe && bytes_eq n name) has_it service after
             old.services kept.name first (beside pattern name off),
       )
 
@@ -132,7 +132,7 @@ module _ {T : Type 0} (pattern : MessagingPattern) (name : List ℕ) where
       serves : (c : StaticConfig) → factory.pattern ≡ messaging.PublishSubscribe
           → is_service_of factory (new_service {T = T} factory.name c) ≡ true
       serves c is = and-true (same_pattern factory.pattern messaging.PublishSubscribe)
-          (same_name factory.name factory.name)
+          (bytes_eq factory.name factory.name)
           (subst (λ (it : MessagingPattern). same_pattern it messaging.PublishSubscribe ≡ true) (sym is) refl)
           (name-itself factory.name)
 
@@ -171,7 +171,7 @@ module _ {T : Type 0} (pattern : MessagingPattern) (name : List ℕ) where
         subst (λ (it : State T). IsLeft pattern name old it) (sym came) (
           phase-off factory.pattern factory.name (closed_by factory.node (old.phases factory.pattern factory.name)) old other,
           filter-removed-off (is_factory_of pattern name) number factory old.factories stands.numbers found other,
-          either (list_any (λ (entry : ℕ × Factory). same_pattern entry.1.pattern factory.pattern && same_name entry.1.name factory.name)
+          either (list_any (λ (entry : ℕ × Factory). same_pattern entry.1.pattern factory.pattern && bytes_eq entry.1.name factory.name)
               (removed number old.factories)),
         )
       where

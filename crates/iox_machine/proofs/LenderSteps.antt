@@ -5,23 +5,23 @@ use Rattle.std.proofs.lemmas.Bool.{and_from, or_left, or_right, or_parts}
 use Rattle.std.specs.Global.{Vec}
 use Rattle.std.specs.List.{AllByRecursion, list_any}
 use Rattle.std.specs.Option.{option_map_or}
-use Rattle.std.specs.Prelude.{◌==◌, nat_lt, is_some, find, filter, fold, option_and_then, option_map, MatchOption, zip}
+use Rattle.std.specs.Prelude.{◌==◌, nat_lt, is_some, find, filter, fold, option_and_then, option_map, MatchOption, zip, bytes_eq}
 use Rattle.std.specs.Vec.{vec_items}
-use Rattle.iox_machine.proofs.Shorthands.{factory_of, left, registered}
+use Rattle.iox_machine.proofs.Shorthands.{factory_of, left, registered, with_subscriber, with_publisher, IsRefused, IsSkipped}
 use Rattle.iox_machine.specs.Choices.{Choices}
 use Rattle.iox_machine.proofs.Delivering.{Outcomes, by-outcome}
 use Rattle.iox_machine.specs.Arriving.{PublisherArrives, SubscriberArrives, new_publisher, new_subscriber}
 use Rattle.iox_machine.specs.Closing.{is_used_by}
-use Rattle.iox_machine.specs.Message.{Loan, Sample, is_written}
+use Rattle.iox_machine.specs.Message.{Loan, Sample}
+use Rattle.iox_machine.specs.RunLaws.{is_written}
 use Rattle.iox_machine.specs.Phase.{acted, same_pattern}
 use Rattle.iox_machine.specs.Ports.{AtFree, AtBlocked, publisher_in, subscriber_in, LendsLoan, Puts, SendsLoan, Writes, Releases}
 use Rattle.iox_machine.specs.PublisherUpdate as publishing
 use Rattle.iox_machine.specs.Receiving.{Receives, has_samples}
-use Rattle.iox_machine.specs.Replies.{IsSkipped, IsRefused}
 use Rattle.iox_machine.specs.Run.{Step, Runs, AtFactory}
 use Rattle.iox_machine.specs.Sending.{GoesOn}
-use Rattle.iox_machine.specs.Service.{Service, Publisher, Subscriber, Send, with_publisher, with_subscriber, new_service}
-use Rattle.iox_machine.specs.State.{State, Factory, AtOne, is_service_of, same_name, replaced, counted, with_phase, new_state}
+use Rattle.iox_machine.specs.Service.{Service, Publisher, Subscriber, Send, new_service}
+use Rattle.iox_machine.specs.State.{State, Factory, AtOne, is_service_of, replaced, counted, with_phase, new_state}
 use Rattle.iox_machine.specs.SubscriberUpdate as subscribing
 use Rattle.iox_machine.specs.Table.{at, removed}
 use Rattle.iox_machine.specs.UseLaws.{IsOpen, IsOfOpenFactories, UseIsOwned}
@@ -31,9 +31,8 @@ use Rattle.iox_machine.proofs.Frames.{soft-followed, soft-follows}
 use Rattle.iox_machine.proofs.Held.{IsOwned, any-at, never, holder-at}
 use Rattle.iox_machine.proofs.HeldSteps.{run-owned, used-open}
 use Rattle.iox_machine.proofs.Lenders.{HasLenders, KeepsLenders, lenders-same, lenders-turned, lenders-fewer, lenders-update}
-use Rattle.iox_machine.proofs.Lenders.{lenders-refused}
 use Rattle.iox_machine.proofs.Lenders.{lenders-alike, lenders-go-on, lenders-lend, lenders-put, lenders-send-loan, lenders-write}
-use Rattle.iox_machine.proofs.Lenders.{lenders-arrive}
+use Rattle.iox_machine.proofs.Lenders.{lenders-arrive, lenders-refused}
 use Rattle.iox_machine.proofs.Lists.{all-both, all-weaker, all-filtered}
 use Rattle.iox_machine.proofs.Moving.{IsNegotiated, IsClosed, at-one, creates, opens, opens-or-creates, closed, open-keeps, replaced-keeps}
 use Rattle.iox_machine.proofs.Nexts.{Same, same-subscriber-follows}
@@ -317,7 +316,7 @@ module _ {T : Type 0} where
       all-refused (refusal.Close StillInUse) old old answer new refl refl refused all
   all-closed number old answer new (inr (inr (factory, found, unused, told, came))) all =
       subst AllLenders (sym came)
-      (step (list_any (λ (entry : ℕ × Factory). same_pattern entry.1.pattern factory.pattern && same_name entry.1.name factory.name)
+      (step (list_any (λ (entry : ℕ × Factory). same_pattern entry.1.pattern factory.pattern && bytes_eq entry.1.name factory.name)
       (removed number old.factories)))
     where
       kept : AllByRecursion (HasLenders (removed number old.factories)) old.services

@@ -1,24 +1,22 @@
 -- What a port does leaves the factory of each publisher that stands, or of which a loan is out.
 use Rattle.std.proofs.Common.{◌≡◌, ◌⊎◌, ◌+◌, ℕ, Bool, true, false, cond, not, ◌&&◌, List, [], ◌∷◌, ◌++◌, length, replicate, Option, None}
-use Rattle.std.proofs.Common.{Some}
-use Rattle.std.proofs.Common.{refl, sym, ap, subst, inl, inr, ◌∙◌}
+use Rattle.std.proofs.Common.{refl, sym, ap, subst, inl, inr, ◌∙◌, Some}
 use Rattle.std.proofs.lemmas.Bool.{eqb-true, eqb-false, cases_Bool}
 use Rattle.std.specs.Option.{option_map_or}
 use Rattle.std.specs.Prelude.{◌==◌, nat_lt, is_some, filter, fold, slice_get, MatchBool, drop, zip}
-use Rattle.iox_machine.proofs.Shorthands.{registered}
-use Rattle.iox_machine.specs.RunLaws.{sent_as}
 use Rattle.iox_machine.specs.Choices.{Choices}
 use Rattle.iox_machine.proofs.Delivering.{Outcomes, by-outcome, first_of, offered, deliver, goes-on-so, keeping, at_once, by-send, sending}
 use Rattle.iox_machine.specs.Arriving.{PublisherArrives}
 use Rattle.iox_machine.specs.Lending.{Lends, LendsLonger, loan_refusal}
 use Rattle.iox_machine.specs.Mailbox.{Mailbox, newest, put}
-use Rattle.iox_machine.specs.Message.{Loan, Message, is_written}
+use Rattle.iox_machine.specs.Message.{Loan, Message}
+use Rattle.iox_machine.specs.RunLaws.{is_written, sent_as}
 use Rattle.iox_machine.specs.PortList.{those}
 use Rattle.iox_machine.specs.Ports.{LendsLoan, Puts, SendsLoan, Writes}
 use Rattle.iox_machine.specs.PublisherUpdate as publishing
-use Rattle.iox_machine.specs.Replies.{IsRefused, IsSkipped}
 use Rattle.iox_machine.specs.Sending.{Begins, GoesOn, Sends}
-use Rattle.iox_machine.specs.Service.{Publisher, Send, Service, Subscriber, connect, mailbox, with_mailbox, with_publisher}
+use Rattle.iox_machine.specs.Service.{Publisher, Send, Service, Subscriber, connect, mailbox, with_mailbox}
+use Rattle.iox_machine.proofs.Shorthands.{with_publisher, registered, IsSkipped, IsRefused}
 use Rattle.iox_machine.specs.State.{Factory}
 use Rattle.iox_machine.specs.Table.{at, changed, contains, removed}
 use Rattle.iox_machine.specs.UseLaws.{IsOpen}

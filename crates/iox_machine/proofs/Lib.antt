@@ -58,7 +58,15 @@ mod StillSent
 mod Once
 mod Gaps
 mod Losses
+mod Causes
+mod CauseUpdates
+mod CauseSteps
+mod CauseCommands
+mod CauseCalls
+mod CauseRuns
+mod CauseOnce
 mod Sequences
+mod CauseLaws
 mod Told
 mod Nodes
 mod Places

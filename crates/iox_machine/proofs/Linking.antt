@@ -4,13 +4,12 @@ use Rattle.std.proofs.Common.{Some, refl, sym, ap, subst, inl, inr, ◌∙◌, t
 use Rattle.std.proofs.lemmas.Bool.{cases_Bool, eq-eqb, eqb-false, eqb-true}
 use Rattle.std.specs.Option.{option_map_or}
 use Rattle.std.specs.Prelude.{◌==◌, filter, fold, is_some, option_map, slice_get}
-use Rattle.iox_machine.proofs.Shorthands.{now_at}
 use Rattle.iox_machine.specs.Mailbox.{Mailbox, newest}
 use Rattle.iox_machine.specs.Message.{Message}
 use Rattle.iox_machine.specs.PortList.{those, unless}
 use Rattle.iox_machine.specs.PublisherUpdate as publishing
-use Rattle.iox_machine.specs.Service.{Publisher, Service, Subscriber, connect, mailbox, with_mailbox, with_publisher, with_subscriber}
-use Rattle.iox_machine.proofs.Shorthands.{parting}
+use Rattle.iox_machine.specs.Service.{Publisher, Service, Subscriber, connect, mailbox, with_mailbox}
+use Rattle.iox_machine.proofs.Shorthands.{parting, with_publisher, with_subscriber, now_at}
 use Rattle.iox_machine.specs.SubscriberUpdate as subscribing
 use Rattle.iox_machine.specs.Table.{at, changed, contains}
 use Rattle.iox_machine.proofs.Cases.{both-true, chosen, never-some, same-some}

@@ -27,7 +27,7 @@ use Rattle.iox_command.specs.NegotiateBase.DescribeSettings.declared.static_conf
 use Rattle.iox_command.specs.declared.command.Command.{Command}
 use Rattle.iox_command.specs.declared.reply.Reply.{Reply}
 
-all-front : {X : Type 0} (P : X → Type 0) (xs ys : List X) → AllByRecursion P (xs ++ ys) → AllByRecursion P xs
+pub all-front : {X : Type 0} (P : X → Type 0) (xs ys : List X) → AllByRecursion P (xs ++ ys) → AllByRecursion P xs
 all-front P [] ys all = tt
 all-front P (x ∷ xs) ys all = (all.0, all-front P xs ys all.1)
 
@@ -59,7 +59,7 @@ module _ {T : Type 0} where
   among-noted x xs (Some y) = among-joined x xs (y ∷ [])
 
   -- of messages that are left out since they are among others, each is among these
-  left-out : (x : Message T) (others xs : List (Message T)) → has_message xs x ≡ true → has_message others x ≡ false
+  pub left-out : (x : Message T) (others xs : List (Message T)) → has_message xs x ≡ true → has_message others x ≡ false
       → has_message (filter (λ (y : Message T). not (has_message others y)) xs) x ≡ true
   left-out x others [] is off = absurd (true≢false (sym is))
   left-out x others (y ∷ xs) is off =

@@ -2,17 +2,17 @@
 use Rattle.std.proofs.Common.{◌≡◌, ◌⊎◌, ◌+◌, ℕ, Bool, true, false, cond, ◌&&◌, List, [], ◌∷◌, ◌++◌, Option, Some, Result, Ok, Err, sym}
 use Rattle.std.proofs.Common.{ap, subst, inl, inr, ◌∙◌}
 use Rattle.std.specs.List.{AllByRecursion, list_any}
-use Rattle.std.specs.Prelude.{nat_le, is_some, find, filter, not, MatchBool, MatchOption, MatchResult}
+use Rattle.std.specs.Prelude.{nat_le, is_some, find, filter, not, MatchBool, MatchOption, MatchResult, bytes_eq}
 use Rattle.iox_machine.specs.Agreement.{event_verdict, publish_subscribe_verdict, request_response_verdict}
 use Rattle.iox_machine.specs.Asked.{settings_of}
 use Rattle.iox_machine.specs.Closing.{Closes, is_used_by}
 use Rattle.iox_machine.specs.Factories.{Negotiates, Enters, CreatesService, OpensService, OpensOrCreatesService, with_open}
 use Rattle.iox_machine.specs.Factories.{create_refusal, either_lacking}
 use Rattle.iox_machine.specs.Negotiation.{Call, Answer, Creates, Opens, OpensOrCreates}
-use Rattle.iox_machine.specs.Phase.{Own, Phase, Absent, BeingMade, Published, Emptied, closed_by, same_pattern}
-use Rattle.iox_machine.specs.Replies.{IsSkipped, IsRefused}
+use Rattle.iox_machine.specs.Phase.{Own, Phase, Absent, BeingMade, Published, Emptied, same_pattern}
+use Rattle.iox_machine.proofs.Shorthands.{IsSkipped, IsRefused, closed_by}
 use Rattle.iox_machine.specs.Service.{Service, new_service}
-use Rattle.iox_machine.specs.State.{State, Factory, AtOne, replaced, counted, with_phase, same_name, is_service_of}
+use Rattle.iox_machine.specs.State.{State, Factory, AtOne, replaced, counted, with_phase, is_service_of}
 use Rattle.iox_machine.specs.Table.{at, removed}
 use Rattle.iox_machine.proofs.Cases.{by-bool, by-option, same-some, never-some}
 use Rattle.iox_machine.proofs.Unfit.{by-fitness}
@@ -253,13 +253,13 @@ module _ {T : Type 0} where
   open-keeps P name fresh (Published life agreed nodes) services all = opened agreed.settings
     where
       opened : (s : Settings) → AllByRecursion P (elim s [
-        | settings.PublishSubscribe c ↦ cond (list_any (λ (service : Service T). same_name service.name name) services) services
+        | settings.PublishSubscribe c ↦ cond (list_any (λ (service : Service T). bytes_eq service.name name) services) services
             (services ++ new_service name c ∷ [])
         | settings.Event c ↦ services
         | settings.RequestResponse c ↦ services
       ])
       opened (settings.PublishSubscribe c) =
-          one-more P name c (list_any (λ (service : Service T). same_name service.name name) services) services (fresh c) all
+          one-more P name c (list_any (λ (service : Service T). bytes_eq service.name name) services) services (fresh c) all
       opened (settings.Event c) = all
       opened (settings.RequestResponse c) = all
   open-keeps P name fresh (Emptied life agreed by) services all = all
@@ -294,7 +294,7 @@ module _ {T : Type 0} where
       × (new ≡ record (with_phase factory.pattern factory.name (closed_by factory.node (old.phases factory.pattern factory.name)) old) {
         factories = removed number old.factories;
         services = cond (list_any (λ (entry : ℕ × Factory). same_pattern entry.1.pattern factory.pattern
-            && same_name entry.1.name factory.name)
+            && bytes_eq entry.1.name factory.name)
             (removed number old.factories))
             old.services (filter (λ (service : Service T). not (is_service_of factory service)) old.services);
       })))
@@ -309,7 +309,7 @@ module _ {T : Type 0} where
       × (new ≡ record (with_phase factory.pattern factory.name (closed_by factory.node (old.phases factory.pattern factory.name)) old) {
         factories = removed number old.factories;
         services = cond (list_any (λ (entry : ℕ × Factory). same_pattern entry.1.pattern factory.pattern
-            && same_name entry.1.name factory.name)
+            && bytes_eq entry.1.name factory.name)
             (removed number old.factories))
             old.services (filter (λ (service : Service T). not (is_service_of factory service)) old.services);
       }))) h) [
@@ -324,7 +324,7 @@ module _ {T : Type 0} where
           × (new ≡ record (with_phase factory.pattern factory.name (closed_by factory.node (old.phases factory.pattern factory.name)) old) {
             factories = removed number old.factories;
             services = cond (list_any (λ (entry : ℕ × Factory). same_pattern entry.1.pattern factory.pattern
-                && same_name entry.1.name factory.name)
+                && bytes_eq entry.1.name factory.name)
                 (removed number old.factories))
                 old.services (filter (λ (service : Service T). not (is_service_of factory service)) old.services);
           }))
@@ -336,7 +336,7 @@ module _ {T : Type 0} where
           × (new ≡ record (with_phase factory.pattern factory.name (closed_by factory.node (old.phases factory.pattern factory.name)) old) {
             factories = removed number old.factories;
             services = cond (list_any (λ (entry : ℕ × Factory). same_pattern entry.1.pattern factory.pattern
-                && same_name entry.1.name factory.name)
+                && bytes_eq entry.1.name factory.name)
                 (removed number old.factories))
                 old.services (filter (λ (service : Service T). not (is_service_of factory service)) old.services);
           })) h) [
@@ -351,7 +351,7 @@ module _ {T : Type 0} where
   closed-keeps P number old answer new (inr (inl refused)) all = refused-keeps P (refusal.Close StillInUse) old answer new refused all
   closed-keeps P number old answer new (inr (inr (factory, found, unused, told, came))) all = (
     subst (λ (state : State T). AllByRecursion P state.services) (sym came)
-        (fewer P (list_any (λ (entry : ℕ × Factory). same_pattern entry.1.pattern factory.pattern && same_name entry.1.name factory.name)
+        (fewer P (list_any (λ (entry : ℕ × Factory). same_pattern entry.1.pattern factory.pattern && bytes_eq entry.1.name factory.name)
         (removed number old.factories)) (λ (service : Service T). not (is_service_of factory service)) old.services all),
     ap (λ (state : State T). state.made) came ∙ ap (λ (told_so : Reply T). counted told_so old.made) (sym told),
   )

@@ -11,9 +11,9 @@ use Rattle.iox_machine.specs.Message.{Message}
 use Rattle.iox_machine.specs.PortList.{those}
 use Rattle.iox_machine.specs.PublisherUpdate as publishing
 use Rattle.iox_machine.specs.Receiving.{Receives}
-use Rattle.iox_machine.specs.Replies.{IsRefused}
 use Rattle.iox_machine.specs.Sending.{GoesOn, Begins, Sends}
-use Rattle.iox_machine.specs.Service.{Service, Publisher, Subscriber, Send, with_publisher, with_subscriber, mailbox, with_mailbox, connect}
+use Rattle.iox_machine.specs.Service.{Service, Publisher, Subscriber, Send, mailbox, with_mailbox, connect}
+use Rattle.iox_machine.proofs.Shorthands.{with_publisher, with_subscriber, IsRefused}
 use Rattle.iox_machine.specs.SubscriberUpdate as subscribing
 use Rattle.iox_machine.specs.Table.{at, contains}
 use Rattle.iox_machine.proofs.Cases.{by-bool, never-some}

@@ -8,7 +8,8 @@ use Rattle.iox_machine.specs.Choices.{Choices}
 use Rattle.iox_machine.specs.Agreement.{Agreement, are_within_limits}
 use Rattle.iox_machine.specs.AgreementLaws.{NodesAreAgreed}
 use Rattle.iox_machine.specs.Asked.{settings_of}
-use Rattle.iox_machine.specs.Phase.{Absent, BeingMade, Emptied, Foreign, Node, Own, Phase, Published, acted, closed_by, entered, is_in}
+use Rattle.iox_machine.specs.Phase.{Absent, BeingMade, Emptied, Foreign, Node, Own, Phase, Published, acted, entered, is_in}
+use Rattle.iox_machine.proofs.Shorthands.{closed_by}
 use Rattle.iox_machine.specs.Phase.{left, left_by, removed_by, same_node, same_pattern, published_by, has_numbers}
 use Rattle.iox_machine.specs.Run.{Runs}
 use Rattle.iox_machine.specs.State.{State, new_state}

@@ -3,26 +3,25 @@ use Rattle.std.proofs.Common.{◌≡◌, ◌≤◌, ◌+◌, ℕ, Bool, true, fa
 use Rattle.std.proofs.Common.{Some, refl, sym, ap, subst, inl, inr, arith}
 use Rattle.std.specs.Global.{Vec}
 use Rattle.std.specs.List.{cons_option, list_any}
-use Rattle.std.specs.Prelude.{◌==◌, nat_lt, find, is_some, filter, filter_map, fold, option_map, take, MatchOption}
+use Rattle.std.specs.Prelude.{◌==◌, nat_lt, find, is_some, filter, filter_map, fold, option_map, take, MatchOption, bytes_eq}
 use Rattle.std.specs.Vec.{vec_items}
-use Rattle.iox_machine.proofs.Shorthands.{factory_of, left}
+use Rattle.iox_machine.proofs.Shorthands.{factory_of, left, with_subscriber, with_publisher, closed_by, IsSkipped}
 use Rattle.iox_machine.specs.Choices.{Choices}
 use Rattle.iox_machine.specs.Arriving.{PublisherArrives, SubscriberArrives, new_publisher, new_subscriber}
 use Rattle.iox_machine.specs.Factories.{with_open}
-use Rattle.iox_machine.specs.Message.{Loan, Message, Sample, is_written}
+use Rattle.iox_machine.specs.Message.{Loan, Message, Sample}
 use Rattle.iox_machine.specs.MessageLaws.{IsPartOf, begun_by, first_in, next_message, received_from, sent_by, with_one}
 use Rattle.iox_machine.specs.NumberLaws.{loan_told, numbers_in, publisher_told}
 use Rattle.iox_machine.specs.OnceLaws.{MessagesGoOnce}
-use Rattle.iox_machine.specs.Phase.{acted, closed_by, same_pattern}
+use Rattle.iox_machine.specs.Phase.{acted, same_pattern}
 use Rattle.iox_machine.specs.Ports.{AtFree, AtBlocked, LendsLoan, Puts, Releases, SendsLoan, Writes, publisher_in, subscriber_in}
 use Rattle.iox_machine.specs.PublisherUpdate as publishing
 use Rattle.iox_machine.specs.Receiving.{Receives, has_samples}
-use Rattle.iox_machine.specs.Replies.{IsSkipped}
 use Rattle.iox_machine.specs.Run.{AtFactory, Runs, Step}
-use Rattle.iox_machine.specs.RunLaws.{has_begun}
+use Rattle.iox_machine.specs.RunLaws.{has_begun, is_written}
 use Rattle.iox_machine.specs.Sending.{GoesOn}
-use Rattle.iox_machine.specs.Service.{Publisher, Send, Service, Subscriber, with_publisher, with_subscriber}
-use Rattle.iox_machine.specs.State.{AtOne, Factory, State, counted, is_service_of, new_state, same_name, with_phase}
+use Rattle.iox_machine.specs.Service.{Publisher, Send, Service, Subscriber}
+use Rattle.iox_machine.specs.State.{AtOne, Factory, State, counted, is_service_of, new_state, with_phase}
 use Rattle.iox_machine.specs.SubscriberUpdate as subscribing
 use Rattle.iox_machine.specs.Table.{at, removed}
 use Rattle.iox_machine.proofs.Cases.{by-option}
@@ -185,11 +184,11 @@ module _ {T : Type 0} (p n : ℕ) where
       (closed_by factory.node (old.phases factory.pattern factory.name)) old) {
         factories = removed number old.factories;
         services = cond (list_any (λ (entry : ℕ × Factory). same_pattern entry.1.pattern factory.pattern
-            && same_name entry.1.name factory.name)
+            && bytes_eq entry.1.name factory.name)
             (removed number old.factories))
             old.services (filter (λ (service : Service T). not (is_service_of factory service)) old.services);
       }) answer new 0 (omega arith) came
-      (fewer (list_any (λ (entry : ℕ × Factory). same_pattern entry.1.pattern factory.pattern && same_name entry.1.name factory.name)
+      (fewer (list_any (λ (entry : ℕ × Factory). same_pattern entry.1.pattern factory.pattern && bytes_eq entry.1.name factory.name)
       (removed number old.factories)))
     where
       fewer : (b : Bool)

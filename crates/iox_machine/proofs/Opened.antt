@@ -3,7 +3,6 @@ use Rattle.std.proofs.Common.{◌≡◌, ◌≤◌, ◌⊎◌, ◌+◌, ℕ, zer
 use Rattle.std.proofs.Common.{None, Some, Result, Ok, Err, arith, refl, sym, ap, subst, inl, inr, ◌∙◌, true≢false}
 use Rattle.std.proofs.lemmas.Bool.{eqb-true}
 use Rattle.std.specs.Prelude.{◌==◌, filter, fold, nat_le, nat_lt, unwrap_or, MatchResult}
-use Rattle.iox_machine.proofs.Shorthands.{factory_of}
 use Rattle.iox_machine.specs.Choices.{Choices}
 use Rattle.iox_machine.specs.Agreement.{Agreement, event_verdict, publish_subscribe_verdict, request_response_verdict, unfit}
 use Rattle.iox_machine.specs.AgreementLaws.{agreed_in, life_of}
@@ -13,7 +12,7 @@ use Rattle.iox_machine.specs.Negotiation.{Access, Answer, Call, EitherLooks, Fai
 use Rattle.iox_machine.specs.Negotiation.{Rounds, created, opened, registered}
 use Rattle.iox_machine.specs.OpeningLaws.{EitherMeetsAsked, EitherNamesUnmet, IsAgreedOn, IsNewWith, NamesUnmet, OpenedMeetsAsked}
 use Rattle.iox_machine.specs.Phase.{Absent, BeingMade, Emptied, Node, Own, Phase, Published, acted, entered, is_in}
-use Rattle.iox_machine.specs.Replies.{IsRefused, IsSkipped}
+use Rattle.iox_machine.proofs.Shorthands.{IsSkipped, IsRefused, factory_of}
 use Rattle.iox_machine.specs.State.{Factory, State, with_phase}
 use Rattle.iox_machine.proofs.Calls.{fold-all}
 use Rattle.iox_machine.proofs.Cases.{by-bool, by-option, by-result}

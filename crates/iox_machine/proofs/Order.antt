@@ -17,11 +17,11 @@ use Rattle.iox_machine.specs.MessageLaws.{IsPartOf, next_message}
 use Rattle.iox_machine.specs.PortList.{those, unless}
 use Rattle.iox_machine.specs.Ports.{LendsLoan, Puts}
 use Rattle.iox_machine.specs.PublisherUpdate as publishing
-use Rattle.iox_machine.specs.Replies.{IsRefused}
-use Rattle.iox_machine.specs.RunLaws.{has_begun}
-use Rattle.iox_machine.specs.Sending.{GoesOn, Begins, Sends, numbered}
+use Rattle.iox_machine.specs.Sending.{GoesOn, Begins, Sends}
+use Rattle.iox_machine.specs.RunLaws.{numbered, has_begun}
 use Rattle.iox_machine.specs.SequenceLaws.{GoOnBehind, last_behind}
-use Rattle.iox_machine.specs.Service.{Service, Publisher, Subscriber, Send, with_publisher, mailbox, with_mailbox, connect}
+use Rattle.iox_machine.specs.Service.{Service, Publisher, Subscriber, Send, mailbox, with_mailbox, connect}
+use Rattle.iox_machine.proofs.Shorthands.{with_publisher, IsRefused}
 use Rattle.iox_machine.specs.Table.{at, contains}
 use Rattle.iox_machine.proofs.Cases.{by-bool, by-option, same-some, never-some, chosen, both-true}
 use Rattle.iox_machine.proofs.Frames.{waiting_in, Softer, box-same, box-aside, soft-connect, by-follows, by-deliver}
@@ -224,10 +224,10 @@ module _ {T : Type 0} (p s : ℕ) where
   -- ---- a publisher follows the list of subscribers
 
   -- a mailbox that may have lost what waits
-  abbrev Emptier : Option (Mailbox T) → Option (Mailbox T) → Type 0
+  abbrev pub Emptier : Option (Mailbox T) → Option (Mailbox T) → Type 0
   Emptier box now = ((waiting_in now ≡ waiting_in box) ⊎ (waiting_in now ≡ [])) × (is_some box ≡ true → is_some now ≡ true)
 
-  ended-box : (service : Service T) → Emptier (service.mailboxes p s) ((publishing.ended p service).mailboxes p s)
+  pub ended-box : (service : Service T) → Emptier (service.mailboxes p s) ((publishing.ended p service).mailboxes p s)
   ended-box service = step ((p == p) && not (contains (those service.subscriber_list.places) s)) (service.mailboxes p s)
     where
       step : (b : Bool) (o : Option (Mailbox T)) → Emptier o (cond b (option_map (λ (box : Mailbox T). record box { waiting = [] }) o) o)
@@ -250,7 +250,7 @@ module _ {T : Type 0} (p s : ℕ) where
       connect-aside limit false = box-aside p t (record { limit = limit; waiting = []; borrowed = [] }) service p s off
 
   -- a mailbox to which a history was given
-  abbrev Given : List (Message T) → Option (Mailbox T) → Type 0
+  abbrev pub Given : List (Message T) → Option (Mailbox T) → Type 0
   Given history now = ((limit : ℕ) × (waiting_in now ≡ newest limit history)) × (is_some now ≡ true)
 
   welcome-here : (history : List (Message T)) (service : Service T)
@@ -263,7 +263,7 @@ module _ {T : Type 0} (p s : ℕ) where
       box-same p s (record box { waiting = newest box.limit history }) met in
       ((box.limit, ap waiting_in same), ap is_some same)
 
-  welcomes-box : (history : List (Message T)) (news : List ℕ) (service : Service T)
+  pub welcomes-box : (history : List (Message T)) (news : List ℕ) (service : Service T)
       → (contains news s ≡ false
       → (fold (publishing.welcome p history) service news).mailboxes p s ≡ service.mailboxes p s)
       × (contains news s ≡ true → Given history ((fold (publishing.welcome p history) service news).mailboxes p s))
@@ -317,7 +317,7 @@ module _ {T : Type 0} (p s : ℕ) where
       subst (λ (l : List (Message T)). IsPartOf (received ++ l) sent) (sym none)
       (subst (λ (l : List (Message T)). IsPartOf l sent) (sym (append-nil received)) (part-front received (waiting_in box) sent h))
 
-  emptier-none : (box now : Option (Mailbox T)) → Emptier box now → waiting_in box ≡ [] → waiting_in now ≡ []
+  pub emptier-none : (box now : Option (Mailbox T)) → Emptier box now → waiting_in box ≡ [] → waiting_in now ≡ []
   emptier-none box now (inl same, some) h = same ∙ h
   emptier-none box now (inr none, some) h = none
 

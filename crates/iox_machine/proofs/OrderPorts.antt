@@ -4,14 +4,14 @@ use Rattle.std.proofs.Common.{set, drop, replicate, Option, None, Some, refl, sy
 use Rattle.std.proofs.lemmas.Bool.{eqb-true, eqb-false, and_cases, cases_Bool, true≢false}
 use Rattle.std.specs.List.{AllByRecursion}
 use Rattle.std.specs.Prelude.{⊤, ◌==◌, is_some, find, slice_get}
-use Rattle.iox_machine.proofs.Shorthands.{left, registered, taken}
+use Rattle.iox_machine.proofs.Shorthands.{left, registered, taken, with_subscriber}
 use Rattle.iox_machine.specs.Arriving.{SubscriberArrives, new_publisher}
 use Rattle.iox_machine.specs.Mailbox.{Mailbox}
 use Rattle.iox_machine.specs.Message.{Message, Sample}
 use Rattle.iox_machine.specs.PortList.{PortList, those, unless}
 use Rattle.iox_machine.specs.PublisherUpdate as publishing
 use Rattle.iox_machine.specs.Receiving.{Takes}
-use Rattle.iox_machine.specs.Service.{Service, Publisher, Subscriber, with_subscriber, mailbox, with_mailbox}
+use Rattle.iox_machine.specs.Service.{Service, Publisher, Subscriber, mailbox, with_mailbox}
 use Rattle.iox_machine.specs.State.{Made, counted, replaced}
 use Rattle.iox_machine.specs.SubscriberUpdate as subscribing
 use Rattle.iox_machine.specs.Table.{at, contains}
@@ -280,7 +280,7 @@ module _ {T : Type 0} (p s : ℕ) (G : List ℕ → StaticConfig → Message T �
         )),
   )
 
-  taken-elsewhere : (publisher number : ℕ) (old : Service T) (samples : List (ℕ × Sample T))
+  pub taken-elsewhere : (publisher number : ℕ) (old : Service T) (samples : List (ℕ × Sample T))
       → ((number == s) && (publisher == p)) ≡ false
       → Alike p s old (with_mailbox publisher number (taken (mailbox publisher number old)) (record old { samples = samples }))
   taken-elsewhere publisher number old samples off =

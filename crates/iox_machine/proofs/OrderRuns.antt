@@ -3,8 +3,7 @@ use Rattle.std.proofs.Common.{◌≡◌, ◌<◌, ◌+◌, ℕ, Bool, true, fals
 use Rattle.std.proofs.Common.{ap, subst, inl, inr, arith, ◌∙◌}
 use Rattle.std.proofs.lemmas.Bool.{and_right, eqb-true, eqb-false, cases_Bool}
 use Rattle.std.specs.List.{AllByRecursion, list_any}
-use Rattle.std.specs.Prelude.{◌==◌, is_some, find, filter, option_and_then, MatchOption}
-use Rattle.iox_machine.proofs.Shorthands.{registered}
+use Rattle.std.specs.Prelude.{◌==◌, is_some, find, filter, option_and_then, MatchOption, bytes_eq}
 use Rattle.iox_machine.specs.Choices.{Choices}
 use Rattle.iox_machine.specs.Arriving.{PublisherArrives, new_publisher}
 use Rattle.iox_machine.specs.Factories.{with_open}
@@ -14,10 +13,10 @@ use Rattle.iox_machine.specs.Phase.{Phase, Absent, BeingMade, Published, Emptied
 use Rattle.iox_machine.specs.PortList.{those}
 use Rattle.iox_machine.specs.Ports.{AtFree, AtBlocked, publisher_in, subscriber_in}
 use Rattle.iox_machine.specs.PublisherUpdate as publishing
-use Rattle.iox_machine.specs.Replies.{IsSkipped, IsRefused}
+use Rattle.iox_machine.proofs.Shorthands.{IsSkipped, IsRefused, registered}
 use Rattle.iox_machine.specs.RunLaws.{has_begun}
 use Rattle.iox_machine.specs.Service.{Service, Publisher, Subscriber, Send, new_service}
-use Rattle.iox_machine.specs.State.{State, Made, Factory, AtOne, is_service_of, same_name, replaced, counted, with_phase}
+use Rattle.iox_machine.specs.State.{State, Made, Factory, AtOne, is_service_of, replaced, counted, with_phase}
 use Rattle.iox_machine.specs.SubscriberUpdate as subscribing
 use Rattle.iox_machine.specs.Table.{at, contains, removed}
 use Rattle.iox_machine.proofs.Cases.{by-option}
@@ -216,12 +215,12 @@ module _ {T : Type 0} where
         maybe false c = one-more made services name c one
 
         opened : (it : Settings) → IsOfOne p s G made sent received (elim it [
-          | settings.PublishSubscribe c ↦ cond (list_any (λ (service : Service T). same_name service.name name) services) services
+          | settings.PublishSubscribe c ↦ cond (list_any (λ (service : Service T). bytes_eq service.name name) services) services
               (services ++ new_service name c ∷ [])
           | settings.Event c ↦ services
           | settings.RequestResponse c ↦ services
         ])
-        opened (settings.PublishSubscribe c) = maybe (list_any (λ (service : Service T). same_name service.name name) services) c
+        opened (settings.PublishSubscribe c) = maybe (list_any (λ (service : Service T). bytes_eq service.name name) services) c
         opened (settings.Event c) = one
         opened (settings.RequestResponse c) = one
     one-open made name (Emptied life agreed by) services one = one
@@ -279,7 +278,7 @@ module _ {T : Type 0} where
         ordered-refused (refusal.Close StillInUse) old old answer new refl refl refused ordered
     ordered-closed number old answer new (inr (inr (factory, found, unused, told, came))) ordered =
         subst (IsOrdered p s G sent received) (sym came) (
-          fewer (list_any (λ (entry : ℕ × Factory). same_pattern entry.1.pattern factory.pattern && same_name entry.1.name factory.name)
+          fewer (list_any (λ (entry : ℕ × Factory). same_pattern entry.1.pattern factory.pattern && bytes_eq entry.1.name factory.name)
               (removed number old.factories)),
           ordered.1,
           ordered.2,

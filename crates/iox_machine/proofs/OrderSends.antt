@@ -5,14 +5,14 @@ use Rattle.std.proofs.lemmas.Bool.{eqb-true, eqb-false, and_from, and_right, cas
 use Rattle.std.specs.List.{AllByRecursion}
 use Rattle.std.specs.Prelude.{⊤, ◌==◌, is_some, find, option_map, option_and_then, MatchBool, MatchOption}
 use Rattle.iox_machine.specs.Choices.{Choices}
-use Rattle.iox_machine.specs.Message.{Message, Loan, Sample, is_written}
+use Rattle.iox_machine.specs.Message.{Message, Loan, Sample}
 use Rattle.iox_machine.specs.MessageLaws.{first_in, next_message, begun_by, received_by, sent_in}
 use Rattle.iox_machine.specs.Ports.{publisher_in, subscriber_in, Puts, SendsLoan}
 use Rattle.iox_machine.specs.Receiving.{Receives, has_samples, lasting}
-use Rattle.iox_machine.specs.Replies.{IsSkipped}
-use Rattle.iox_machine.specs.RunLaws.{BeginsToSend, has_begun, sent_as}
-use Rattle.iox_machine.specs.Sending.{Sends, numbered}
-use Rattle.iox_machine.specs.Service.{Service, Publisher, Subscriber, Send, with_subscriber}
+use Rattle.iox_machine.specs.RunLaws.{BeginsToSend, has_begun, sent_as, numbered, is_written}
+use Rattle.iox_machine.specs.Sending.{Sends}
+use Rattle.iox_machine.specs.Service.{Service, Publisher, Subscriber, Send}
+use Rattle.iox_machine.proofs.Shorthands.{with_subscriber, IsSkipped}
 use Rattle.iox_machine.specs.State.{State, Made, replaced, counted}
 use Rattle.iox_machine.specs.SubscriberUpdate as subscribing
 use Rattle.iox_machine.specs.Table.{at, removed}

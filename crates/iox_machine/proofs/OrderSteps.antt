@@ -6,7 +6,7 @@ use Rattle.std.specs.Prelude.{⊤, is_some, find}
 use Rattle.iox_machine.specs.Message.{Message}
 use Rattle.iox_machine.specs.MessageLaws.{IsPartOf}
 use Rattle.iox_machine.specs.PortList.{PortList, those}
-use Rattle.iox_machine.specs.Replies.{IsSkipped, IsRefused}
+use Rattle.iox_machine.proofs.Shorthands.{IsSkipped, IsRefused}
 use Rattle.iox_machine.specs.SequenceLaws.{GoOnBehind}
 use Rattle.iox_machine.specs.Service.{Service, Publisher}
 use Rattle.iox_machine.specs.State.{State, Made, AtOne, replaced, counted}

@@ -2,14 +2,14 @@
 use Rattle.std.proofs.Common.{◌≡◌, ◌⊎◌, ℕ, Bool, true, false, cond, ◌&&◌, ◌||◌, List, [], ◌∷◌, ◌++◌, Option, None, Some, refl, sym, ap}
 use Rattle.std.proofs.Common.{subst, inl, inr, ◌∙◌, true≢false}
 use Rattle.std.specs.List.{list_any}
-use Rattle.std.specs.Prelude.{◌==◌, find, filter, option_map, MatchBool}
+use Rattle.std.specs.Prelude.{◌==◌, find, filter, option_map, MatchBool, bytes_eq}
 use Rattle.iox_machine.specs.AgreementLaws.{agreed_in}
 use Rattle.iox_machine.specs.Agreement.{Agreement}
 use Rattle.iox_machine.specs.Factories.{with_open}
 use Rattle.iox_machine.specs.IndependenceLaws.{is_factory_of, is_of}
 use Rattle.iox_machine.specs.Phase.{Phase, Absent, BeingMade, Published, Emptied, same_pattern}
 use Rattle.iox_machine.specs.Service.{Service, new_service}
-use Rattle.iox_machine.specs.State.{Factory, same_name, replaced}
+use Rattle.iox_machine.specs.State.{Factory, replaced}
 use Rattle.iox_machine.specs.Table.{at}
 use Rattle.iox_machine.proofs.Cases.{same-some, never-some}
 use Rattle.iox_machine.proofs.Names.{name-itself, and-true}
@@ -119,7 +119,7 @@ replaced-own {T} test has service after (one ∷ more) same on first =
 
 -- the phases that a machine has that knows of one service alone
 abbrev pub own_phases : MessagingPattern → List ℕ → (MessagingPattern → List ℕ → Phase) → MessagingPattern → List ℕ → Phase
-own_phases pattern name phases one other = cond (same_pattern one pattern && same_name other name) (phases one other) (Absent 0)
+own_phases pattern name phases one other = cond (same_pattern one pattern && bytes_eq other name) (phases one other) (Absent 0)
 
 -- a factory of the service that goes by a number
 pub own-at : (pattern : MessagingPattern) (name : List ℕ) (number : ℕ) (factory : Factory) (factories : List (ℕ × Factory))
@@ -153,30 +153,30 @@ own-open {T} pattern name (Published life agreed nodes) services patterned = her
     made c is true = refl
     made c is false =
         filter-joined-on (is_of pattern name) services (new_service name c)
-        (and-true (same_pattern pattern messaging.PublishSubscribe) (same_name name name)
+        (and-true (same_pattern pattern messaging.PublishSubscribe) (bytes_eq name name)
         (subst (λ (p : MessagingPattern). same_pattern p messaging.PublishSubscribe ≡ true) (sym is) refl) (name-itself name))
 
     here : (s : Settings) → agreed.settings ≡ s
         → filter (is_of pattern name) (elim s [
-          | settings.PublishSubscribe c ↦ cond (list_any (λ (service : Service T). same_name service.name name) services) services
+          | settings.PublishSubscribe c ↦ cond (list_any (λ (service : Service T). bytes_eq service.name name) services) services
               (services ++ new_service name c ∷ [])
           | settings.Event c ↦ services
           | settings.RequestResponse c ↦ services
         ])
         ≡ (elim s [
           | settings.PublishSubscribe c ↦ cond
-              (list_any (λ (service : Service T). same_name service.name name) (filter (is_of pattern name) services))
+              (list_any (λ (service : Service T). bytes_eq service.name name) (filter (is_of pattern name) services))
               (filter (is_of pattern name) services) (filter (is_of pattern name) services ++ new_service name c ∷ [])
           | settings.Event c ↦ filter (is_of pattern name) services
           | settings.RequestResponse c ↦ filter (is_of pattern name) services
         ])
     here (settings.PublishSubscribe c) is =
         let same : pattern ≡ messaging.PublishSubscribe = sym (patterned agreed refl) ∙ ap described.pattern_of is in
-        made c same (list_any (λ (service : Service T). same_name service.name name) services)
+        made c same (list_any (λ (service : Service T). bytes_eq service.name name) services)
         ∙ ap (λ (b : Bool). cond b (filter (is_of pattern name) services)
         (filter (is_of pattern name) services ++ new_service name c ∷ []))
-        (sym (any-own (is_of pattern name) (λ (service : Service T). same_name service.name name)
-        (λ service named. and-true (same_pattern pattern messaging.PublishSubscribe) (same_name service.name name)
+        (sym (any-own (is_of pattern name) (λ (service : Service T). bytes_eq service.name name)
+        (λ service named. and-true (same_pattern pattern messaging.PublishSubscribe) (bytes_eq service.name name)
         (subst (λ (p : MessagingPattern). same_pattern p messaging.PublishSubscribe ≡ true) (sym same) refl) named) services))
     here (settings.Event c) is = refl
     here (settings.RequestResponse c) is = refl

@@ -3,14 +3,14 @@ use Rattle.std.proofs.Common.{◌≡◌, ◌⊎◌, ◌≤◌, ◌<◌, ◌+◌,
 use Rattle.std.proofs.Common.{Some, refl, sym, ap, subst, inl, inr, arith, ◌∙◌, true≢false}
 use Rattle.std.specs.List.{AllByRecursion}
 use Rattle.std.specs.Prelude.{⊤, nat_lt, fold}
-use Rattle.iox_machine.proofs.Shorthands.{factory_of}
 use Rattle.iox_machine.specs.Choices.{Choices}
 use Rattle.iox_machine.specs.Agreement.{Agreement, are_within_limits}
 use Rattle.iox_machine.specs.AgreementLaws.{life_of, agreed_in, HasOne, IsPublishedBy, Describes, AgreementStays, AgreementIsDescribed}
 use Rattle.iox_machine.specs.AgreementLaws.{CreatesAsDescribed}
 use Rattle.iox_machine.specs.Asked.{settings_of}
 use Rattle.iox_machine.specs.Phase.{Node, Own, Foreign, Phase, Absent, BeingMade, Published, Emptied, same_pattern, same_node, is_in}
-use Rattle.iox_machine.specs.Phase.{entered, left, left_by, removed_by, closed_by, acted, published_by, has_numbers}
+use Rattle.iox_machine.specs.Phase.{entered, left, left_by, removed_by, acted, published_by, has_numbers}
+use Rattle.iox_machine.proofs.Shorthands.{closed_by, factory_of}
 use Rattle.iox_machine.specs.Run.{Step, Runs}
 use Rattle.iox_machine.specs.State.{State, Factory}
 use Rattle.iox_machine.proofs.Calls.{HasRoom, IsSettled, create-settles, open-settles, either-settles, fold-all}

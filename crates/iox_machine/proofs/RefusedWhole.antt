@@ -2,12 +2,11 @@
 use Rattle.std.proofs.Common.{◌≡◌, ◌⊎◌, ◌+◌, ℕ, Bool, true, false, cond, List, [], ◌∷◌, ◌++◌, Option, None, Some, refl, ap, inl, inr, ◌∙◌}
 use Rattle.std.specs.Prelude.{nat_lt, nat_le, is_some, slice_get, MatchBool, MatchOption, ◌||◌, ◌^◌}
 use Rattle.std.specs.List.{list_all}
-use Rattle.iox_machine.proofs.Shorthands.{registered}
 use Rattle.iox_machine.specs.Choices.{Choices}
 use Rattle.iox_machine.specs.Arriving.{PublisherArrives, SubscriberArrives, new_publisher, new_subscriber, worst_case}
 use Rattle.iox_machine.specs.Ports.{AtFree, publisher_in, LendsLoan}
 use Rattle.iox_machine.specs.PublisherUpdate as publishing
-use Rattle.iox_machine.specs.Replies.{IsSkipped, IsRefused}
+use Rattle.iox_machine.proofs.Shorthands.{IsSkipped, IsRefused, registered}
 use Rattle.iox_machine.specs.Run.{Step, AtFactory}
 use Rattle.iox_machine.specs.RunLaws.{RefusedChangesNothing, is_refused_whole}
 use Rattle.iox_machine.specs.Service.{Service, Publisher, Subscriber}

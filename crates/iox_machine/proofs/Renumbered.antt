@@ -3,17 +3,15 @@ use Rattle.std.proofs.Common.{◌≡◌, ℕ, Bool, true, false, cond, not, ◌&
 use Rattle.std.proofs.Common.{true≢false}
 use Rattle.std.proofs.lemmas.Bool.{eqb-true, eq-eqb, ne_eqb}
 use Rattle.std.specs.Prelude.{◌==◌, find, option_map, is_some, unwrap_or}
-use Rattle.iox_machine.proofs.Shorthands.{left}
 use Rattle.iox_machine.specs.Choices.{Choices}
 use Rattle.iox_machine.specs.Mailbox.{Mailbox}
 use Rattle.iox_machine.specs.Message.{Loan, Sample}
 use Rattle.iox_machine.specs.Renaming.{Renaming, renamed_reply}
 use Rattle.iox_machine.specs.Renumbering.{renumbered_choices, AreRenumbered, renumbered_list, renumbered_loan, renumbered_publisher}
-use Rattle.iox_machine.specs.Renumbering.{renumbered_sample}
-use Rattle.iox_machine.specs.Renumbering.{renumbered_send, renumbered_subscriber}
-use Rattle.iox_machine.specs.Replies.{IsSkipped, IsRefused}
+use Rattle.iox_machine.specs.Renumbering.{renumbered_send, renumbered_subscriber, renumbered_sample}
 use Rattle.iox_machine.specs.PortList.{PortList, those, unless}
-use Rattle.iox_machine.specs.Service.{Service, Publisher, Subscriber, Send, with_publisher, with_subscriber, mailbox, with_mailbox, connect}
+use Rattle.iox_machine.specs.Service.{Service, Publisher, Subscriber, Send, mailbox, with_mailbox, connect}
+use Rattle.iox_machine.proofs.Shorthands.{with_publisher, with_subscriber, left, IsSkipped, IsRefused}
 use Rattle.iox_machine.specs.Table.{at, changed, removed, contains}
 use Rattle.iox_machine.proofs.Mapped.{cond-of, find-by, filter-by, any-by, filter_map-by, map-swap, option-swap}
 use Rattle.iox_command.specs.declared.refusal.Refusal.{Refusal}

@@ -3,13 +3,14 @@ use Rattle.std.proofs.Common.{◌≡◌, ◌+◌, ℕ, ◌&&◌, length, map, se
 use Rattle.std.specs.Global.{Vec}
 use Rattle.std.specs.Prelude.{◌==◌, nat_le, nat_lt}
 use Rattle.std.specs.Vec.{vec_items}
-use Rattle.iox_machine.proofs.Shorthands.{factory_of, left}
+use Rattle.iox_machine.proofs.Shorthands.{factory_of, left, with_subscriber, with_publisher}
 use Rattle.iox_machine.specs.Choices.{Choices}
 use Rattle.iox_machine.specs.Arriving.{PublisherArrives, SubscriberArrives, new_publisher, new_subscriber}
 use Rattle.iox_machine.specs.Asked.{settings_of}
 use Rattle.iox_machine.specs.Agreement.{unfit}
 use Rattle.iox_machine.specs.Factories.{create_refusal}
-use Rattle.iox_machine.specs.Message.{Loan, Sample, is_written}
+use Rattle.iox_machine.specs.Message.{Loan, Sample}
+use Rattle.iox_machine.specs.RunLaws.{is_written}
 use Rattle.iox_machine.specs.Negotiation.{Creates}
 use Rattle.iox_machine.specs.Phase.{Own}
 use Rattle.iox_machine.specs.Ports.{LendsLoan, Puts, SendsLoan, Writes, Releases}
@@ -18,7 +19,7 @@ use Rattle.iox_machine.specs.Receiving.{Receives, has_samples}
 use Rattle.iox_machine.specs.Renaming.{renamed}
 use Rattle.iox_machine.specs.Run.{Step}
 use Rattle.iox_machine.specs.Sending.{GoesOn}
-use Rattle.iox_machine.specs.Service.{Service, Publisher, Subscriber, Send, with_publisher, with_subscriber}
+use Rattle.iox_machine.specs.Service.{Service, Publisher, Subscriber, Send}
 use Rattle.iox_machine.specs.State.{State, Made}
 use Rattle.iox_machine.specs.SubscriberUpdate as subscribing
 use Rattle.iox_machine.specs.Table.{removed}
@@ -30,9 +31,8 @@ use Rattle.iox_machine.proofs.RenumberedPorts.{lends-loan-by, puts-by, drops-by,
 use Rattle.iox_machine.proofs.RenumberedPorts.{publisher-leaves-by, subscriber-leaves-by, publisher-arrives-by, subscriber-arrives-by}
 use Rattle.iox_machine.proofs.RenumberedPublishers.{updates-by, goes-on-by}
 use Rattle.iox_machine.proofs.RenumberedSteps.{other_state, other_end, state-refused, state-skipped, at-free-by, at-blocked-by}
-use Rattle.iox_machine.proofs.RenumberedSteps.{at-subscriber-by}
 use Rattle.iox_machine.proofs.RenumberedSteps.{at-loan-by, at-sample-by, at-factory-by, negotiates-by, opens-by, either-by, acts-by}
-use Rattle.iox_machine.proofs.RenumberedSteps.{closes-by}
+use Rattle.iox_machine.proofs.RenumberedSteps.{closes-by, at-subscriber-by}
 use Rattle.iox_machine.proofs.RenumberedSubscribers.{subscriber-updates-by, has-by, receives-by}
 use Rattle.iox_command.specs.DomainValues.declared.port_error.ReceiveError.TheVariants as receive_error
 use Rattle.iox_command.specs.NegotiateBase.DescribeBase.declared.message_type.MessageTypeDetails.{MessageTypeDetails}

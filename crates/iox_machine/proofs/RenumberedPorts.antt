@@ -4,26 +4,24 @@ use Rattle.std.proofs.Common.{refl, sym, ap, ap₂, subst, inl, inr, ◌∙◌}
 use Rattle.std.proofs.lemmas.List.{map-append, map-set}
 use Rattle.std.specs.List.{list_all}
 use Rattle.std.specs.Prelude.{nat_lt, nat_le, option_map, is_some, slice_get, replicate, MatchBool}
-use Rattle.iox_machine.specs.RunLaws.{sent_as}
-use Rattle.iox_machine.proofs.Shorthands.{given_back, left, registered}
+use Rattle.iox_machine.proofs.Shorthands.{given_back, left, registered, with_subscriber, with_publisher, IsRefused, IsSkipped}
 use Rattle.iox_machine.specs.Choices.{Choices}
 use Rattle.iox_machine.specs.Arriving.{worst_case, new_publisher, new_subscriber, PublisherArrives, SubscriberArrives}
 use Rattle.iox_machine.specs.Mailbox.{Mailbox}
-use Rattle.iox_machine.specs.Message.{Loan, Sample, is_written}
+use Rattle.iox_machine.specs.Message.{Loan, Sample}
+use Rattle.iox_machine.specs.RunLaws.{is_written, sent_as}
 use Rattle.iox_machine.specs.PortList.{PortList}
 use Rattle.iox_machine.specs.Ports.{LendsLoan, Puts, SendsLoan, Writes, Releases}
 use Rattle.iox_machine.specs.PublisherUpdate as publishing
-use Rattle.iox_machine.specs.Replies.{IsSkipped, IsRefused}
 use Rattle.iox_machine.specs.Sending.{Sends}
-use Rattle.iox_machine.specs.Service.{Service, Publisher, Subscriber, with_publisher, with_subscriber, mailbox, with_mailbox}
+use Rattle.iox_machine.specs.Service.{Service, Publisher, Subscriber, mailbox, with_mailbox}
 use Rattle.iox_machine.specs.SubscriberUpdate as subscribing
 use Rattle.iox_machine.specs.Table.{at, removed}
 use Rattle.iox_machine.proofs.Mapped.{all-by, get-by, replicate-by, some-by, over-bool, over-option}
 use Rattle.iox_machine.proofs.Renumbered.{Numbering, Numberings, placed, listed, left-by, at-by, changed-by, removed-by, other_subscriber}
 use Rattle.iox_machine.proofs.Renumbered.{other_choices, subscriber_entry, other_reply, refused-by, skipped-by, other_send}
-use Rattle.iox_machine.proofs.Renumbered.{other_publisher, other_loan}
 use Rattle.iox_machine.proofs.Renumbered.{other_sample, publisher_entry, loan_entry, other_service, publisher-by, subscriber-by}
-use Rattle.iox_machine.proofs.Renumbered.{mailbox-by, boxed-by}
+use Rattle.iox_machine.proofs.Renumbered.{mailbox-by, boxed-by, other_publisher, other_loan}
 use Rattle.iox_machine.proofs.RenumberedPublishers.{follows-by, sends-by, lends-by}
 use Rattle.iox_machine.proofs.RenumberedSubscribers.{subscriber-follows-by}
 use Rattle.iox_command.specs.DomainValues.declared.create_error.PublisherCreateError.TheVariants as publisher_error

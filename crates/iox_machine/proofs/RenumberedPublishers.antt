@@ -12,17 +12,16 @@ use Rattle.iox_machine.specs.Message.{Message, Loan}
 use Rattle.iox_machine.specs.PortList.{those, unless}
 use Rattle.iox_machine.specs.PublisherUpdate as publishing
 use Rattle.iox_machine.specs.PublisherUpdate.{failure_at, ended, welcome, UpdateAnswers}
-use Rattle.iox_machine.specs.Replies.{IsRefused}
 use Rattle.iox_machine.specs.Sending.{GoesOn, Begins, Sends, Delivers, MayDecide}
-use Rattle.iox_machine.specs.Service.{Service, Publisher, Subscriber, Send, with_publisher, mailbox, with_mailbox, connect}
+use Rattle.iox_machine.specs.Service.{Service, Publisher, Subscriber, Send, mailbox, with_mailbox, connect}
+use Rattle.iox_machine.proofs.Shorthands.{with_publisher, IsRefused}
 use Rattle.iox_machine.specs.Table.{at, contains}
 use Rattle.iox_machine.proofs.Mapped.{cond-of, filter-by, all-by, get-by, flat_map-same, map-same, some-by, or-by}
 use Rattle.iox_machine.proofs.Mapped.{map-swap, zip-by, fold-by, over-bool, over-same, over-result}
 use Rattle.iox_machine.proofs.Renumbered.{Numbering, Numberings, same-to, same-from, placed, those-by, contained-to, contained-from}
 use Rattle.iox_machine.proofs.Renumbered.{other_choices, unless-by, at-by, other_subscriber, subscriber_entry, other_reply, refused-by}
-use Rattle.iox_machine.proofs.Renumbered.{other_send}
 use Rattle.iox_machine.proofs.Renumbered.{other_publisher, other_loan, loan_entry, other_service, publisher-by, box-by, mailbox-by}
-use Rattle.iox_machine.proofs.Renumbered.{boxed-by, connect-by}
+use Rattle.iox_machine.proofs.Renumbered.{boxed-by, connect-by, other_send}
 use Rattle.iox_command.specs.DomainValues.Actions.{decision_of}
 use Rattle.iox_command.specs.DomainValues.declared.backpressure.BackpressureDecision.{BackpressureDecision}
 use Rattle.iox_command.specs.DomainValues.declared.backpressure.BackpressureDecision.TheVariants.{Retry, DiscardData, DiscardDataAndFail}

@@ -12,12 +12,13 @@ use Rattle.iox_machine.specs.Closing.{Closes, is_used_by}
 use Rattle.iox_machine.specs.Factories.{Acts, OpensService, OpensOrCreatesService, Negotiates, Enters, with_open, either_lacking}
 use Rattle.iox_machine.specs.Message.{Loan, Sample}
 use Rattle.iox_machine.specs.Negotiation.{Call, Answer, Opens, OpensOrCreates}
-use Rattle.iox_machine.specs.Phase.{Own, Phase, Absent, BeingMade, Published, Emptied, same_pattern, closed_by, acted}
+use Rattle.iox_machine.specs.Phase.{Own, Phase, Absent, BeingMade, Published, Emptied, same_pattern, acted}
 use Rattle.iox_machine.specs.Ports.{AtFree, AtBlocked, publisher_in, subscriber_in}
-use Rattle.iox_machine.specs.Replies.{IsSkipped, IsRefused}
+use Rattle.iox_machine.proofs.Shorthands.{IsSkipped, IsRefused, closed_by}
 use Rattle.iox_machine.specs.Run.{AtFactory}
 use Rattle.iox_machine.specs.Service.{Service, Publisher, Subscriber, Send, new_service}
-use Rattle.iox_machine.specs.State.{State, Factory, Made, AtOne, counted, is_service_of, replaced, same_name, with_phase}
+use Rattle.iox_machine.specs.State.{State, Factory, Made, AtOne, counted, is_service_of, replaced, with_phase}
+use Rattle.std.specs.Prelude.{bytes_eq}
 use Rattle.iox_machine.specs.Table.{at, removed}
 use Rattle.iox_machine.proofs.Kept.{IsNext}
 use Rattle.iox_machine.proofs.Mapped.{cond-of, find-by, filter-by, any-by, some-by, or-by, replicate-by, over-bool, over-option}
@@ -268,23 +269,23 @@ module _ {T : Type 0} (by : Numberings) where
       where
         here : (s : Settings) → (elim s [
           | settings.PublishSubscribe c ↦ cond
-              (list_any (λ (service : Service T). same_name service.name name) (map (other_service {T = T} by) services))
+              (list_any (λ (service : Service T). bytes_eq service.name name) (map (other_service {T = T} by) services))
               (map (other_service {T = T} by) services) (map (other_service {T = T} by) services ++ new_service name c ∷ [])
           | settings.Event c ↦ map (other_service {T = T} by) services
           | settings.RequestResponse c ↦ map (other_service {T = T} by) services
         ]) ≡ map (other_service {T = T} by) (elim s [
-          | settings.PublishSubscribe c ↦ cond (list_any (λ (service : Service T). same_name service.name name) services) services
+          | settings.PublishSubscribe c ↦ cond (list_any (λ (service : Service T). bytes_eq service.name name) services) services
               (services ++ new_service name c ∷ [])
           | settings.Event c ↦ services
           | settings.RequestResponse c ↦ services
         ])
         here (settings.PublishSubscribe c) =
             ap₂ (λ (b : Bool) (all : List (Service T)). cond b (map (other_service by) services) all)
-            (any-by (other_service by) (λ (service : Service T). same_name service.name name)
-            (λ (service : Service T). same_name service.name name) (λ service. refl) services)
+            (any-by (other_service by) (λ (service : Service T). bytes_eq service.name name)
+            (λ (service : Service T). bytes_eq service.name name) (λ service. refl) services)
             (ap (λ (one : Service T). map (other_service by) services ++ one ∷ []) (new-service-by name c)
             ∙ sym (map-append (other_service by) services (new_service name c ∷ [])))
-            ∙ cond-of (map (other_service by)) (list_any (λ (service : Service T). same_name service.name name) services) services
+            ∙ cond-of (map (other_service by)) (list_any (λ (service : Service T). bytes_eq service.name name) services) services
             (services ++ new_service name c ∷ [])
         here (settings.Event c) = refl
         here (settings.RequestResponse c) = refl
@@ -450,7 +451,7 @@ module _ {T : Type 0} (by : Numberings) where
         × (new ≡ record (with_phase factory.pattern factory.name (closed_by factory.node (old.phases factory.pattern factory.name)) old) {
           factories = removed number old.factories;
           services = cond (list_any (λ (entry : ℕ × Factory). same_pattern entry.1.pattern factory.pattern
-              && same_name entry.1.name factory.name)
+              && bytes_eq entry.1.name factory.name)
               (removed number old.factories))
               old.services (filter (λ (service : Service T). not (is_service_of factory service)) old.services);
         }))
@@ -470,7 +471,7 @@ module _ {T : Type 0} (by : Numberings) where
       where
         is_last : List (ℕ × Factory) → Bool
         is_last factories =
-            list_any (λ (entry : ℕ × Factory). same_pattern entry.1.pattern factory.pattern && same_name entry.1.name factory.name)
+            list_any (λ (entry : ℕ × Factory). same_pattern entry.1.pattern factory.pattern && bytes_eq entry.1.name factory.name)
             factories
 
         removed-same : removed (by.factories.to number) (map (factory_entry by) old.factories)
@@ -482,8 +483,8 @@ module _ {T : Type 0} (by : Numberings) where
         last-same =
             ap is_last removed-same
             ∙ any-by (factory_entry by)
-            (λ (entry : ℕ × Factory). same_pattern entry.1.pattern factory.pattern && same_name entry.1.name factory.name)
-            (λ (entry : ℕ × Factory). same_pattern entry.1.pattern factory.pattern && same_name entry.1.name factory.name) (λ entry. refl)
+            (λ (entry : ℕ × Factory). same_pattern entry.1.pattern factory.pattern && bytes_eq entry.1.name factory.name)
+            (λ (entry : ℕ × Factory). same_pattern entry.1.pattern factory.pattern && bytes_eq entry.1.name factory.name) (λ entry. refl)
             (removed number old.factories)
 
         services-same : cond (is_last (removed (by.factories.to number) (map (factory_entry by) old.factories)))

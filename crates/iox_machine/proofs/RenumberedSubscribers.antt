@@ -6,15 +6,14 @@ use Rattle.std.specs.Global.{Vec}
 use Rattle.std.specs.List.{list_any}
 use Rattle.std.specs.Option.{option_map_or}
 use Rattle.std.specs.Prelude.{◌==◌, nat_lt, is_some, find, filter, fold, zip, filter_map, slice_get}
-use Rattle.iox_machine.proofs.Shorthands.{now_at, parting, taken}
+use Rattle.iox_machine.proofs.Shorthands.{now_at, parting, taken, with_subscriber, IsRefused}
 use Rattle.iox_machine.specs.Choices.{Choices}
 use Rattle.iox_machine.proofs.Delivering.{Outcomes}
 use Rattle.iox_machine.specs.Mailbox.{Mailbox, has_data, is_idle}
 use Rattle.iox_machine.specs.Message.{Sample}
 use Rattle.iox_machine.specs.PortList.{those, unless}
 use Rattle.iox_machine.specs.Receiving.{has_samples, gives, lasting, IsGiver, Takes, Receives}
-use Rattle.iox_machine.specs.Replies.{IsRefused}
-use Rattle.iox_machine.specs.Service.{Service, Subscriber, with_subscriber, mailbox, with_mailbox, connect}
+use Rattle.iox_machine.specs.Service.{Service, Subscriber, mailbox, with_mailbox, connect}
 use Rattle.iox_machine.specs.SubscriberUpdate as subscribing
 use Rattle.iox_machine.specs.SubscriberUpdate.{gone_from, Parted, is_unborrowed, room_for, part}
 use Rattle.iox_machine.specs.Table.{contains}
@@ -22,8 +21,7 @@ use Rattle.iox_machine.proofs.Mapped.{cond-of, find-by, filter-by, any-by, all-b
 use Rattle.iox_machine.proofs.Mapped.{zip-by, fold-by, over-bool, over-option}
 use Rattle.iox_machine.proofs.Renumbered.{Numbering, Numberings, same-to, placed, those-by, contains-to, contained-to, unless-by}
 use Rattle.iox_machine.proofs.Renumbered.{other_choices, other_subscriber, other_reply, refused-by, sample_entry, other_service}
-use Rattle.iox_machine.proofs.Renumbered.{subscriber-by, box-by}
-use Rattle.iox_machine.proofs.Renumbered.{mailbox-by, boxed-by, connect-by}
+use Rattle.iox_machine.proofs.Renumbered.{mailbox-by, boxed-by, connect-by, subscriber-by, box-by}
 use Rattle.iox_machine.proofs.RenumberedPublishers.{over-outcomes}
 use Rattle.iox_command.specs.DomainValues.declared.connection_failure.ConnectionFailure.{ConnectionFailure}
 use Rattle.iox_command.specs.DomainValues.declared.port_error.ReceiveError.TheVariants.{ExceedsMaxBorrows}

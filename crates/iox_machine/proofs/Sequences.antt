@@ -26,7 +26,7 @@ module _ {T : Type 0} where
   -- ---- what passes a test
 
   -- what holds of all that passes a test
-  all-passing : (Q : Message T → Bool) (P : Message T → Type 0) (xs : List (Message T)) → AllByRecursion (λ x. Q x ≡ true → P x) xs
+  pub all-passing : (Q : Message T → Bool) (P : Message T → Type 0) (xs : List (Message T)) → AllByRecursion (λ x. Q x ≡ true → P x) xs
       → AllByRecursion P (filter Q xs)
   all-passing Q P [] all = tt
   all-passing Q P (x ∷ xs) all = here (Q x) all.0 (all-passing Q P xs all.1)

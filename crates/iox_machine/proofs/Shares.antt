@@ -7,7 +7,8 @@ use Rattle.std.specs.Prelude.{◌==◌, nat_le, nat_lt}
 use Rattle.iox_machine.specs.Agreement.{Agreement, are_within_limits}
 use Rattle.iox_machine.specs.Asked.{settings_of}
 use Rattle.iox_machine.specs.Phase.{Node, Own, Foreign, Phase, Absent, BeingMade, Published, Emptied, same_pattern, same_node, is_in}
-use Rattle.iox_machine.specs.Phase.{entered, left, removed_by, closed_by, acted, published_by, has_numbers}
+use Rattle.iox_machine.specs.Phase.{entered, left, removed_by, acted, published_by, has_numbers}
+use Rattle.iox_machine.proofs.Shorthands.{closed_by}
 use Rattle.iox_machine.proofs.Counts.{one_if}
 use Rattle.iox_machine.proofs.Phases.{chosen-phase}
 use Rattle.iox_command.specs.NegotiateBase.DescribeBase.declared.message_type.MessageTypeDetails.{MessageTypeDetails}

@@ -5,19 +5,18 @@ use Rattle.std.specs.Global.{Vec}
 use Rattle.std.specs.Prelude.{◌==◌, nat_lt, nat_le, is_some, slice_get, MatchBool, MatchOption, ◌||◌, ◌^◌, zip}
 use Rattle.std.specs.List.{list_all}
 use Rattle.std.specs.Vec.{vec_items}
-use Rattle.iox_machine.proofs.Shorthands.{factory_of, left, registered}
+use Rattle.iox_machine.proofs.Shorthands.{factory_of, left, registered, with_subscriber, with_publisher, IsRefused, IsSkipped}
 use Rattle.iox_machine.specs.Choices.{Choices}
 use Rattle.iox_machine.proofs.Delivering.{Outcomes, by-outcome, keeping, at_once, by-send, sending}
 use Rattle.iox_machine.specs.Arriving.{PublisherArrives, SubscriberArrives, new_publisher, new_subscriber, worst_case}
-use Rattle.iox_machine.specs.Message.{Message, Loan, Sample, is_written}
+use Rattle.iox_machine.specs.Message.{Message, Loan, Sample}
 use Rattle.iox_machine.specs.Ports.{AtFree, AtBlocked, publisher_in, subscriber_in, LendsLoan, Puts, SendsLoan, Writes, Releases}
 use Rattle.iox_machine.specs.PublisherUpdate as publishing
 use Rattle.iox_machine.specs.Receiving.{Receives, has_samples}
-use Rattle.iox_machine.specs.Replies.{IsSkipped, IsRefused}
 use Rattle.iox_machine.specs.Run.{Step, AtFactory}
-use Rattle.iox_machine.specs.RunLaws.{SkippedChangesNothing, sent_as}
+use Rattle.iox_machine.specs.RunLaws.{SkippedChangesNothing, sent_as, is_written}
 use Rattle.iox_machine.specs.Sending.{GoesOn, Begins, Sends}
-use Rattle.iox_machine.specs.Service.{Service, Publisher, Subscriber, Send, with_publisher, with_subscriber}
+use Rattle.iox_machine.specs.Service.{Service, Publisher, Subscriber, Send}
 use Rattle.iox_machine.specs.State.{State, Factory, AtOne, is_service_of, replaced}
 use Rattle.iox_machine.specs.SubscriberUpdate as subscribing
 use Rattle.iox_machine.specs.Table.{at, removed}

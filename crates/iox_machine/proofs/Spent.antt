@@ -4,13 +4,13 @@ use Rattle.std.proofs.Common.{subst, inl, inr, arith, ◌∙◌}
 use Rattle.std.proofs.lemmas.Bool.{eqb-true}
 use Rattle.std.specs.List.{cons_option}
 use Rattle.std.specs.Prelude.{◌==◌, find, is_some, filter_map, option_map, MatchBool}
-use Rattle.iox_machine.specs.RunLaws.{sent_as}
 use Rattle.iox_machine.specs.Choices.{Choices}
-use Rattle.iox_machine.specs.Message.{Loan, is_written}
+use Rattle.iox_machine.specs.Message.{Loan}
+use Rattle.iox_machine.specs.RunLaws.{is_written, sent_as}
 use Rattle.iox_machine.specs.NumberLaws.{loan_told, numbers_in}
 use Rattle.iox_machine.specs.OnceLaws.{LoansAreSpentOnce, is_skipped, spent_by, spent_in}
 use Rattle.iox_machine.specs.Ports.{SendsLoan}
-use Rattle.iox_machine.specs.Replies.{IsSkipped}
+use Rattle.iox_machine.proofs.Shorthands.{IsSkipped}
 use Rattle.iox_machine.specs.Run.{Step, Runs}
 use Rattle.iox_machine.specs.Sending.{Sends}
 use Rattle.iox_machine.specs.Service.{Service, Publisher}

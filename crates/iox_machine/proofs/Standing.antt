@@ -8,7 +8,8 @@ use Rattle.iox_machine.specs.Agreement.{Agreement}
 use Rattle.iox_machine.specs.AgreementLaws.{agreed_in, IsPublishedBy}
 use Rattle.iox_machine.specs.Asked.{settings_of}
 use Rattle.iox_machine.specs.IndependenceLaws.{is_factory_of, is_of}
-use Rattle.iox_machine.specs.Phase.{Node, Own, Foreign, Phase, Absent, BeingMade, Published, Emptied, is_in, entered, closed_by, acted}
+use Rattle.iox_machine.specs.Phase.{Node, Own, Foreign, Phase, Absent, BeingMade, Published, Emptied, is_in, entered, acted}
+use Rattle.iox_machine.proofs.Shorthands.{closed_by}
 use Rattle.iox_machine.specs.Service.{Service}
 use Rattle.iox_machine.specs.State.{Factory}
 use Rattle.iox_machine.specs.Table.{at, removed}

@@ -4,14 +4,14 @@ use Rattle.std.proofs.Common.{inl, inr, arith, ◌∙◌, true≢false}
 use Rattle.std.proofs.lemmas.Bool.{eq-eqb, false_from_ne_true}
 use Rattle.std.proofs.lemmas.Map.Keys.{IsDistinct-head, IsDistinct-tail, IsDistinct-cons}
 use Rattle.std.specs.List.{AllByRecursion, list_any}
-use Rattle.std.specs.Prelude.{◌==◌, filter, find}
+use Rattle.std.specs.Prelude.{◌==◌, filter, find, bytes_eq}
 use Rattle.iox_machine.specs.Agreement.{Agreement}
 use Rattle.iox_machine.specs.AgreementLaws.{AreApart}
 use Rattle.iox_machine.specs.Factories.{with_open}
 use Rattle.iox_machine.specs.IndependenceLaws.{is_factory_of, is_of}
 use Rattle.iox_machine.specs.Phase.{Phase, Absent, BeingMade, Published, Emptied, same_pattern}
 use Rattle.iox_machine.specs.Service.{Service, new_service}
-use Rattle.iox_machine.specs.State.{State, Made, Factory, counted, with_phase, is_service_of, same_name, replaced}
+use Rattle.iox_machine.specs.State.{State, Made, Factory, counted, with_phase, is_service_of, replaced}
 use Rattle.iox_machine.proofs.Beginning.{or-first, or-second}
 use Rattle.iox_machine.proofs.Cases.{same-some}
 use Rattle.iox_machine.proofs.Counts.{has, one_if}
@@ -93,16 +93,16 @@ all-swapped P (x ∷ xs) h = (λ a. (h a).0, all-swapped P xs (λ a. (h a).1))
 module _ {T : Type 0} where
   -- whether two services have one name
   abbrev one_name : Service T → Service T → Bool
-  one_name one other = same_name other.name one.name
+  one_name one other = bytes_eq other.name one.name
 
   pub distinct-joined : (one : Service T) (services : List (Service T))
-      → AllByRecursion (λ (other : Service T). same_name other.name one.name ≡ false) services → AreApart services
+      → AllByRecursion (λ (other : Service T). bytes_eq other.name one.name ≡ false) services → AreApart services
       → AreApart (services ++ one ∷ [])
   distinct-joined one [] none apart = IsDistinct-cons one_name one [] tt apart
   distinct-joined one (other ∷ more) none apart =
       IsDistinct-cons one_name other (more ++ one ∷ [])
-      (all-joined (λ (it : Service T). same_name it.name other.name ≡ false) more (one ∷ []) (IsDistinct-head one_name other more apart)
-      (false_from_ne_true (same_name one.name other.name) (λ is. true≢false (sym (name-turned one.name other.name is) ∙ none.0)), tt))
+      (all-joined (λ (it : Service T). bytes_eq it.name other.name ≡ false) more (one ∷ []) (IsDistinct-head one_name other more apart)
+      (false_from_ne_true (bytes_eq one.name other.name) (λ is. true≢false (sym (name-turned one.name other.name is) ∙ none.0)), tt))
       (distinct-joined one more none.1 (IsDistinct-tail one_name other more apart))
 
   pub distinct-filtered : (test : Service T → Bool) (services : List (Service T)) → AreApart services → AreApart (filter test services)
@@ -113,7 +113,7 @@ module _ {T : Type 0} where
       here : (b : Bool) → AreApart (filter test more) → AreApart (cond b (one ∷ filter test more) (filter test more))
       here true on =
           IsDistinct-cons one_name one (filter test more)
-          (all-filtered (λ (it : Service T). same_name it.name one.name ≡ false) test more (IsDistinct-head one_name one more apart)) on
+          (all-filtered (λ (it : Service T). bytes_eq it.name one.name ≡ false) test more (IsDistinct-head one_name one more apart)) on
       here false on = on
 
   distinct-replaced : (has_it : Service T → Bool) (service after : Service T) (services : List (Service T)) → after.name ≡ service.name
@@ -128,15 +128,15 @@ module _ {T : Type 0} where
           → AreApart (cond b (after ∷ more) (one ∷ replaced has_it after more))
       here true found on =
           IsDistinct-cons one_name after more
-          (subst (λ (name : List ℕ). AllByRecursion (λ (it : Service T). same_name it.name name ≡ false) more)
+          (subst (λ (name : List ℕ). AllByRecursion (λ (it : Service T). bytes_eq it.name name ≡ false) more)
           (sym (same ∙ ap (λ (it : Service T). it.name) (sym (same-some one service found))))
           (IsDistinct-head one_name one more apart))
           (IsDistinct-tail one_name one more apart)
       here false found on =
           IsDistinct-cons one_name one (replaced has_it after more)
-          (replaced-keeps (λ (it : Service T). same_name it.name one.name ≡ false) (λ (it : Service T). same_name it.name one.name ≡ false)
+          (replaced-keeps (λ (it : Service T). bytes_eq it.name one.name ≡ false) (λ (it : Service T). bytes_eq it.name one.name ≡ false)
           has_it service after more (λ it no. no)
-          (λ no. subst (λ (name : List ℕ). same_name name one.name ≡ false) (sym same) no) found
+          (λ no. subst (λ (name : List ℕ). bytes_eq name one.name ≡ false) (sym same) no) found
           (IsDistinct-head one_name one more apart))
           (on found)
 
@@ -259,7 +259,7 @@ module _ {T : Type 0} where
               → Linked (settings.PublishSubscribe it.settings) (old.phases pattern name)) has_it service after old.services
               (λ it linked. linked)
               (λ linked of. subst (λ (c : StaticConfig). Linked (settings.PublishSubscribe c) (old.phases pattern name)) (sym kept.settings)
-              (linked (subst (λ (it : List ℕ). (same_pattern pattern messaging.PublishSubscribe && same_name it name)
+              (linked (subst (λ (it : List ℕ). (same_pattern pattern messaging.PublishSubscribe && bytes_eq it name)
               ≡ true) kept.name of)))
               first (stands.fits pattern name).linked;
         };
@@ -272,7 +272,7 @@ module _ {T : Type 0} where
             (λ (it : Service T). list_any (λ (entry : ℕ × Factory). is_service_of entry.1 it) old.factories ≡ true)
             has_it service after old.services (λ it manned. manned)
             (λ manned. subst (λ (name : List ℕ). list_any (λ (entry : ℕ × Factory).
-            same_pattern entry.1.pattern messaging.PublishSubscribe && same_name name entry.1.name) old.factories ≡ true) (sym kept.name)
+            same_pattern entry.1.pattern messaging.PublishSubscribe && bytes_eq name entry.1.name) old.factories ≡ true) (sym kept.name)
             manned) first stands.manned;
         served = all-weaker
             (λ (entry : ℕ × Factory). same_pattern entry.1.pattern messaging.PublishSubscribe ≡ true
@@ -280,7 +280,7 @@ module _ {T : Type 0} where
             (λ (entry : ℕ × Factory). same_pattern entry.1.pattern messaging.PublishSubscribe ≡ true
             → list_any (is_service_of entry.1) (replaced has_it after old.services) ≡ true)
             (λ entry served is.
-            any-replaced (λ (name : List ℕ). same_pattern entry.1.pattern messaging.PublishSubscribe && same_name name entry.1.name) has_it
+            any-replaced (λ (name : List ℕ). same_pattern entry.1.pattern messaging.PublishSubscribe && bytes_eq name entry.1.name) has_it
             service after old.services kept.name first ∙ served is) old.factories stands.served;
       })
 
@@ -291,14 +291,14 @@ module _ {T : Type 0} where
   IsOpened pattern name phase services opened =
       ((opened ≡ services)
       × (same_pattern pattern messaging.PublishSubscribe ≡ true
-      → list_any (λ (service : Service T). same_name service.name name) services ≡ true))
+      → list_any (λ (service : Service T). bytes_eq service.name name) services ≡ true))
       ⊎ ((c : StaticConfig) × (opened ≡ services ++ new_service name c ∷ [])
-      × (list_any (λ (service : Service T). same_name service.name name) services ≡ false)
+      × (list_any (λ (service : Service T). bytes_eq service.name name) services ≡ false)
       × (pattern ≡ messaging.PublishSubscribe) × Linked (settings.PublishSubscribe c) phase)
 
   -- whether a service has a name
   abbrev pub is_there : List ℕ → List (Service T) → Bool
-  is_there name services = list_any (λ (service : Service T). same_name service.name name) services
+  is_there name services = list_any (λ (service : Service T). bytes_eq service.name name) services
 
   pub opened-so : (pattern : MessagingPattern) (name : List ℕ) (services : List (Service T)) (g : ℕ → ℕ) (node : ℕ) (phase : Phase)
       → 1 ≤ g node → Fits g pattern name services phase → IsOpened pattern name phase services (with_open name phase services)

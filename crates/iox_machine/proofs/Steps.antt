@@ -5,19 +5,18 @@ use Rattle.std.specs.Global.{Vec}
 use Rattle.std.specs.List.{AllByRecursion}
 use Rattle.std.specs.Prelude.{⊤, ◌==◌, nat_lt, is_some, fold, take, slice_get, MatchOption}
 use Rattle.std.specs.Vec.{vec_items}
-use Rattle.iox_machine.proofs.Shorthands.{factory_of, left}
+use Rattle.iox_machine.proofs.Shorthands.{factory_of, left, with_subscriber, with_publisher, IsSkipped}
 use Rattle.iox_machine.specs.Choices.{Choices}
 use Rattle.iox_machine.specs.Arriving.{PublisherArrives, SubscriberArrives, new_publisher, new_subscriber}
-use Rattle.iox_machine.specs.Message.{Message, Loan, Sample, is_written}
+use Rattle.iox_machine.specs.Message.{Message, Loan, Sample}
 use Rattle.iox_machine.specs.Phase.{acted}
 use Rattle.iox_machine.specs.Ports.{AtFree, AtBlocked, publisher_in, subscriber_in, LendsLoan, Puts, SendsLoan, Writes, Releases}
 use Rattle.iox_machine.specs.PublisherUpdate as publishing
 use Rattle.iox_machine.specs.Receiving.{Receives, has_samples}
-use Rattle.iox_machine.specs.Replies.{IsSkipped}
 use Rattle.iox_machine.specs.Run.{Step, AtFactory}
-use Rattle.iox_machine.specs.RunLaws.{BeginsToSend, has_begun, sent_as}
-use Rattle.iox_machine.specs.Sending.{GoesOn, Begins, numbered}
-use Rattle.iox_machine.specs.Service.{Service, Publisher, Subscriber, Send, with_publisher, with_subscriber}
+use Rattle.iox_machine.specs.RunLaws.{BeginsToSend, has_begun, sent_as, numbered, is_written}
+use Rattle.iox_machine.specs.Sending.{GoesOn, Begins}
+use Rattle.iox_machine.specs.Service.{Service, Publisher, Subscriber, Send}
 use Rattle.iox_machine.specs.State.{State, AtOne, is_service_of, counted, with_phase}
 use Rattle.iox_machine.specs.SubscriberUpdate as subscribing
 use Rattle.iox_machine.specs.Table.{at, removed}

@@ -14,7 +14,8 @@ use Rattle.iox_machine.specs.PortList.{those}
 use Rattle.iox_machine.specs.Ports.{subscriber_in}
 use Rattle.iox_machine.specs.Receiving.{IsGiver, Receives, gives, has_samples, lasting}
 use Rattle.iox_machine.specs.Run.{Step}
-use Rattle.iox_machine.specs.Service.{Service, Subscriber, mailbox, with_subscriber}
+use Rattle.iox_machine.specs.Service.{Service, Subscriber, mailbox}
+use Rattle.iox_machine.proofs.Shorthands.{with_subscriber}
 use Rattle.iox_machine.specs.State.{State, counted, new_state, replaced}
 use Rattle.iox_machine.specs.SubscriberUpdate as subscribing
 use Rattle.iox_machine.specs.Table.{at, contains}

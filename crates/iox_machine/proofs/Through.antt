@@ -12,8 +12,8 @@ use Rattle.iox_machine.specs.PortList.{those}
 use Rattle.iox_machine.specs.Ports.{publisher_in, subscriber_in}
 use Rattle.iox_machine.specs.PublisherUpdate as publishing
 use Rattle.iox_machine.specs.RefusalLaws.{KeepsMessages, KeepsPorts, publisher_staying, subscriber_staying}
-use Rattle.iox_machine.specs.Replies.{IsRefused, IsSkipped}
-use Rattle.iox_machine.specs.Service.{Publisher, Service, Subscriber, connect, mailbox, with_mailbox, with_publisher, with_subscriber}
+use Rattle.iox_machine.specs.Service.{Publisher, Service, Subscriber, connect, mailbox, with_mailbox}
+use Rattle.iox_machine.proofs.Shorthands.{with_publisher, with_subscriber, IsSkipped, IsRefused}
 use Rattle.iox_machine.specs.State.{State, replaced}
 use Rattle.iox_machine.specs.SubscriberUpdate as subscribing
 use Rattle.iox_machine.specs.Table.{at, contains}

@@ -11,7 +11,7 @@ use Rattle.iox_machine.specs.NumberLaws.{numbers_in}
 use Rattle.iox_machine.specs.Run.{Runs, Step}
 use Rattle.iox_machine.specs.SequenceLaws.{SequenceStays}
 use Rattle.iox_machine.specs.Service.{Service}
-use Rattle.iox_machine.specs.Replies.{IsSkipped}
+use Rattle.iox_machine.proofs.Shorthands.{IsSkipped}
 use Rattle.iox_machine.specs.State.{Made, State, counted, new_state, replaced}
 use Rattle.iox_machine.specs.Table.{at, contains}
 use Rattle.iox_machine.proofs.Cases.{by-option, never-some, same-some}

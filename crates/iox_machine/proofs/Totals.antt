@@ -1,11 +1,11 @@
 -- What services weigh together, and how that changes with one of them.
 use Rattle.std.proofs.Common.{◌≡◌, ◌≤◌, ◌+◌, ℕ, Bool, true, false, cond, List, [], ◌∷◌, ◌++◌, Some, sym, ap, subst, arith}
 use Rattle.std.specs.List.{list_any}
-use Rattle.std.specs.Prelude.{filter, find}
+use Rattle.std.specs.Prelude.{filter, find, bytes_eq}
 use Rattle.iox_machine.specs.Factories.{with_open}
 use Rattle.iox_machine.specs.Phase.{Phase, Absent, BeingMade, Published, Emptied}
 use Rattle.iox_machine.specs.Service.{Service, new_service}
-use Rattle.iox_machine.specs.State.{replaced, same_name}
+use Rattle.iox_machine.specs.State.{replaced}
 use Rattle.iox_machine.proofs.Cases.{same-some, never-some}
 use Rattle.iox_command.specs.NegotiateBase.DescribeSettings.declared.static_config.Settings.{Settings}
 use Rattle.iox_command.specs.NegotiateBase.DescribeSettings.declared.static_config.Settings.TheVariants as settings
@@ -94,11 +94,11 @@ module _ {T : Type 0} (weight : Service T → ℕ) where
       made c false = total-more (new_service name c) services (none c)
 
       here : (s : Settings) → total (elim s [
-        | settings.PublishSubscribe c ↦ cond (list_any (λ (service : Service T). same_name service.name name) services) services
+        | settings.PublishSubscribe c ↦ cond (list_any (λ (service : Service T). bytes_eq service.name name) services) services
             (services ++ new_service name c ∷ [])
         | settings.Event c ↦ services
         | settings.RequestResponse c ↦ services
       ]) ≤ total services
-      here (settings.PublishSubscribe c) = made c (list_any (λ (service : Service T). same_name service.name name) services)
+      here (settings.PublishSubscribe c) = made c (list_any (λ (service : Service T). bytes_eq service.name name) services)
       here (settings.Event c) = omega arith
       here (settings.RequestResponse c) = omega arith

@@ -4,21 +4,20 @@ use Rattle.std.proofs.Common.{drop, Option, None, Some, refl, sym, ap, subst, in
 use Rattle.std.proofs.lemmas.Bool.{eq-eqb, eqb-false, eqb-true, leb-false, or_right}
 use Rattle.std.specs.Option.{option_map_or}
 use Rattle.std.specs.Prelude.{◌==◌, find, is_some, nat_le, slice_get, unwrap_or, MatchBool, MatchOption, zip}
-use Rattle.iox_machine.specs.RunLaws.{sent_as}
 use Rattle.iox_machine.specs.Choices.{Choices}
 use Rattle.iox_machine.proofs.Delivering.{Outcomes, by-outcome, keeping, sending, at_once, by-send}
-use Rattle.iox_machine.specs.Sending.{Delivers, MayDecide, numbered}
+use Rattle.iox_machine.specs.RunLaws.{numbered, sent_as, is_written}
 use Rattle.iox_machine.specs.Mailbox.{Mailbox, newest, put}
-use Rattle.iox_machine.specs.Message.{Loan, Message, is_written}
+use Rattle.iox_machine.specs.Message.{Loan, Message}
 use Rattle.iox_machine.specs.PortList.{those}
 use Rattle.iox_machine.specs.Ports.{Puts, SendsLoan, publisher_in}
 use Rattle.iox_machine.specs.PublisherUpdate as publishing
 use Rattle.iox_machine.specs.RefusalLaws.{IsRetried, IsSentBy, IsUndelivered, KeepsMessages, KeepsPorts, LacksOne, RetriesLeave}
 use Rattle.iox_machine.specs.RefusalLaws.{UndeliveredLeaves, is_sending, loans_left, offered_to}
-use Rattle.iox_machine.specs.Replies.{IsRefused, IsSkipped}
 use Rattle.iox_machine.specs.Run.{Runs, Step}
-use Rattle.iox_machine.specs.Sending.{Begins, GoesOn, Sends}
-use Rattle.iox_machine.specs.Service.{Publisher, Send, Service, Subscriber, mailbox, with_mailbox, with_publisher}
+use Rattle.iox_machine.specs.Sending.{Begins, GoesOn, Sends, Delivers, MayDecide}
+use Rattle.iox_machine.specs.Service.{Publisher, Send, Service, Subscriber, mailbox, with_mailbox}
+use Rattle.iox_machine.proofs.Shorthands.{with_publisher, IsSkipped, IsRefused}
 use Rattle.iox_machine.specs.State.{State, new_state, replaced}
 use Rattle.iox_machine.specs.Table.{at, contains, removed}
 use Rattle.iox_machine.proofs.Cases.{both-true, by-bool, by-option, chosen, never-some}

@@ -1,13 +1,12 @@
 -- A service that isn't created for its settings: it is refused to the node, and nothing changes.
 use Rattle.std.proofs.Common.{◌⊎◌, ◌&&◌, List, Option, None, Some, inl, inr}
 use Rattle.std.specs.Prelude.{nat_le, MatchOption}
-use Rattle.iox_machine.proofs.Shorthands.{RefusesNode}
 use Rattle.iox_machine.specs.Agreement.{unfit}
 use Rattle.iox_machine.specs.Asked.{settings_of}
 use Rattle.iox_machine.specs.Factories.{Negotiates, CreatesService, create_refusal}
 use Rattle.iox_machine.specs.Negotiation.{Creates}
 use Rattle.iox_machine.specs.Phase.{Own}
-use Rattle.iox_machine.specs.Replies.{IsSkipped, IsRefused}
+use Rattle.iox_machine.proofs.Shorthands.{IsSkipped, IsRefused, RefusesNode}
 use Rattle.iox_machine.specs.State.{State, Factory}
 use Rattle.iox_machine.proofs.Cases.{by-bool, by-option}
 use Rattle.iox_command.specs.NegotiateBase.DescribeBase.declared.attribute.Attribute.{Attribute}

@@ -3,22 +3,22 @@ use Rattle.std.proofs.Common.{◌≡◌, ◌⊎◌, ◌+◌, ℕ, Bool, true, fa
 use Rattle.std.proofs.Common.{None, Some, refl, sym, ap, subst, inl, inr, ◌∙◌}
 use Rattle.std.specs.Global.{Vec}
 use Rattle.std.specs.List.{list_all, list_any}
-use Rattle.std.specs.Prelude.{◌^◌, ◌==◌, nat_le, nat_lt, is_some, filter, find, fold, slice_get, take, MatchBool, MatchOption}
+use Rattle.std.specs.Prelude.{◌^◌, ◌==◌, nat_le, nat_lt, is_some, filter, find, fold, slice_get, take, MatchBool, MatchOption, bytes_eq}
 use Rattle.std.specs.Vec.{vec_items}
-use Rattle.iox_machine.proofs.Shorthands.{factory_of, left, registered}
+use Rattle.iox_machine.proofs.Shorthands.{factory_of, left, registered, with_subscriber, with_publisher, IsRefused, IsSkipped}
 use Rattle.iox_machine.specs.Choices.{Choices}
 use Rattle.iox_machine.specs.Arriving.{PublisherArrives, SubscriberArrives, new_publisher, new_subscriber, worst_case}
 use Rattle.iox_machine.specs.Factories.{with_open}
-use Rattle.iox_machine.specs.Message.{Loan, Sample, is_written}
+use Rattle.iox_machine.specs.Message.{Loan, Sample}
+use Rattle.iox_machine.specs.RunLaws.{is_written}
 use Rattle.iox_machine.specs.Phase.{Phase, acted, same_pattern}
 use Rattle.iox_machine.specs.Ports.{AtFree, AtBlocked, LendsLoan, Puts, Releases, SendsLoan, Writes, publisher_in, subscriber_in}
 use Rattle.iox_machine.specs.PublisherUpdate as publishing
 use Rattle.iox_machine.specs.Receiving.{Receives, has_samples}
-use Rattle.iox_machine.specs.Replies.{IsRefused, IsSkipped}
 use Rattle.iox_machine.specs.Run.{AtFactory, Step}
 use Rattle.iox_machine.specs.Sending.{GoesOn}
-use Rattle.iox_machine.specs.Service.{Publisher, Send, Service, Subscriber, with_publisher, with_subscriber}
-use Rattle.iox_machine.specs.State.{AtOne, Factory, Made, State, counted, is_service_of, replaced, same_name, with_phase}
+use Rattle.iox_machine.specs.Service.{Publisher, Send, Service, Subscriber}
+use Rattle.iox_machine.specs.State.{AtOne, Factory, Made, State, counted, is_service_of, replaced, with_phase}
 use Rattle.iox_machine.specs.SubscriberUpdate as subscribing
 use Rattle.iox_machine.specs.Table.{at, removed}
 use Rattle.iox_machine.proofs.Cases.{by-bool, by-option}
@@ -258,7 +258,7 @@ module _ {T : Type 0} where
         stays (reply.Refused (refusal.Close _)) old old new answer refused refl refl
     closed-comes number old answer new (inr (inr (factory, found, unused, told, came))) = (
       ap (λ (state : State T). state.made) came ∙ ap (λ (it : Reply T). counted it old.made) (sym told),
-      fewer (list_any (λ (entry : ℕ × Factory). same_pattern entry.1.pattern factory.pattern && same_name entry.1.name factory.name)
+      fewer (list_any (λ (entry : ℕ × Factory). same_pattern entry.1.pattern factory.pattern && bytes_eq entry.1.name factory.name)
           (removed number old.factories)) (ap (λ (state : State T). state.services) came),
     )
       where

@@ -1,7 +1,6 @@
 -- What the nodes of a service agree on, and whether that can be and is as it was asked for.
-use Rattle.std.specs.Prelude.{ℕ, ◌^◌, Bool, true, false, not, ◌&&◌, ◌==◌, nat_eq, nat_lt, nat_le, List, [], ◌∷◌, Option, None, Some}
+use Rattle.std.specs.Prelude.{ℕ, ◌^◌, Bool, true, false, not, ◌&&◌, ◌==◌, bytes_eq, nat_lt, nat_le, List, [], ◌∷◌, Option, None, Some}
 use Rattle.std.specs.Prelude.{Result, Ok, Err, if◌then◌else◌}
-use Rattle.std.specs.Cmp.Lexicographic.{pointwise}
 use Rattle.std.specs.List.{list_any, list_all}
 use Rattle.iox_command.specs.NegotiateBase.DescribeBase.Attributes.{Required}
 use Rattle.iox_command.specs.NegotiateBase.DescribeBase.Compatible.{is_compatible}
@@ -69,9 +68,9 @@ is_as_named named given = false
 -- whether attributes have all that is required of them: each pair, and each key with some value
 abbrev pub have_required : Required → List Attribute → Bool
 have_required required attributes =
-    list_all (λ pair. list_any (λ one. pointwise nat_eq one.key pair.key && pointwise nat_eq one.value pair.value) attributes)
+    list_all (λ pair. list_any (λ one. bytes_eq one.key pair.key && bytes_eq one.value pair.value) attributes)
     required.pairs
-    && list_all (λ key. list_any (λ one. pointwise nat_eq one.key key) attributes) required.keys
+    && list_all (λ key. list_any (λ one. bytes_eq one.key key) attributes) required.keys
 
 -- what clauses come to, each with whether it is met: that all are, or the first that isn't
 abbrev pub verdict_on : {E : Type 0} → List (Bool × E) → Result (Unit {0}) E

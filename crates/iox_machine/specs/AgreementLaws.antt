@@ -1,5 +1,5 @@
 -- Laws of agreements: what nodes agree on under a pattern and a name, and what a new life of it starts with.
-use Rattle.std.specs.Prelude.{ℕ, ◌≡◌, ◌⊎◌, ◌<◌, ◌≤◌, ◌&&◌, true, false, List, [], ◌∷◌, length, Option, None, Some}
+use Rattle.std.specs.Prelude.{ℕ, ◌≡◌, ◌⊎◌, ◌<◌, ◌≤◌, ◌&&◌, true, false, List, [], ◌∷◌, length, Option, None, Some, bytes_eq}
 use Rattle.std.specs.List.{AllByRecursion, IsDistinct, list_any}
 use Rattle.iox_machine.specs.Choices.{Choices}
 use Rattle.iox_machine.specs.Agreement.{Agreement}
@@ -7,7 +7,7 @@ use Rattle.iox_machine.specs.Asked.{settings_of}
 use Rattle.iox_machine.specs.Phase.{Node, Own, Phase, Absent, BeingMade, Published, Emptied, is_in, same_pattern, has_numbers}
 use Rattle.iox_machine.specs.Run.{Step, Runs}
 use Rattle.iox_machine.specs.Service.{Service, new_service}
-use Rattle.iox_machine.specs.State.{State, Made, Factory, new_state, is_service_of, same_name}
+use Rattle.iox_machine.specs.State.{State, Made, Factory, new_state, is_service_of}
 use Rattle.iox_command.specs.NegotiateBase.DescribeBase.declared.attribute.Attribute.{Attribute}
 use Rattle.iox_command.specs.NegotiateBase.DescribeBase.declared.message_type.MessageTypeDetails.{MessageTypeDetails}
 use Rattle.iox_command.specs.NegotiateBase.DescribeBase.declared.pattern.MessagingPattern.{MessagingPattern}
@@ -45,7 +45,7 @@ IsPublished phase So = (life : ℕ) × (agreed : Agreement) × (nodes : List (No
 module _ {T : Type 0} where
   -- No two services have one name.
   abbrev pub AreApart : List (Service T) → Type 0
-  AreApart services = IsDistinct (λ (one other : Service T). same_name other.name one.name) services
+  AreApart services = IsDistinct (λ (one other : Service T). bytes_eq other.name one.name) services
 
   -- A service has the settings that are published under its name, and the hub has a factory of it.
   abbrev pub IsAgreed : State T → Service T → Type 0
@@ -145,7 +145,7 @@ module _ {T : Type 0} (choices : Choices T) where
   abbrev pub ServicesStartEmpty : Type 0
   ServicesStartEmpty = (types : MessageTypeDetails) (buffer : ℕ) (asked : Command T) (old : State T) (answer : Reply T) (new : State T)
       → Step types choices buffer asked old answer new
-      → AllByRecursion (λ service. (list_any (λ other. same_name other.name service.name) old.services ≡ true)
+      → AllByRecursion (λ service. (list_any (λ other. bytes_eq other.name service.name) old.services ≡ true)
       ⊎ (service ≡ new_service service.name service.settings)) new.services
 
   -- Once a new machine has no factory of a service, it has no such service. What is later of that name goes by numbers that were not given
@@ -154,7 +154,7 @@ module _ {T : Type 0} (choices : Choices T) where
   LivesStartAnew = (types : MessageTypeDetails) (buffer : ℕ) (before : List (Command T)) (told : List (Reply T)) (old : State T)
       → Runs types choices buffer before new_state told old
       → (name : List ℕ)
-      → list_any (λ entry. same_pattern entry.1.pattern pattern.PublishSubscribe && same_name name entry.1.name) old.factories ≡ false
-      → (list_any (λ service. same_name service.name name) old.services ≡ false)
+      → list_any (λ entry. same_pattern entry.1.pattern pattern.PublishSubscribe && bytes_eq name entry.1.name) old.factories ≡ false
+      → (list_any (λ service. bytes_eq service.name name) old.services ≡ false)
       × ((asked : List (Command T)) (answers : List (Reply T)) (new : State T) → Runs types choices buffer asked old answers new
-      → AllByRecursion (λ service. same_name service.name name ≡ true → IsLaterThan old.made service) new.services)
+      → AllByRecursion (λ service. bytes_eq service.name name ≡ true → IsLaterThan old.made service) new.services)

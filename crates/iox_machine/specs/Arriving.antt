@@ -1,13 +1,12 @@
 -- How publishers and subscribers come.
 use Rattle.std.specs.Prelude.{ℕ, ◌+◌, ◌*◌, ◌^◌, ◌≡◌, ◌⊎◌, ◌||◌, true, false, nat_lt, nat_le, min, max, [], ◌∷◌, ◌++◌, replicate, set}
-use Rattle.std.specs.Prelude.{slice_get, None, Some, is_some, unwrap_or, MatchBool}
+use Rattle.std.specs.Prelude.{slice_get, None, Some, is_some, unwrap_or, MatchBool, if◌then◌else◌}
 use Rattle.std.specs.List.{list_all}
 use Rattle.iox_machine.specs.PortList.{relisted}
 use Rattle.iox_machine.specs.PublisherUpdate as publishing
 use Rattle.iox_machine.specs.Service.{Service, Publisher, Subscriber}
 use Rattle.iox_machine.specs.SubscriberUpdate as subscribing
-use Rattle.iox_machine.specs.Replies.{IsRefused}
-use Rattle.iox_command.specs.DomainValues.Sequences.{before_first}
+use Rattle.iox_machine.specs.Replies.{OnlyAnswers}
 use Rattle.iox_command.specs.DomainValues.declared.backpressure_strategy.BackpressureStrategy.TheVariants.{RetryUntilDelivered}
 use Rattle.iox_command.specs.DomainValues.declared.create_error.PublisherCreateError.TheVariants as publisher_error
 use Rattle.iox_command.specs.DomainValues.declared.create_error.SubscriberCreateError.TheVariants as subscriber_error
@@ -58,7 +57,7 @@ module _ {T : Type 0} where
         segments = 1;
         first = 1;
         next = 1;
-        last_sequence = before_first settings.sequence_numbers 1;
+        last_sequence = if settings.sequence_numbers then Some 0 else None;
         history = [];
         seen = 0;
         connected = replicate settings.max_subscribers None;
@@ -70,10 +69,10 @@ module _ {T : Type 0} where
   abbrev pub PublisherArrives : ℕ → Publisher T → Service T → Reply T → Service T → Type 0
   PublisherArrives number publisher old answer new =
       MatchBool (nat_le (2 ^ 32) (worst_case old.settings publisher.max_loaned_samples) || nat_le (2 ^ 32) publisher.room)
-      (IsRefused (refusal.Publisher publisher_error.UnableToCreateDataSegment) old answer new)
+      (OnlyAnswers (reply.Refused (refusal.Publisher publisher_error.UnableToCreateDataSegment)) old answer new)
       (MatchBool (list_all is_some old.publisher_list.places)
-      (IsRefused (refusal.Publisher publisher_error.ExceedsMaxSupportedPublishers) old answer new)
-      ((IsRefused (refusal.Publisher publisher_error.UnableToCreateDataSegment) old answer new)
+      (OnlyAnswers (reply.Refused (refusal.Publisher publisher_error.ExceedsMaxSupportedPublishers)) old answer new)
+      ((OnlyAnswers (reply.Refused (refusal.Publisher publisher_error.UnableToCreateDataSegment)) old answer new)
       ⊎ ((place : ℕ) × (slice_get old.publisher_list.places place ≡ Some None) × (after : Publisher T) × (mid : Service T)
       × publishing.Follows number publisher (record old { publishers = old.publishers ++ (number, publisher) ∷ [] }) after mid
       × (answer ≡ reply.PublisherMade number)
@@ -84,10 +83,10 @@ module _ {T : Type 0} where
   abbrev pub SubscriberArrives : ℕ → ℕ → Subscriber → Service T → Reply T → Service T → Type 0
   SubscriberArrives buffer number subscriber old answer new =
       MatchBool (nat_lt old.settings.subscriber_max_buffer_size subscriber.buffer_size)
-      (IsRefused (refusal.Subscriber subscriber_error.BufferSizeExceedsMaxSupportedBufferSizeOfService) old answer new)
+      (OnlyAnswers (reply.Refused (refusal.Subscriber subscriber_error.BufferSizeExceedsMaxSupportedBufferSizeOfService)) old answer new)
       (MatchBool (list_all is_some old.subscriber_list.places)
-      (IsRefused (refusal.Subscriber subscriber_error.ExceedsMaxSupportedSubscribers) old answer new)
-      ((IsRefused (refusal.Subscriber subscriber_error.OutOfMemory) old answer new)
+      (OnlyAnswers (reply.Refused (refusal.Subscriber subscriber_error.ExceedsMaxSupportedSubscribers)) old answer new)
+      ((OnlyAnswers (reply.Refused (refusal.Subscriber subscriber_error.OutOfMemory)) old answer new)
       ⊎ ((place : ℕ) × (slice_get old.subscriber_list.places place ≡ Some None) × (after : Subscriber) × (mid : Service T)
       × subscribing.Follows buffer number subscriber (record old { subscribers = old.subscribers ++ (number, subscriber) ∷ [] }) after mid
       × (answer ≡ reply.SubscriberMade number)

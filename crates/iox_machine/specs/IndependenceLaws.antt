@@ -1,5 +1,5 @@
 -- Laws of services beside one another.
-use Rattle.std.specs.Prelude.{ℕ, ◌≡◌, ⊤, Bool, true, false, ◌&&◌, List, [], ◌∷◌, map, find, filter, MatchBool, if◌then◌else◌}
+use Rattle.std.specs.Prelude.{ℕ, ◌≡◌, ⊤, Bool, true, false, ◌&&◌, List, [], ◌∷◌, map, find, filter, MatchBool, if◌then◌else◌, bytes_eq}
 use Rattle.std.specs.Option.{option_map_or}
 use Rattle.iox_machine.specs.Choices.{Choices}
 use Rattle.iox_machine.specs.Named.{has_named}
@@ -8,7 +8,7 @@ use Rattle.iox_machine.specs.Renaming.{Renaming, KeepsApart, renamed, renamed_re
 use Rattle.iox_machine.specs.Renumbering.{renumbered_choices, AreRenumbered, renumbered_table}
 use Rattle.iox_machine.specs.Run.{Step, Runs}
 use Rattle.iox_machine.specs.Service.{Service}
-use Rattle.iox_machine.specs.State.{State, Factory, new_state, same_name}
+use Rattle.iox_machine.specs.State.{State, Factory, new_state}
 use Rattle.iox_machine.specs.Table.{at}
 use Rattle.iox_command.specs.NegotiateBase.DescribeBase.declared.message_type.MessageTypeDetails.{MessageTypeDetails}
 use Rattle.iox_command.specs.NegotiateBase.DescribeBase.declared.pattern.MessagingPattern.{MessagingPattern}
@@ -20,12 +20,12 @@ use Rattle.iox_command.specs.declared.reply.Reply.{Reply}
 
 -- whether a factory is of the service of a pattern and name
 abbrev pub is_factory_of : MessagingPattern → List ℕ → Factory → Bool
-is_factory_of pattern name factory = same_pattern factory.pattern pattern && same_name factory.name name
+is_factory_of pattern name factory = same_pattern factory.pattern pattern && bytes_eq factory.name name
 
 module _ {T : Type 0} where
   -- whether a service is that of a pattern and name
   abbrev pub is_of : MessagingPattern → List ℕ → Service T → Bool
-  is_of pattern name service = same_pattern pattern PublishSubscribe && same_name service.name name
+  is_of pattern name service = same_pattern pattern PublishSubscribe && bytes_eq service.name name
 
   -- whether the first service that passes a test is that of a pattern and name
   abbrev pub is_first : MessagingPattern → List ℕ → (Service T → Bool) → State T → Bool
@@ -35,12 +35,12 @@ module _ {T : Type 0} where
   abbrev pub asks : MessagingPattern → List ℕ → Command T → State T → Bool
   asks pattern name command.Node state = false
   asks pattern name (command.Create node other options attributes steps) state =
-      same_pattern (pattern_of options) pattern && same_name other name
+      same_pattern (pattern_of options) pattern && bytes_eq other name
   asks pattern name (command.Open node other options required steps) state =
-      same_pattern (pattern_of options) pattern && same_name other name
+      same_pattern (pattern_of options) pattern && bytes_eq other name
   asks pattern name (command.OpenOrCreate node other options required steps) state =
-      same_pattern (pattern_of options) pattern && same_name other name
-  asks pattern name (command.Foreign one other steps) state = same_pattern one pattern && same_name other name
+      same_pattern (pattern_of options) pattern && bytes_eq other name
+  asks pattern name (command.Foreign one other steps) state = same_pattern one pattern && bytes_eq other name
   asks pattern name (command.Close factory) state = option_map_or (is_factory_of pattern name) (at factory state.factories) false
   asks pattern name (command.Publisher factory options) state =
       option_map_or (is_factory_of pattern name) (at factory state.factories) false

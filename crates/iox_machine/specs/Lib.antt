@@ -38,4 +38,5 @@ pub mod NumberLaws
 pub mod OnceLaws
 pub mod GoingLaws
 pub mod SequenceLaws
+pub mod LossLaws
 pub mod UseLaws

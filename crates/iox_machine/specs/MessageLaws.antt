@@ -10,8 +10,7 @@ use Rattle.iox_machine.specs.Message.{Message, Loan}
 use Rattle.iox_machine.specs.PortList.{those}
 use Rattle.iox_machine.specs.Ports.{publisher_in, subscriber_in}
 use Rattle.iox_machine.specs.Run.{Answers, Step, Runs}
-use Rattle.iox_machine.specs.RunLaws.{BeginsToSend, has_begun, sent_as}
-use Rattle.iox_machine.specs.Sending.{numbered}
+use Rattle.iox_machine.specs.RunLaws.{BeginsToSend, has_begun, numbered, sent_as}
 use Rattle.iox_machine.specs.Service.{Service, Publisher, Subscriber, mailbox}
 use Rattle.iox_machine.specs.State.{State, new_state}
 use Rattle.iox_machine.specs.Table.{at, contains}

@@ -69,10 +69,6 @@ abbrev pub removed_by : Node → Phase → Phase
 removed_by node (Emptied life agreed by) = if same_node by node then Absent life else Emptied life agreed by
 removed_by node phase = phase
 
--- a phase after a node of the hub left with one factory: a service that this empties is removed at once
-abbrev pub closed_by : ℕ → Phase → Phase
-closed_by node phase = removed_by (Own node) (left_by (Own node) phase)
-
 -- whether settings say that messages have sequence numbers; the first version of descriptions can't say it
 abbrev pub has_numbers : Settings → Bool
 has_numbers (settings.PublishSubscribe c) = c.sequence_numbers

@@ -7,9 +7,9 @@ use Rattle.iox_machine.specs.Choices.{Choices}
 use Rattle.iox_machine.specs.Message.{Message}
 use Rattle.iox_machine.specs.Mailbox.{Mailbox, newest}
 use Rattle.iox_machine.specs.PortList.{those, unless}
-use Rattle.iox_machine.specs.Service.{Service, Publisher, with_publisher, mailbox, with_mailbox, connect}
-use Rattle.iox_machine.specs.Table.{at, contains}
-use Rattle.iox_machine.specs.Replies.{IsRefused}
+use Rattle.iox_machine.specs.Service.{Service, Publisher, mailbox, with_mailbox, connect}
+use Rattle.iox_machine.specs.Table.{at, changed, contains}
+use Rattle.iox_machine.specs.Replies.{OnlyAnswers}
 use Rattle.iox_command.specs.DomainValues.declared.connection_failure.ConnectionFailure.{ConnectionFailure}
 use Rattle.iox_command.specs.DomainValues.declared.connection_failure.ConnectionFailure.TheVariants.{FailedToEstablishConnection}
 use Rattle.iox_command.specs.DomainValues.declared.connection_failure.ZeroCopyCreationError.{ZeroCopyCreationError}
@@ -19,6 +19,7 @@ use Rattle.iox_command.specs.DomainValues.declared.degradation.DegradationAction
 use Rattle.iox_command.specs.DomainValues.declared.degradation.DegradationAction.TheVariants.{DegradeAndFail, Warn, Ignore}
 use Rattle.iox_command.specs.declared.refusal.Refusal.{Refusal}
 use Rattle.iox_command.specs.declared.reply.Reply.{Reply}
+use Rattle.iox_command.specs.declared.reply.Reply.TheVariants as reply
 
 -- How the connection to the port that is listed at a place failed, if the port is connected to none there, or to another still.
 abbrev pub failure_at : Option ℕ → Option ℕ → Option ZeroCopyCreationError
@@ -58,7 +59,7 @@ module _ {T : Type 0} (number : ℕ) where
       × (list_all (λ subscriber. contains (those old.subscriber_list.places) subscriber && not
       (is_some (old.mailboxes number subscriber))) refused ≡ true)
       × (after ≡ record publisher { seen = old.subscriber_list.changes; connected = map (unless refused) old.subscriber_list.places })
-      × (new ≡ fold (welcome publisher.history) (with_publisher number after (ended old))
+      × (new ≡ fold (welcome publisher.history) (record (ended old) { publishers = changed number after old.publishers })
       (filter (λ subscriber. not (contains (those publisher.connected) subscriber)) (those after.connected)))
 
 module _ {T : Type 0} (choices : Choices T) (number : ℕ) where
@@ -75,4 +76,4 @@ module _ {T : Type 0} (choices : Choices T) (number : ℕ) where
       (zip old.subscriber_list.places after.connected) outcome
       × MatchResult outcome
       (λ done. Does after mid answer new)
-      (λ failure. IsRefused (told failure) mid answer new)))
+      (λ failure. OnlyAnswers (reply.Refused (told failure)) mid answer new)))

@@ -7,8 +7,8 @@ use Rattle.std.specs.Vec.{vec_items}
 use Rattle.iox_machine.specs.Message.{Message}
 use Rattle.iox_machine.specs.Mailbox.{has_data, is_idle}
 use Rattle.iox_machine.specs.PortList.{those}
-use Rattle.iox_machine.specs.Service.{Service, Subscriber, with_subscriber, mailbox, with_mailbox}
-use Rattle.iox_machine.specs.Table.{contains}
+use Rattle.iox_machine.specs.Service.{Service, Subscriber, mailbox, with_mailbox}
+use Rattle.iox_machine.specs.Table.{changed, contains}
 use Rattle.iox_command.specs.DomainValues.declared.port_error.ReceiveError.TheVariants.{ExceedsMaxBorrows}
 use Rattle.iox_command.specs.declared.refusal.Refusal.TheVariants as refusal
 use Rattle.iox_command.specs.declared.reply.Reply.{Reply}
@@ -52,7 +52,9 @@ module _ {T : Type 0} (number : ℕ) where
   -- A subscriber receives. Where no connection gives it is told whether some has data, of which as much is borrowed as may be.
   abbrev pub Receives : ℕ → Subscriber → Service T → Reply T → Service T → Type 0
   Receives sample subscriber old answer new =
-      let swept = with_subscriber number (record subscriber { expired = lasting old subscriber.expired }) old in
+      let swept = record old {
+        subscribers = changed number (record subscriber { expired = lasting old subscriber.expired }) old.subscribers;
+      } in
       (giver : Option ℕ) × IsGiver (find (gives old) subscriber.expired) subscriber old giver
       × MatchOption giver
       ((answer ≡ (if has_samples subscriber old then reply.Refused (refusal.Receive ExceedsMaxBorrows) else reply.NothingWaits)) ×

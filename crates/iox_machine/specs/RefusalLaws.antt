@@ -2,7 +2,7 @@
 use Rattle.std.specs.Prelude.{ℕ, zero, suc, ◌≡◌, ◌⊎◌, Bool, true, false, ◌&&◌, ◌==◌, nat_le, List, [], ◌∷◌, ◌++◌, length, take, map}
 use Rattle.std.specs.Prelude.{filter, fold, None, Some, find, option_map, unwrap_or, if◌then◌else◌}
 use Rattle.std.specs.Option.{option_map_or}
-use Rattle.iox_machine.specs.RunLaws.{sent_as}
+use Rattle.iox_machine.specs.RunLaws.{numbered, sent_as}
 use Rattle.iox_machine.specs.Choices.{Choices}
 use Rattle.iox_machine.specs.Mailbox.{Mailbox, newest, put}
 use Rattle.iox_machine.specs.Message.{Loan, Message}
@@ -10,10 +10,9 @@ use Rattle.iox_machine.specs.Named.{has_named}
 use Rattle.iox_machine.specs.Phase.{Phase, Absent, acted}
 use Rattle.iox_machine.specs.PortList.{those}
 use Rattle.iox_machine.specs.Run.{Runs, Step}
-use Rattle.iox_machine.specs.Sending.{numbered}
-use Rattle.iox_machine.specs.Service.{Publisher, Send, Service, Subscriber, mailbox, with_publisher}
+use Rattle.iox_machine.specs.Service.{Publisher, Send, Service, Subscriber, mailbox}
 use Rattle.iox_machine.specs.State.{State, new_state, replaced}
-use Rattle.iox_machine.specs.Table.{at, contains, removed}
+use Rattle.iox_machine.specs.Table.{at, changed, contains, removed}
 use Rattle.iox_command.specs.DomainValues.Actions.{decision_of}
 use Rattle.iox_command.specs.DomainValues.Sequences.{next_sequence}
 use Rattle.iox_command.specs.DomainValues.declared.backpressure.BackpressureDecision.TheVariants.{DiscardDataAndFail}
@@ -156,11 +155,14 @@ module _ {T : Type 0} where
       ≡ (if (publisher == number) && contains (those one.connected) subscriber
       then offered_to (numbered one message) (mailbox publisher subscriber old)
       else mailbox publisher subscriber old))
-      × (new ≡ record (with_publisher number (record one {
-        last_sequence = next_sequence one.last_sequence;
-        history = newest old.settings.history_size (one.history ++ numbered one message ∷ []);
-        blocked = None;
-      }) old) { mailboxes = new.mailboxes })
+      × (new ≡ record old {
+        publishers = changed number (record one {
+          last_sequence = next_sequence one.last_sequence;
+          history = newest old.settings.history_size (one.history ++ numbered one message ∷ []);
+          blocked = None;
+        }) old.publishers;
+        mailboxes = new.mailboxes;
+      })
 
   -- A send that was blocked went to those that were left, and couldn't deliver: each mailbox took its message that had room, one subscriber
   -- lacks it, now or from before, and no send is blocked.
@@ -172,7 +174,7 @@ module _ {T : Type 0} where
       then unwrap_or (put old.settings.enable_safe_overflow send.message (mailbox publisher subscriber old))
       (mailbox publisher subscriber old)
       else mailbox publisher subscriber old))
-      × (new ≡ record (with_publisher number (record one { blocked = None }) old) { mailboxes = new.mailboxes })
+      × (new ≡ record old { publishers = changed number (record one { blocked = None }) old.publishers; mailboxes = new.mailboxes })
 
 module _ {T : Type 0} (choices : Choices T) where
   -- A send, a put, a receive, an update or a look for data that is refused leaves all but the service that has what it names: all others,

@@ -1,23 +1,23 @@
 -- The machine: what each command does, what it is answered, and a run of commands.
-use Rattle.std.specs.Prelude.{ℕ, ◌+◌, ◌≡◌, ◌⊎◌, ◌&&◌, ◌==◌, nat_lt, Bool, false, List, [], ◌∷◌, ◌++◌, length, map, set, Some, None}
+use Rattle.std.specs.Prelude.{ℕ, ◌+◌, ◌≡◌, ◌⊎◌, ◌&&◌, ◌==◌, nat_lt, Bool, false, List, [], ◌∷◌, ◌++◌, length, map, set, Some, None, is_some}
 use Rattle.std.specs.Prelude.{MatchBool, MatchOption, if◌then◌else◌}
 use Rattle.std.specs.Global.{Vec}
+use Rattle.std.specs.List.{list_all}
 use Rattle.std.specs.Vec.{vec_items}
 use Rattle.iox_machine.specs.Choices.{Choices}
 use Rattle.iox_machine.specs.Arriving.{PublisherArrives, SubscriberArrives, new_publisher, new_subscriber}
 use Rattle.iox_machine.specs.Closing.{Closes}
 use Rattle.iox_machine.specs.Factories.{Acts, CreatesService, OpensService, OpensOrCreatesService}
-use Rattle.iox_machine.specs.Message.{is_written}
 use Rattle.iox_machine.specs.PortList.{unless, relisted}
 use Rattle.iox_machine.specs.Ports.{AtFree, AtBlocked, subscriber_in, LendsLoan, Puts, SendsLoan, Writes, Releases}
 use Rattle.iox_machine.specs.PublisherUpdate as publishing
 use Rattle.iox_machine.specs.Receiving.{Receives, has_samples}
 use Rattle.iox_machine.specs.Sending.{GoesOn}
-use Rattle.iox_machine.specs.Service.{Service, with_publisher, with_subscriber}
+use Rattle.iox_machine.specs.Service.{Service}
 use Rattle.iox_machine.specs.State.{State, new_state, counted, is_service_of, AtOne}
 use Rattle.iox_machine.specs.SubscriberUpdate as subscribing
-use Rattle.iox_machine.specs.Table.{at, removed}
-use Rattle.iox_machine.specs.Replies.{IsSkipped, IsRefused}
+use Rattle.iox_machine.specs.Table.{at, changed, removed}
+use Rattle.iox_machine.specs.Replies.{OnlyAnswers}
 use Rattle.iox_command.specs.DomainValues.declared.port_error.ReceiveError.TheVariants.{ConnectionFailure}
 use Rattle.iox_command.specs.NegotiateBase.DescribeBase.declared.message_type.MessageTypeDetails.{MessageTypeDetails}
 use Rattle.iox_command.specs.Patterns.{pattern_of}
@@ -45,14 +45,14 @@ module _ {T : Type 0} (types : MessageTypeDetails) (choices : Choices T) (buffer
   -- pattern.
   abbrev pub AtFactory : ℕ → (Service T → Reply T → Service T → Type 0) → State T → Reply T → State T → Type 0
   AtFactory number Does old answer new =
-      MatchOption (at number old.factories) (IsSkipped old answer new)
+      MatchOption (at number old.factories) (OnlyAnswers reply.Skipped old answer new)
       (λ factory. AtOne (λ service. if is_service_of factory service then Some service else None) (λ service. Does) old answer new)
 
   -- What each command does to the machine, and what it is answered.
   abbrev pub Step : Command T → State T → Reply T → State T → Type 0
   Step command.Node old answer new =
       ((answer ≡ reply.NodeMade (old.made.nodes + 1)) × (new ≡ record old { made = counted answer old.made }))
-      ⊎ (IsRefused (refusal.Hub OutOfMemory) old answer new)
+      ⊎ (OnlyAnswers (reply.Refused (refusal.Hub OutOfMemory)) old answer new)
   Step (command.Create node name options attributes steps) old answer new =
       CreatesService types steps (record { pattern = pattern_of options; name = name; node = node }) options attributes old answer new
   Step (command.Open node name options required steps) old answer new =
@@ -74,7 +74,8 @@ module _ {T : Type 0} (types : MessageTypeDetails) (choices : Choices T) (buffer
       (LendsLoan (old.made.loans + 1) publisher length None) old answer new
   Step (command.Set loan place value) old answer new =
       AtOne (λ service. at loan service.loans)
-      (λ one. Writes loan one (is_written one && nat_lt place (length one.values)) (set one.values place (Some value))) old answer new
+      (λ one. Writes loan one (list_all is_some one.values && nat_lt place (length one.values))
+      (set one.values place (Some value))) old answer new
   Step (command.Fill loan values) old answer new =
       AtOne (λ service. at loan service.loans)
       (λ one. Writes loan one (length values == length one.values) (map Some values)) old answer new
@@ -90,7 +91,7 @@ module _ {T : Type 0} (types : MessageTypeDetails) (choices : Choices T) (buffer
   Step (command.GiveUp publisher) old answer new =
       AtBlocked publisher
       (λ one send service answered after. (answered ≡ reply.Delivered send.delivered) ×
-      (after ≡ with_publisher publisher (record one { blocked = None }) service)) old answer new
+      (after ≡ record service { publishers = changed publisher (record one { blocked = None }) service.publishers })) old answer new
   Step (command.Receive subscriber) old answer new =
       AtOne (subscriber_in subscriber)
       (subscribing.UpdatesFirst choices buffer subscriber (λ failure. refusal.Receive (ConnectionFailure failure))
@@ -101,32 +102,36 @@ module _ {T : Type 0} (types : MessageTypeDetails) (choices : Choices T) (buffer
       (after ≡ service)) old answer new
   Step (command.Sequence sample) old answer new =
       AtOne (λ service. at sample service.samples)
-      (λ one service answered after. (answered ≡ reply.Sequence one.message.sequence) × (after ≡ service)) old answer new
+      (λ one. OnlyAnswers (reply.Sequence one.message.sequence)) old answer new
   Step (command.Release sample) old answer new = AtOne (λ service. at sample service.samples) (Releases sample) old answer new
   Step (command.Update (port.Publisher number)) old answer new =
       AtFree number
       (publishing.UpdatesFirst choices number refusal.Connection
-      (λ one service answered after. (answered ≡ reply.Done) × (after ≡ service))) old answer new
+      (λ one. OnlyAnswers reply.Done)) old answer new
   Step (command.Update (port.Subscriber number)) old answer new =
       AtOne (subscriber_in number)
       (subscribing.UpdatesFirst choices buffer number refusal.Connection
-      (λ one service answered after. (answered ≡ reply.Done) × (after ≡ service))) old answer new
+      (λ one. OnlyAnswers reply.Done)) old answer new
   Step (command.Leave (port.Publisher number)) old answer new =
       AtFree number
       (λ one service answered after. (answered ≡ reply.Done)
-      × (after ≡ with_publisher number (record one { stands = false })
-      (record service { publisher_list = relisted (map (unless (number ∷ [])) service.publisher_list.places) service.publisher_list })))
+      × (after ≡ record service {
+        publishers = changed number (record one { stands = false }) service.publishers;
+        publisher_list = relisted (map (unless (number ∷ [])) service.publisher_list.places) service.publisher_list;
+      }))
       old answer new
   Step (command.Leave (port.Subscriber number)) old answer new =
       AtOne (subscriber_in number)
       (λ one service answered after. (answered ≡ reply.Done)
-      × (after ≡ with_subscriber number (record one { stands = false })
-      (record service { subscriber_list = relisted (map (unless (number ∷ [])) service.subscriber_list.places) service.subscriber_list })))
+      × (after ≡ record service {
+        subscribers = changed number (record one { stands = false }) service.subscribers;
+        subscriber_list = relisted (map (unless (number ∷ [])) service.subscriber_list.places) service.subscriber_list;
+      }))
       old answer new
   Step (command.Has subscriber) old answer new =
       AtOne (subscriber_in subscriber)
       (subscribing.UpdatesFirst choices buffer subscriber refusal.Connection
-      (λ one service answered after. (answered ≡ reply.Has (has_samples subscriber one service)) × (after ≡ service))) old answer new
+      (λ one service. OnlyAnswers (reply.Has (has_samples subscriber one service)) service)) old answer new
 
   -- Commands one after the other, each with its answer.
   abbrev pub Runs : List (Command T) → State T → List (Reply T) → State T → Type 0

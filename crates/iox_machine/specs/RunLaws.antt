@@ -1,17 +1,18 @@
 -- Laws of every run of the machine.
 use Rattle.std.specs.Prelude.{ℕ, ◌≡◌, ◌≤◌, ◌⊎◌, Bool, true, false, List, [], ◌∷◌, length, filter_map, find, is_some, None, Some}
 use Rattle.std.specs.Global.{Vec}
-use Rattle.std.specs.List.{AllByRecursion}
+use Rattle.std.specs.List.{AllByRecursion, list_all}
 use Rattle.std.specs.Vec.{vec_items}
 use Rattle.iox_machine.specs.Choices.{Choices}
 use Rattle.iox_machine.specs.Mailbox.{Mailbox}
-use Rattle.iox_machine.specs.Message.{Message, Loan, is_written}
+use Rattle.iox_machine.specs.Message.{Message, Loan}
 use Rattle.iox_machine.specs.Phase.{Phase}
 use Rattle.iox_machine.specs.PortList.{those}
 use Rattle.iox_machine.specs.Run.{Step, Runs}
-use Rattle.iox_machine.specs.Service.{Service}
+use Rattle.iox_machine.specs.Service.{Publisher, Service}
 use Rattle.iox_machine.specs.State.{State, new_state, with_phase}
 use Rattle.iox_machine.specs.Table.{at}
+use Rattle.iox_command.specs.DomainValues.Sequences.{next_sequence}
 use Rattle.iox_command.specs.DomainValues.declared.port_error.SendError.TheVariants as error
 use Rattle.iox_command.specs.NegotiateBase.DescribeBase.declared.message_type.MessageTypeDetails.{MessageTypeDetails}
 use Rattle.iox_command.specs.NegotiateBase.DescribeBase.declared.pattern.MessagingPattern.{MessagingPattern}
@@ -30,9 +31,17 @@ has_begun (reply.Delivered count) = true
 has_begun (reply.Refused (refusal.Send error.UnableToDeliver)) = true
 has_begun other = false
 
+-- whether each value of a loan is written
+abbrev pub is_written : {T : Type 0} → Loan T → Bool
+is_written loan = list_all is_some loan.values
+
 -- the message that a written loan becomes when it is sent, before the send numbers it
 abbrev pub sent_as : {T : Type 0} → Loan T → Message T
 sent_as loan = record { number = loan.number; sequence = None; values = filter_map (λ value. value) loan.values }
+
+-- a message as its send numbers it: with the sequence number behind that of its publisher's last one, if messages have any
+abbrev pub numbered : {T : Type 0} → Publisher T → Message T → Message T
+numbered publisher message = record message { sequence = next_sequence publisher.last_sequence }
 
 -- A command began the send of a message of these values, by a publisher.
 abbrev pub BeginsToSend : {T : Type 0} → ℕ → List T → Command T → State T → Reply T → Type 0

@@ -1,28 +1,23 @@
 -- How a publisher sends.
 use Rattle.std.specs.Prelude.{ℕ, ◌+◌, ◌≡◌, ◌⊎◌, false, true, ◌&&◌, List, [], ◌∷◌, ◌++◌, slice_get, None, Some, is_some}
-use Rattle.std.specs.Prelude.{MatchBool, MatchOption, if◌then◌else◌}
+use Rattle.std.specs.Prelude.{option_map, MatchBool, MatchOption, if◌then◌else◌}
 use Rattle.std.specs.Option.{option_map_or}
 use Rattle.iox_machine.specs.Message.{Message}
 use Rattle.iox_machine.specs.Choices.{Choices}
 use Rattle.iox_machine.specs.Mailbox.{newest, put}
 use Rattle.iox_machine.specs.PortList.{those}
 use Rattle.iox_machine.specs.PublisherUpdate.{UpdatesFirst}
-use Rattle.iox_machine.specs.Service.{Service, Publisher, Send, with_publisher, mailbox, with_mailbox}
-use Rattle.iox_machine.specs.Table.{at, contains}
-use Rattle.iox_machine.specs.Replies.{IsRefused}
+use Rattle.iox_machine.specs.Service.{Service, Publisher, Send, mailbox, with_mailbox}
+use Rattle.iox_machine.specs.Table.{at, changed, contains}
+use Rattle.iox_machine.specs.Replies.{OnlyAnswers}
 use Rattle.iox_command.specs.DomainValues.Actions.{decision_of}
-use Rattle.iox_command.specs.DomainValues.Sequences.{next_sequence, is_used_up}
+use Rattle.iox_command.specs.DomainValues.Sequences.{is_used_up}
 use Rattle.iox_command.specs.DomainValues.declared.backpressure.BackpressureDecision.{BackpressureDecision}
 use Rattle.iox_command.specs.DomainValues.declared.backpressure.BackpressureDecision.TheVariants.{Retry, DiscardData, DiscardDataAndFail}
 use Rattle.iox_command.specs.DomainValues.declared.port_error.SendError.TheVariants as error
 use Rattle.iox_command.specs.declared.refusal.Refusal.TheVariants as refusal
 use Rattle.iox_command.specs.declared.reply.Reply.{Reply}
 use Rattle.iox_command.specs.declared.reply.Reply.TheVariants as reply
-
-module _ {T : Type 0} where
-  -- a message as its send numbers it: with the sequence number behind that of its publisher's last one, if messages have any
-  abbrev pub numbered : Publisher T → Message T → Message T
-  numbered publisher message = record message { sequence = next_sequence publisher.last_sequence }
 
 module _ {T : Type 0} (choices : Choices T) (number : ℕ) where
   -- What may be decided at the full mailbox of a subscriber: one that left, or that isn't connected to the publisher yet, is passed over;
@@ -54,19 +49,24 @@ module _ {T : Type 0} (choices : Choices T) (number : ℕ) where
       (after : Send T) × (mid : Service T) × Delivers publisher send.left send old after mid
       × (answer ≡ (if is_some (slice_get after.left 0) then reply.Blocked
       else (if after.fails then reply.Refused (refusal.Send error.UnableToDeliver) else reply.Delivered after.delivered)))
-      × (new ≡ with_publisher number (record publisher { blocked = if is_some (slice_get after.left 0) then Some after else None }) mid)
+      × (new ≡ record mid {
+        publishers = changed number (record publisher { blocked = if is_some (slice_get after.left 0) then Some after else None })
+            mid.publishers;
+      })
 
   -- A send begins: its message gets the publisher's next sequence number, if messages have any. The publisher keeps it in its history, and
   -- it goes to who is connected.
   abbrev pub Begins : Message T → Publisher T → Service T → Reply T → Service T → Type 0
   Begins message publisher old answer new =
+      let sequence = option_map (λ last. last + 1) publisher.last_sequence in
+      let sent = record message { sequence = sequence } in
       GoesOn
       (record publisher {
-        last_sequence = next_sequence publisher.last_sequence;
-        history = newest old.settings.history_size (publisher.history ++ numbered publisher message ∷ []);
+        last_sequence = sequence;
+        history = newest old.settings.history_size (publisher.history ++ sent ∷ []);
       })
       (record {
-        message = numbered publisher message;
+        message = sent;
         left = those publisher.connected;
         retries = 0;
         elapsed = 0;
@@ -80,7 +80,7 @@ module _ {T : Type 0} (choices : Choices T) (number : ℕ) where
   Sends message publisher old answer new =
       MatchBool publisher.stands
       (MatchBool (is_used_up publisher.last_sequence)
-      (IsRefused (refusal.Send error.InternalError) old answer new)
+      (OnlyAnswers (reply.Refused (refusal.Send error.InternalError)) old answer new)
       (UpdatesFirst choices number (λ failure. refusal.Send (error.ConnectionError failure)) (Begins message)
       publisher old answer new))
-      (IsRefused (refusal.Send error.ConnectionBrokenSinceSenderNoLongerExists) old answer new)
+      (OnlyAnswers (reply.Refused (refusal.Send error.ConnectionBrokenSinceSenderNoLongerExists)) old answer new)

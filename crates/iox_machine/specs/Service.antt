@@ -3,7 +3,6 @@ use Rattle.std.specs.Prelude.{ℕ, Bool, ◌&&◌, ◌==◌, List, [], replicate
 use Rattle.iox_machine.specs.Message.{Message, Loan, Sample}
 use Rattle.iox_machine.specs.Mailbox.{Mailbox}
 use Rattle.iox_machine.specs.PortList.{PortList}
-use Rattle.iox_machine.specs.Table.{changed}
 use Rattle.iox_command.specs.DomainValues.declared.backpressure.BackpressureAction.{BackpressureAction}
 use Rattle.iox_command.specs.DomainValues.declared.backpressure_strategy.BackpressureStrategy.{BackpressureStrategy}
 use Rattle.iox_command.specs.DomainValues.declared.data_segment.AllocationStrategy.{AllocationStrategy}
@@ -81,14 +80,6 @@ module _ {T : Type 0} where
     loans = [];
     samples = [];
   }
-
-  -- the publisher of a number is another
-  abbrev pub with_publisher : ℕ → Publisher T → Service T → Service T
-  with_publisher number publisher service = record service { publishers = changed number publisher service.publishers }
-
-  -- the subscriber of a number is another
-  abbrev pub with_subscriber : ℕ → Subscriber → Service T → Service T
-  with_subscriber number subscriber service = record service { subscribers = changed number subscriber service.subscribers }
 
   -- the mailbox of a publisher and a subscriber; one for no messages where they have none
   abbrev pub mailbox : ℕ → ℕ → Service T → Mailbox T

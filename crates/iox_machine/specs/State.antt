@@ -1,9 +1,8 @@
 -- The state of the machine.
-use Rattle.std.specs.Prelude.{ℕ, ◌+◌, ◌≡◌, Bool, ◌&&◌, nat_eq, List, [], ◌∷◌, find, Option, is_some, MatchOption, if◌then◌else◌}
-use Rattle.std.specs.Cmp.Lexicographic.{pointwise}
+use Rattle.std.specs.Prelude.{ℕ, ◌+◌, ◌≡◌, Bool, ◌&&◌, bytes_eq, List, [], ◌∷◌, find, Option, is_some, MatchOption, if◌then◌else◌}
 use Rattle.iox_machine.specs.Phase.{Phase, Absent, same_pattern}
 use Rattle.iox_machine.specs.Service.{Service}
-use Rattle.iox_machine.specs.Replies.{IsSkipped}
+use Rattle.iox_machine.specs.Replies.{OnlyAnswers}
 use Rattle.iox_command.specs.NegotiateBase.DescribeBase.declared.pattern.MessagingPattern.{MessagingPattern}
 use Rattle.iox_command.specs.NegotiateBase.DescribeBase.declared.pattern.MessagingPattern.TheVariants as pattern
 use Rattle.iox_command.specs.declared.reply.Reply.{Reply}
@@ -31,10 +30,6 @@ pub record State (T : Type 0) : Type 0 where
   pub factories : List (ℕ × Factory)
   pub services : List (Service T)
 
--- whether two names are one
-abbrev pub same_name : List ℕ → List ℕ → Bool
-same_name one other = pointwise nat_eq one other
-
 -- one value more was made, if a reply tells the number of one
 abbrev pub counted : {T : Type 0} → Reply T → Made → Made
 counted (reply.NodeMade number) made = record made { nodes = made.nodes + 1 }
@@ -57,12 +52,12 @@ module _ {T : Type 0} where
 
   -- whether a service is that of a factory
   abbrev pub is_service_of : Factory → Service T → Bool
-  is_service_of factory service = same_pattern factory.pattern pattern.PublishSubscribe && same_name service.name factory.name
+  is_service_of factory service = same_pattern factory.pattern pattern.PublishSubscribe && bytes_eq service.name factory.name
 
   -- another phase of a pattern and name
   abbrev pub with_phase : MessagingPattern → List ℕ → Phase → State T → State T
   with_phase pattern name phase state = record state {
-    phases = λ other another. if same_pattern other pattern && same_name another name then phase else state.phases other another;
+    phases = λ other another. if same_pattern other pattern && bytes_eq another name then phase else state.phases other another;
   }
 
   -- the services, where the one that passes a test is another
@@ -76,6 +71,6 @@ module _ {T : Type 0} where
   AtOne found Does old answer new =
       let has = λ (service : Service T). is_some (found service) in
       MatchOption (find has old.services)
-      (IsSkipped old answer new)
+      (OnlyAnswers reply.Skipped old answer new)
       (λ service. (after : Service T) × MatchOption (found service) ⊥ (λ one. Does one service answer after)
       × (new ≡ record old { made = counted answer old.made; services = replaced has after old.services }))

@@ -7,12 +7,13 @@ use Rattle.iox_machine.specs.Choices.{Choices}
 use Rattle.iox_machine.specs.Mailbox.{is_idle}
 use Rattle.iox_machine.specs.PortList.{those, unless}
 use Rattle.iox_machine.specs.PublisherUpdate.{UpdateAnswers}
-use Rattle.iox_machine.specs.Service.{Service, Subscriber, with_subscriber, mailbox, connect}
-use Rattle.iox_machine.specs.Table.{contains}
-use Rattle.iox_machine.specs.Replies.{IsRefused}
+use Rattle.iox_machine.specs.Service.{Service, Subscriber, mailbox, connect}
+use Rattle.iox_machine.specs.Table.{changed, contains}
+use Rattle.iox_machine.specs.Replies.{OnlyAnswers}
 use Rattle.iox_command.specs.DomainValues.declared.connection_failure.ConnectionFailure.{ConnectionFailure}
 use Rattle.iox_command.specs.declared.refusal.Refusal.{Refusal}
 use Rattle.iox_command.specs.declared.reply.Reply.{Reply}
+use Rattle.iox_command.specs.declared.reply.Reply.TheVariants as reply
 
 -- of who is connected at a place and who is listed there, the first, if it isn't listed there any longer
 abbrev pub gone_from : Option ℕ × Option ℕ → Option ℕ
@@ -67,8 +68,8 @@ module _ {T : Type 0} (buffer number : ℕ) where
         connected = connected;
         expired = parted.expired;
       })
-      × (new ≡ fold (λ service publisher. connect subscriber.buffer_size publisher number service) (with_subscriber number after old)
-      (those connected))
+      × (new ≡ fold (λ service publisher. connect subscriber.buffer_size publisher number service)
+      (record old { subscribers = changed number after old.subscribers }) (those connected))
 
 module _ {T : Type 0} (choices : Choices T) (buffer number : ℕ) where
   -- A subscriber that does something first brings its connections up to date, if the list of publishers changed or it is to update again;
@@ -84,4 +85,4 @@ module _ {T : Type 0} (choices : Choices T) (buffer number : ℕ) where
       (zip old.publisher_list.places after.connected) outcome
       × MatchResult outcome
       (λ done. Does after mid answer new)
-      (λ failure. IsRefused (told failure) mid answer new)))
+      (λ failure. OnlyAnswers (reply.Refused (told failure)) mid answer new)))

@@ -1,12 +1,12 @@
 -- Laws of what keeps a factory from being closed.
-use Rattle.std.specs.Prelude.{ℕ, ◌≡◌, true, ◌&&◌, List, Some}
+use Rattle.std.specs.Prelude.{ℕ, ◌≡◌, true, ◌&&◌, List, Some, bytes_eq}
 use Rattle.std.specs.List.{AllByRecursion}
 use Rattle.iox_machine.specs.Choices.{Choices}
 use Rattle.iox_machine.specs.Message.{Loan, Sample}
 use Rattle.iox_machine.specs.Phase.{same_pattern}
 use Rattle.iox_machine.specs.Run.{Runs}
 use Rattle.iox_machine.specs.Service.{Service, Publisher, Subscriber}
-use Rattle.iox_machine.specs.State.{State, Factory, new_state, same_name}
+use Rattle.iox_machine.specs.State.{State, Factory, new_state}
 use Rattle.iox_machine.specs.Table.{at}
 use Rattle.iox_command.specs.NegotiateBase.DescribeBase.declared.message_type.MessageTypeDetails.{MessageTypeDetails}
 use Rattle.iox_command.specs.NegotiateBase.DescribeBase.declared.pattern.MessagingPattern.TheVariants as pattern
@@ -17,7 +17,7 @@ use Rattle.iox_command.specs.declared.reply.Reply.{Reply}
 abbrev pub IsOpen : List (ℕ × Factory) → List ℕ → ℕ → Type 0
 IsOpen factories name number =
     (factory : Factory) × (at number factories ≡ Some factory)
-    × ((same_pattern factory.pattern pattern.PublishSubscribe && same_name name factory.name) ≡ true)
+    × ((same_pattern factory.pattern pattern.PublishSubscribe && bytes_eq name factory.name) ≡ true)
 
 module _ {T : Type 0} (factories : List (ℕ × Factory)) where
   -- Each port of a service that stands is of an open factory of the service, and so are the publisher of each loan and the subscriber of

@@ -17,6 +17,7 @@ ghost use Rattle.iox_machine.specs.ConnectionLaws.{ConnectedAreJoined, PairsConn
 ghost use Rattle.iox_machine.specs.GoingLaws.{EachIsAnswered};
 ghost use Rattle.iox_machine.specs.IndependenceLaws.{NumbersAreCountedAnew, OthersAreLeft, ServicesAreAsIfAlone};
 ghost use Rattle.iox_machine.specs.Laws.{PutAtUnknownIsSkipped, OverflowDropsTheOldest};
+ghost use Rattle.iox_machine.specs.LossLaws.{GapsHaveCauses};
 ghost use Rattle.iox_machine.specs.MessageLaws.{HeldIsRead, OrderIsOfSends, ReceivedInOrder, ReceivedWasSent};
 ghost use Rattle.iox_machine.specs.NumberLaws.{NumbersGoUp, NumbersNameOne};
 ghost use Rattle.iox_machine.specs.OpeningLaws.{EitherMeetsAsked, OpenedMeetsAsked};
@@ -195,6 +196,16 @@ pub fn a_sequence_number_stays<T: Default, B: Decides + Degrades, D: Degrades>()
 /// mailbox or passed over there. None of them was received or is on its way, and no other message with such a number was lost.
 pub fn gaps_are_losses<T: Default, B: Decides + Degrades, D: Degrades>()
     ensures { (handed : Handed B D) → GapsAreLosses (chosen_by T.is_default (λ who. B.decides who) (λ who. B.degrades who)
+        (λ who. D.degrades who) handed) }
+{}
+
+/// In every run of a new machine take two messages that a subscriber received of a publisher, one directly after the other, with sequence
+/// numbers, which samples of them tell as long as they are held. The publisher sent one message with each number between, and each of
+/// these was lost for one cause. It was dropped: with safe overflow a later message was put into their mailbox, and made this one leave
+/// that waited there. Or it was passed over: its send went past the mailbox, which was full, or was given up while it was blocked there or
+/// before it came there.
+pub fn gaps_have_causes<T: Default, B: Decides + Degrades, D: Degrades>()
+    ensures { (handed : Handed B D) → GapsHaveCauses (chosen_by T.is_default (λ who. B.decides who) (λ who. B.degrades who)
         (λ who. D.degrades who) handed) }
 {}
 

@@ -3,7 +3,7 @@ use Rattle.std.proofs.Common.{◌≡◌, ◌≢◌, ℕ, ◌+◌, ◌^◌, ◌�
 use Rattle.std.proofs.Common.{Option, None, Result, Ok, Err, length, refl, sym, ap, subst, ◌∙◌, inl, inr, arith}
 use Rattle.std.specs.Cmp.Lexicographic.{same_text}
 use Rattle.std.specs.List.{AllByRecursion, IsAmong}
-use Rattle.std.specs.Prelude.{fold, map, take}
+use Rattle.std.specs.Prelude.{fold, map, take, bytes_eq}
 use Rattle.std.proofs.lemmas.Bool.{lt-ltb}
 use Rattle.std.specs.declared.alloc.AllocError.{AllocError}
 use Rattle.iox_command.specs.NegotiateBase.DescribeBase.Hash.{service_hash_of}
@@ -13,7 +13,7 @@ use Rattle.iox_command.specs.NegotiateBase.DescribeBase.declared.pattern.Messagi
 use Rattle.iox_command.specs.declared.step.ForeignStep.{ForeignStep}
 use Rattle.iox_machine.specs.Choices.{Choices}
 use Rattle.iox_machine.specs.Phase.{Phase, Absent, BeingMade, Published, Emptied, acted, same_pattern}
-use Rattle.iox_machine.specs.State.{State, same_name, with_phase}
+use Rattle.iox_machine.specs.State.{State, with_phase}
 use Rattle.iox_negotiate.proofs.Changes.{Change, Same, LockOf, Without, PublishOf, NewSegment, OfSegment, WithoutSegment, ServiceOf}
 use Rattle.iox_negotiate.proofs.Changes.{Removal, IsElsewhere, changes, elsewhere, hash_of, hash-from, rises}
 use Rattle.iox_negotiate.proofs.Tables.{reached}
@@ -210,7 +210,7 @@ module _ (types : MessageTypeDetails) (pattern : MessagingPattern) (name : List 
 
 -- ---- all phases
 
-pub name-is : (one other : List ℕ) → same_name one other ≡ true → one ≡ other
+pub name-is : (one other : List ℕ) → bytes_eq one other ≡ true → one ≡ other
 name-is one other e = same_text one other (sym e)
 
 module _ (names : List (List ℕ)) (own : HaveOwnHashes names) (pattern : MessagingPattern) (name : List ℕ) (asked : IsAmong names name)
@@ -220,25 +220,25 @@ module _ (names : List (List ℕ)) (own : HaveOwnHashes names) (pattern : Messag
 
   -- the numbers that were taken, where more were for one pattern and name
   abbrev pub later : List ℕ → MessagingPattern → List ℕ → List ℕ
-  later more one other = cond (same_pattern one pattern && same_name other name) (more ++ taken pattern name) (taken one other)
+  later more one other = cond (same_pattern one pattern && bytes_eq other name) (more ++ taken pattern name) (taken one other)
 
-  pub named : (one : MessagingPattern) (other : List ℕ) → (same_pattern one pattern && same_name other name) ≡ true → (one ≡ pattern)
+  pub named : (one : MessagingPattern) (other : List ℕ) → (same_pattern one pattern && bytes_eq other name) ≡ true → (one ≡ pattern)
       × (other ≡ name)
   named one other is = let split = both _ _ is in (pattern-is one pattern split.0, name-is other name split.1)
 
-  unnamed : (one : MessagingPattern) (other : List ℕ) → (same_pattern one pattern && same_name other name) ≡ false → IsAmong names other
+  unnamed : (one : MessagingPattern) (other : List ℕ) → (same_pattern one pattern && bytes_eq other name) ≡ false → IsAmong names other
       → (service_hash_of pattern name).digest ≢ (service_hash_of one other).digest
   unnamed one other isnt among same =
       let both_same = own pattern one name other asked among (hash-from (service_hash_of pattern name) (service_hash_of one other) same) in
       absurd (true≢false
-      (sym (subst (λ (p : MessagingPattern). (same_pattern p pattern && same_name other name) ≡ true) both_same.0
-      (subst (λ (n : List ℕ). (same_pattern pattern pattern && same_name n name) ≡ true) both_same.1
+      (sym (subst (λ (p : MessagingPattern). (same_pattern p pattern && bytes_eq other name) ≡ true) both_same.0
+      (subst (λ (n : List ℕ). (same_pattern pattern pattern && bytes_eq n name) ≡ true) both_same.1
       (and-true _ _ (pattern-itself pattern) (name-itself name)))) ∙ isnt))
 
   pub goes-on : (more : List ℕ) → GoOn taken (later more)
-  goes-on more one other = there (same_pattern one pattern && same_name other name) refl
+  goes-on more one other = there (same_pattern one pattern && bytes_eq other name) refl
     where
-      there : (b : Bool) → (same_pattern one pattern && same_name other name) ≡ b
+      there : (b : Bool) → (same_pattern one pattern && bytes_eq other name) ≡ b
           → (x : List ℕ) × (cond b (more ++ taken pattern name) (taken one other) ≡ x ++ taken one other)
       there true is =
           let same = named one other is in (
@@ -254,11 +254,11 @@ module _ (names : List (List ℕ)) (own : HaveOwnHashes names) (pattern : Messag
         → TableStands names (later more) new (with_phase pattern name phase state)
     all-stand more phase so = record {
       reached = left.reached;
-      phases = λ one other among. there one other among (same_pattern one pattern && same_name other name) refl;
+      phases = λ one other among. there one other among (same_pattern one pattern && bytes_eq other name) refl;
     }
       where
         there : (one : MessagingPattern) (other : List ℕ) → IsAmong names other → (b : Bool)
-            → (same_pattern one pattern && same_name other name) ≡ b
+            → (same_pattern one pattern && bytes_eq other name) ≡ b
             → PhaseStands one other new (cond b (more ++ taken pattern name) (taken one other)) (cond b phase (state.phases one other))
         there one other among true is =
             let same = named one other is in

@@ -27,7 +27,7 @@ use Rattle.iox_machine.specs.Agreement.{Agreement, are_within_limits}
 use Rattle.iox_machine.specs.Asked.{settings_of}
 use Rattle.iox_machine.specs.Phase.{Node, Own, Foreign, Phase, Absent, BeingMade, Published, Emptied, same_pattern, is_in, entered, left}
 use Rattle.iox_machine.specs.Phase.{left_by, removed_by, acted, has_numbers}
-use Rattle.iox_machine.specs.State.{same_name}
+use Rattle.std.specs.Prelude.{bytes_eq}
 use Rattle.iox_negotiate.proofs.Changes.{equal-of, place-apart, place-away, same-place}
 use Rattle.iox_negotiate.proofs.Closing.{segment-gone}
 use Rattle.iox_negotiate.proofs.Maps.{no, on, by_test, insert-apart, remove-apart, remove-same, set-apart}
@@ -64,9 +64,9 @@ pattern-itself messaging.RequestResponse = refl
 pattern-itself messaging.PublishSubscribe = refl
 pattern-itself messaging.Event = refl
 
-pub name-itself : (one : List ℕ) → same_name one one ≡ true
+pub name-itself : (one : List ℕ) → bytes_eq one one ≡ true
 name-itself [] = refl
-name-itself (x ∷ xs) = and-true (nat_eq x x) (same_name xs xs) (eq-eqb x x refl) (name-itself xs)
+name-itself (x ∷ xs) = and-true (nat_eq x x) (bytes_eq xs xs) (eq-eqb x x refl) (name-itself xs)
 
 -- the settings that are asked for have the pattern
 pub kind-of : (types : MessageTypeDetails) (named : ServiceOptions) → described_pattern (settings_of types named) ≡ pattern_of named

@@ -7,16 +7,16 @@ use Rattle.std.specs.BTreeMap.{is_at}
 use Rattle.std.specs.List.{IsAmong}
 use Rattle.std.specs.Map.{remove_entry, set_value}
 use Rattle.std.specs.Ordering.{nat_cmp}
-use Rattle.std.specs.Prelude.{nat_le}
 use Rattle.iox_command.specs.NegotiateBase.Describe.Line.{line}
 use Rattle.iox_command.specs.NegotiateBase.DescribeBase.Hash.{service_hash_of}
 use Rattle.iox_command.specs.NegotiateBase.DescribeBase.declared.hash.ServiceHash.{ServiceHash}
 use Rattle.iox_command.specs.NegotiateBase.DescribeBase.declared.pattern.MessagingPattern.{MessagingPattern}
 use Rattle.iox_command.specs.NegotiateBase.declared.errors.close.CloseError.{CloseError}
 use Rattle.iox_machine.specs.Agreement.{Agreement}
-use Rattle.iox_machine.specs.Phase.{Node, Own, Phase, Absent, Published, Emptied, closed_by, is_in, left, removed_by, same_node}
-use Rattle.iox_machine.specs.Phase.{same_pattern}
-use Rattle.iox_machine.specs.State.{State, same_name, with_phase}
+use Rattle.iox_machine.specs.Phase.{Node, Own, Phase, Absent, Published, Emptied, is_in, left, removed_by, same_node, same_pattern}
+use Rattle.iox_machine.proofs.Shorthands.{closed_by}
+use Rattle.iox_machine.specs.State.{State, with_phase}
+use Rattle.std.specs.Prelude.{bytes_eq, nat_le}
 use Rattle.iox_negotiate.proofs.Changes.{place-apart}
 use Rattle.iox_negotiate.proofs.Closing.{entry-gone, segment-gone}
 use Rattle.iox_negotiate.proofs.Maps.{by_test, no, on, remove-apart}
@@ -276,9 +276,9 @@ module _ (pattern : MessagingPattern) (name : List ℕ) (taken : List ℕ) (node
 module _ (names : List (List ℕ)) (own : HaveOwnHashes names) (pattern : MessagingPattern) (name : List ℕ) (asked : IsAmong names name)
     (taken : MessagingPattern → List ℕ → List ℕ) where
   none-later : (one : MessagingPattern) (other : List ℕ) → later names own pattern name asked taken [] one other ≡ taken one other
-  none-later one other = there (same_pattern one pattern && same_name other name) refl
+  none-later one other = there (same_pattern one pattern && bytes_eq other name) refl
     where
-      there : (b : Bool) → (same_pattern one pattern && same_name other name) ≡ b
+      there : (b : Bool) → (same_pattern one pattern && bytes_eq other name) ≡ b
           → cond b (taken pattern name) (taken one other) ≡ taken one other
       there true same =
           let is = named names own pattern name asked taken one other same in

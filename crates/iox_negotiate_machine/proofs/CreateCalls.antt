@@ -6,7 +6,7 @@ use Rattle.iox_command.specs.Patterns.{pattern_of}
 use Rattle.iox_machine.specs.Agreement.{Agreement}
 use Rattle.iox_machine.specs.Asked.{settings_of}
 use Rattle.iox_machine.specs.Phase.{same_pattern}
-use Rattle.iox_machine.specs.State.{same_name}
+use Rattle.std.specs.Prelude.{bytes_eq}
 use Rattle.iox_negotiate.proofs.Maps.{no}
 use Rattle.iox_negotiate_machine.proofs.Acted.{all-stand, goes-on, later, own-hash}
 use Rattle.iox_negotiate_machine.proofs.Acting.{kind-of, name-itself, pattern-itself}
@@ -22,7 +22,7 @@ pub later-here : (names : List (List ℕ)) (own : HaveOwnHashes names) (pattern 
     (asked : IsAmong names name)
     (taken : MessagingPattern → List ℕ → List ℕ) (more : List ℕ)
     → later names own pattern name asked taken more pattern name ≡ more ++ taken pattern name
-later-here names own pattern name asked taken more = there (same_pattern pattern pattern && same_name name name)
+later-here names own pattern name asked taken more = there (same_pattern pattern pattern && bytes_eq name name)
     (and-true _ _ (pattern-itself pattern) (name-itself name))
   where
     there : (b : Bool) → b ≡ true → cond b (more ++ taken pattern name) (taken pattern name) ≡ more ++ taken pattern name

@@ -5,7 +5,7 @@ use Rattle.iox_command.specs.NegotiateBase.DescribeBase.Hash.{service_hash_of}
 use Rattle.iox_command.specs.NegotiateBase.DescribeBase.declared.pattern.MessagingPattern.{MessagingPattern}
 use Rattle.iox_command.specs.NegotiateBase.declared.errors.close.CloseError.{CloseError}
 use Rattle.iox_machine.specs.Agreement.{Agreement}
-use Rattle.iox_machine.specs.Phase.{Node, Own, Published, closed_by, is_in}
+use Rattle.iox_machine.specs.Phase.{Node, Own, Published, is_in, left_by, removed_by}
 use Rattle.iox_machine.specs.State.{State, with_phase}
 use Rattle.iox_negotiate.specs.Factory.{Closes}
 use Rattle.iox_negotiate_machine.specs.Laws.{HaveOwnHashes}
@@ -25,4 +25,5 @@ module _ (T : Type 0) where
       → state.phases pattern name ≡ Published life agreed nodes → is_in (Own node) nodes ≡ true
       → IsLast (λ last. last ≡ number) (taken pattern name)
       → Does Sight old (λ made. Closes (service_hash_of pattern name) number node made result) new
-      → (result ≡ Ok tt) × TableStands names taken new (with_phase pattern name (closed_by node (state.phases pattern name)) state)
+      → (result ≡ Ok tt) × TableStands names taken new
+      (with_phase pattern name (removed_by (Own node) (left_by (Own node) (state.phases pattern name))) state)

@@ -147,12 +147,12 @@ module _ (width p : ℕ) (values : List (Vec ℕ)) (start words : RingWords) (ev
         of None h = (
           none_counted kn.0,
           kn.1,
-          goes_on_out m.capacity width start first events local index kn.2,
+          goes_on_out m.capacity width start first events local p index kn.2,
           λ is. kn.3 (release_takes_none p p m.places owner index mode s answer index kn.4 is),
           same_call m.capacity m.decisions s answer (set_call.Release owner index mode) kn.4 (not_over s h),
         )
         of (Some (Settled state)) h =
-            (refl, (kn.1, goes_on_out m.capacity width start first events local index kn.2, none_counted kn.0))
+            (refl, (kn.1, goes_on_out m.capacity width start first events local p index kn.2, none_counted kn.0))
         of (Some (Acquired got)) h =
             absurd (never_acquired m.capacity p m.words m.places m.lost _ owner index mode got s kn.4 h (c.knows p))
 
@@ -169,7 +169,7 @@ module _ (width p : ℕ) (values : List (Vec ℕ)) (start words : RingWords) (ev
     knows = (
       none_counted kn.0,
       kn.1,
-      goes_on_out m.capacity width start first events local index kn.2,
+      goes_on_out m.capacity width start first events local p index kn.2,
       kn.3,
       ap (λ (seat : Seat). call_in_hand seat.stage) (seat_here m.seats p _ (ltb-true p (length m.seats)
           (and_parts (nat_lt p (length m.seats)) _ fit).0)),

@@ -1,6 +1,6 @@
 -- What a party's own step leaves of a container, at each stage of its call that asks nothing of the set of indices.
 use Rattle.std.proofs.Common.{◌≡◌, ℕ, ◌+◌, ◌*◌, ◌-◌, ◌^◌, ◌<◌, ◌≤◌, ⊎_elim, Bool, true, false, not, if◌then◌else◌, ◌==◌, nat_lt, Ok, Err}
-use Rattle.std.proofs.Common.{List, [], ◌∷◌, ◌++◌, length, slice_index, take, refl, sym, ◌∙◌, ap, subst, arith, length-append}
+use Rattle.std.proofs.Common.{List, [], ◌∷◌, ◌++◌, length, slice_index, refl, sym, ◌∙◌, ap, subst, arith, length-append}
 use Rattle.std.specs.Global.{Vec}
 use Rattle.std.proofs.lemmas.Bool.{cases_eq, eq-eqb, eqb-true, lt-ltb, ltb-false, ltb-true, ne_eqb}
 use Rattle.std.proofs.lemmas.List.{get_or_append_left, get_or_push}
@@ -27,7 +27,7 @@ use Rattle.iox_robust_steps.specs.declared.container.call.MemberCall.TheVariants
 use Rattle.iox_robust_steps.specs.declared.state.Place.{Place}
 use Rattle.iox_robust_steps.specs.declared.state.Place.TheVariants as place
 use Rattle.iox_robust_steps.proofs.ContainerLeaves.{LeavesMembers, tells_on, was_on}
-use Rattle.iox_robust_steps.proofs.ContainerWords.{cells_next, cells_now, count_else, count_here, count_position, counts_stay, exact}
+use Rattle.iox_robust_steps.proofs.ContainerWords.{cells_now, count_else, count_here, count_position, counts_stay, exact}
 use Rattle.iox_robust_steps.proofs.ContainerWords.{more_counted, more_gathered, more_noted, next_shown, rows_apart, value_else, value_here}
 use Rattle.iox_robust_steps.proofs.ContainerWords.{value_position, values_stay, words_apart}
 
@@ -57,20 +57,21 @@ both_true : true ≡ false → ⊥
 both_true h = cc
 
 -- one count was of a change that is told so far
-counts_it : (n width : ℕ) (values : List (Vec ℕ)) (start : RingWords) (first k : ℕ) (events own own' : List Event) (c : MemberCall)
+counts_it : (n width : ℕ) (values : List (Vec ℕ)) (start : RingWords) (party first k : ℕ) (events own own' : List Event) (c : MemberCall)
     (a : MemberAnswer) → is_change c a ≡ true → (times_counted own ≡ 0 → times_counted own' ≡ k)
-    → MemberTells n width values start 0 first events own c a → MemberTells n width values start k first events own' c a
-counts_it n width values start first k events own own' (call.Add number owner) (Added (Ok index)) change times t = (t.0, t.1, times t.2)
-counts_it n width values start first k events own own' (call.Add number owner) (Added (Err why)) change times t = absurd (cc)
-counts_it n width values start first k events own own' (call.Add number owner) (Removed state) change times t = absurd t
-counts_it n width values start first k events own own' (call.Add number owner) (Updated copied) change times t = absurd t
-counts_it n width values start first k events own own' (call.Remove owner index mode) (Added got) change times t = absurd t
-counts_it n width values start first k events own own' (call.Remove owner index mode) (Removed state) change times t
+    → MemberTells n width values start 0 party first events own c a → MemberTells n width values start k party first events own' c a
+counts_it n width values start party first k events own own' (call.Add number owner) (Added (Ok index)) change times t
     = (t.0, t.1, times t.2)
-counts_it n width values start first k events own own' (call.Remove owner index mode) (Updated copied) change times t = absurd t
-counts_it n width values start first k events own own' call.Update (Added got) change times t = absurd t
-counts_it n width values start first k events own own' call.Update (Removed state) change times t = absurd t
-counts_it n width values start first k events own own' call.Update (Updated copied) change times t = absurd (cc)
+counts_it n width values start party first k events own own' (call.Add number owner) (Added (Err why)) change times t = absurd (cc)
+counts_it n width values start party first k events own own' (call.Add number owner) (Removed state) change times t = absurd t
+counts_it n width values start party first k events own own' (call.Add number owner) (Updated copied) change times t = absurd t
+counts_it n width values start party first k events own own' (call.Remove owner index mode) (Added got) change times t = absurd t
+counts_it n width values start party first k events own own' (call.Remove owner index mode) (Removed state) change times t
+    = (t.0, t.1, times t.2)
+counts_it n width values start party first k events own own' (call.Remove owner index mode) (Updated copied) change times t = absurd t
+counts_it n width values start party first k events own own' call.Update (Added got) change times t = absurd t
+counts_it n width values start party first k events own own' call.Update (Removed state) change times t = absurd t
+counts_it n width values start party first k events own own' call.Update (Updated copied) change times t = absurd (cc)
 
 -- a copy that went over all places is true
 copy_true : (n width : ℕ) (start : RingWords) (first : ℕ) (events own : List Event) (k : ℕ) → n ≤ k
@@ -266,35 +267,26 @@ module _ (n width p : ℕ) (values : List (Vec ℕ)) (start words : RingWords) (
       knows = knows;
     }
 
-    pub before_is : (b : Bool) → is_shown (slice_index words.cells index) ≡ b
-        → is_shown (slice_index (words_after start (take (length events) (later access 0))).cells index) ≡ b
-    before_is b h = ap (λ (cells : List ℕ). is_shown (slice_index cells index)) (cells_now start words events now (of access 0)) ∙ h
-
-    pub after_is : (b : Bool) → is_shown (slice_index words.cells index) ≡ b
-        → is_shown (slice_index (words_after start (take (length events + 1) (later access 0))).cells index) ≡ not b
-    after_is b h = ap (λ (cells : List ℕ). is_shown (slice_index cells index)) (cells_next start words events now (of access 0))
-        ∙ ap is_shown here ∙ next_shown seen ∙ ap not (ap is_shown is_seen ∙ h)
-
     pub now_is : (b : Bool) → is_shown (slice_index words.cells index) ≡ b → is_shown (slice_index counted_cells index) ≡ not b
     now_is b h = ap is_shown here ∙ next_shown seen ∙ ap not (ap is_shown is_seen ∙ h)
-
-    one_longer : length (later access 0) ≡ length events + 1
-    one_longer = length-append events (of access 0 ∷ [])
 
     pub show_made : (number owner : ℕ) → times_counted own ≡ 0 → is_shown (slice_index words.cells index) ≡ false
         → ((j : ℕ) → j < width → slice_index words.cells (value_cell n width index j) ≡ slice_index (table_value values number) j)
         → Made (after_store words (Cell index) (successor seen)) s access 0 (stage.Count (call.Add number owner) (Added (Ok index)))
     show_made number owner times hidden filled = raised _ (refl, (within, comes, none_counted access 0 refl times))
       where
-        comes : ComesIn n width start first (later access 0) index (table_value values number)
+        comes : ComesIn n width start p first (later access 0) index (table_value values number)
         comes = record {
-          moment = length events;
-          after = began;
-          before = omega (arith, one_longer);
-          out = before_is false hidden;
-          in_then = after_is false hidden;
-          is = λ j low. ap (λ (cells : List ℕ). slice_index cells (value_cell n width index j))
-              (cells_next start words events now (of access 0)) ∙ values_same index j within low ∙ filled j low;
+          earlier = events;
+          event = of access 0;
+          later = [];
+          whole = refl;
+          inside = began;
+          its = refl;
+          out = ap (λ (w : RingWords). is_shown (slice_index w.cells index)) (sym now) ∙ hidden;
+          in_then = ap (λ (w : RingWords). is_shown (slice_index (after_access w access).cells index)) (sym now) ∙ now_is false hidden;
+          is = λ j low. ap (λ (w : RingWords). slice_index (after_access w access).cells (value_cell n width index j)) (sym now)
+              ∙ values_same index j within low ∙ filled j low;
         }
 
     pub hide_made : (owner : ℕ) (mode : ReleaseMode) → times_counted own ≡ 0 → is_shown (slice_index words.cells index) ≡ true
@@ -303,23 +295,26 @@ module _ (n width p : ℕ) (values : List (Vec ℕ)) (start words : RingWords) (
       none_counted access 0 refl times,
       within,
       record {
-        moment = length events;
-        after = began;
-        before = omega (arith, one_longer);
-        in_before = before_is true in_then;
-        out = after_is true in_then;
+        earlier = events;
+        event = of access 0;
+        later = [];
+        whole = refl;
+        inside = began;
+        its = refl;
+        in_before = ap (λ (w : RingWords). is_shown (slice_index w.cells index)) (sym now) ∙ in_then;
+        out = ap (λ (w : RingWords). is_shown (slice_index (after_access w access).cells index)) (sym now) ∙ now_is true in_then;
       },
       λ is. now_is true in_then,
     )
 
   -- a change is counted, or another one was meanwhile
   module _ (s : RobustCall) (c : MemberCall) (a : MemberAnswer) (change : is_change c a ≡ true)
-      (told : MemberTells n width values start 0 first events own c a) where
+      (told : MemberTells n width values start 0 p first events own c a) where
     told_later : (access : Access) (answer k : ℕ) → counted_by access answer ≡ k
-        → MemberTells n width values start k first (later access answer) (mine access answer) c a
-    told_later access answer k counts = counts_it n width values start first k (later access answer) own (mine access answer) c a change
+        → MemberTells n width values start k p first (later access answer) (mine access answer) c a
+    told_later access answer k counts = counts_it n width values start p first k (later access answer) own (mine access answer) c a change
         (λ times. omega (arith, more_counted own (of access answer), counts, times))
-        (tells_on n width start first events (of access answer) values 0 own c a told)
+        (tells_on n width start first events (of access answer) values 0 p own c a told)
 
     pub count_made : Made words s (Load Write) words.write (stage.Raise c a words.write)
     count_made = quiet s (Load Write) words.write _ refl (change, told_later (Load Write) words.write 0 refl)

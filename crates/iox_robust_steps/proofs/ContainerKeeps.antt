@@ -16,7 +16,9 @@ use Rattle.iox_queues.specs.Values.{table_value}
 use Rattle.iox_queues.specs.declared.bits.machine.Event.{Event}
 use Rattle.iox_queues.proofs.OwnSteps.{own_else_since, own_more, own_more_since}
 use Rattle.iox_queues.proofs.Recorded.{answered_on}
-use Rattle.iox_robust_steps.specs.ContainerSteps.{answer_at, is_shown, member_begun, member_is_idle, member_next, member_take}
+use Rattle.iox_robust_steps.specs.ContainerAsked.{AreMembersAsked}
+use Rattle.iox_robust_steps.specs.ContainerSteps.{answer_at, is_shown, member_begun, member_in_hand, member_is_idle, member_next}
+use Rattle.iox_robust_steps.specs.ContainerSteps.{member_take}
 use Rattle.iox_robust_steps.specs.ContainerMachine.{ContainerParts, HasFewMoves, MemberStepsTo, asked_at, asked_by, empty_words, is_look}
 use Rattle.iox_robust_steps.specs.ContainerMachine.{may_ask, may_call, member_begins, member_ended, member_fits, member_happens}
 use Rattle.iox_robust_steps.specs.ContainerMachine.{member_seat, member_stage, member_went, seat_after, width_of}
@@ -42,6 +44,9 @@ use Rattle.iox_robust_steps.specs.declared.machine.Move.TheVariants as set_move
 use Rattle.iox_robust_steps.specs.declared.state.Place.{Place}
 use Rattle.iox_robust_steps.specs.declared.state.Place.TheVariants as place
 use Rattle.iox_robust_steps.specs.declared.state.Seat.{Seat}
+use Rattle.iox_robust_steps.proofs.ContainerAsked.{SoFar, member_asked_first, member_asked_next, member_call_asked}
+use Rattle.iox_robust_steps.proofs.ContainerAsked.{members_asked_append}
+use Rattle.iox_robust_steps.proofs.ContainerAsked.{members_asked_on}
 use Rattle.iox_robust_steps.proofs.ContainerGoing.{MemberMade, leaves_all_members}
 use Rattle.iox_robust_steps.proofs.ContainerLeaves.{LeavesMembers, knows_member_else}
 use Rattle.iox_robust_steps.proofs.ContainerOfCalls.{member_begun_counted, member_went_counted}
@@ -243,6 +248,12 @@ module _ (m : ContainerParts) (party : ℕ) (fit : member_fits m (GoOn party) �
           ∙ ap times_counted (sym (take-append_seam m.events (e ∷ [])))
       saw_here s false is = saw_on m e seat (k.since party) (s.saw party)
 
+  asked_here : SoFar n (width_of m) m.values party (member_in_hand next) next (own party (drop seat.first (m.events ++ e ∷ [])))
+  asked_here = subst (λ (es : List Event). SoFar n (width_of m) m.values party (member_in_hand next) next es)
+      (sym (own_more_since party seat.first m.events e (k.began party) refl))
+      (member_asked_next n (width_of m) m.values seat.saw (answer_at (stage_at m.indices.seats party)) e t refl party
+      (own party (drop seat.first m.events)) (k.recorded.going party))
+
   pub member_went_keeps : MembersAreKept x
   member_went_keeps = record {
     indices = set_stays.kept;
@@ -263,8 +274,27 @@ module _ (m : ContainerParts) (party : ℕ) (fit : member_fits m (GoOn party) �
         (either_seat (λ (t : MemberSeat). t.since ≤ length (m.events ++ e ∷ [])) looks
         (record { stage = next; first = seat.first; saw = answer; since = length m.events }) (record seat { stage = next })
         (omega (arith, longer)) (omega (arith, k.since party, longer)));
-    recorded = subst (λ (c : ℕ). Answered (empty_words c (width_of m)) x.events x.words) (sym set_stays.same_size)
-        (answered_on (empty_words n (width_of m)) m.words m.events e refl k.recorded);
+    recorded = record {
+      answered = subst (λ (c : ℕ). Answered (empty_words c (width_of m)) x.events x.words) (sym set_stays.same_size)
+          (answered_on (empty_words n (width_of m)) m.words m.events e refl k.recorded.answered);
+      ended = subst (λ (c : ℕ). AreMembersAsked c (width_of m) m.values x.events x.finished) (sym set_stays.same_size)
+          (members_asked_append n (width_of m) m.values (m.events ++ e ∷ []) m.finished (member_ended party seat.first (length m.events) t)
+          (members_asked_on n (width_of m) m.values m.events e m.finished k.counted.within k.recorded.ended)
+          (member_call_asked n (width_of m) m.values party seat.first m.events e t (k.recorded.going party)));
+      going = subst (λ (c : ℕ). (q : ℕ) → SoFar c (width_of m) m.values q (member_in_hand (member_stage x.seats q))
+          (member_stage x.seats q) (own q (drop (member_seat x.seats q).first x.events))) (sym set_stays.same_size)
+          (each_member_seat
+          (λ (q : ℕ) (t : MemberSeat). SoFar n (width_of m) m.values q (member_in_hand t.stage) t.stage (own q (drop t.first m.events))
+          × (t.first ≤ length m.events))
+          (λ (q : ℕ) (t : MemberSeat). SoFar n (width_of m) m.values q (member_in_hand t.stage) t.stage (own q (drop t.first x.events)))
+          m.seats party (seat_after seat next answer (length m.events)) there (λ q. (k.recorded.going q, k.began q))
+          (λ q differs h. subst (λ (es : List Event). SoFar n (width_of m) m.values q (member_in_hand (member_stage m.seats q))
+          (member_stage m.seats q) es) (sym (own_else_since q (member_seat m.seats q).first m.events e h.1 differs)) h.0)
+          (either_seat
+          (λ (t : MemberSeat). SoFar n (width_of m) m.values party (member_in_hand t.stage) t.stage (own party (drop t.first x.events)))
+          looks (record { stage = next; first = seat.first; saw = answer; since = length m.events }) (record seat { stage = next })
+          asked_here asked_here));
+    };
     counted = member_went_counted m party fit k.counted;
     sound = λ few. subst (λ (c : ℕ). MembersAreSound c x) (sym set_stays.same_size) (went_sound few);
   }
@@ -352,6 +382,9 @@ module _ (m : ContainerParts) (party : ℕ) (c : MemberCall) (fit : member_fits 
   set_begun : SetStays m party k (asked_by m.indices party c)
   set_begun = begun_stays c may
 
+  own_begin : own party (drop (length m.events) (m.events ++ begin ∷ [])) ≡ begin ∷ []
+  own_begin = ap (own party) (drop-append_seam m.events (begin ∷ [])) ∙ own_more party [] begin refl
+
   begun_sound : HasFewMoves y → MembersAreSound size_of y
   begun_sound few =
       let s : MembersAreSound size_of m = k.sound (omega (arith, few, one_longer)) in
@@ -370,7 +403,7 @@ module _ (m : ContainerParts) (party : ℕ) (c : MemberCall) (fit : member_fits 
             (λ i held. ap (λ (ps : List Place). place_of ps i) (sym (same_places c)) ∙ held)) h)
             (subst (λ (mine : List Event). KnowsMember size_of (width_of m) m.values (empty_words size_of (width_of m)) m.words.cells
             (asked_by m.indices party c).places party (stage_at (asked_by m.indices party c).seats party) (length m.events)
-            (m.events ++ begin ∷ []) mine (member_begun c)) (sym first_own) (begun_knows c may));
+            (m.events ++ begin ∷ []) mine (member_begun c)) (sym own_begin) (begun_knows c may));
         told = told_on size_of (width_of m) m.values (empty_words size_of (width_of m)) m.events begin m.finished s.told;
         saw = each_member_seat (λ (q : ℕ) (t : MemberSeat). (t.saw ≡ times_counted (take t.since m.events)) × (t.since ≤ length m.events))
             (λ (q : ℕ) (t : MemberSeat). t.saw ≡ times_counted (take t.since y.events)) m.seats party
@@ -399,7 +432,7 @@ module _ (m : ContainerParts) (party : ℕ) (c : MemberCall) (fit : member_fits 
             (λ q. (s.passing q, k.began q))
             (λ q differs h. subst (λ (es : List Event). LetsPassSoFar size_of (member_stage m.seats q) es)
             (sym (own_else_since q (member_seat m.seats q).first m.events begin h.1 differs)) h.0)
-            (subst (λ (es : List Event). LetsPassSoFar size_of (member_begun c) es) (sym first_own) (none_passed c));
+            (subst (λ (es : List Event). LetsPassSoFar size_of (member_begun c) es) (sym own_begin) (none_passed c));
       }
     where
       idle : member_is_idle (member_stage m.seats party) ≡ true
@@ -436,9 +469,6 @@ module _ (m : ContainerParts) (party : ℕ) (c : MemberCall) (fit : member_fits 
       idle_asked (stage.Gather i seen j) h = absurd (cc)
       idle_asked (stage.Done d a) h = absurd (cc)
 
-      first_own : own party (drop (length m.events) (m.events ++ begin ∷ [])) ≡ begin ∷ []
-      first_own = ap (own party) (drop-append_seam m.events (begin ∷ [])) ∙ own_more party [] begin refl
-
   pub member_begins_keeps : MembersAreKept y
   member_begins_keeps = record {
     indices = set_begun.kept;
@@ -454,8 +484,25 @@ module _ (m : ContainerParts) (party : ℕ) (c : MemberCall) (fit : member_fits 
         (λ (q : ℕ) (t : MemberSeat). t.since ≤ length (m.events ++ begin ∷ [])) m.seats party
         (record (member_seat m.seats party) { stage = member_begun c; first = length m.events }) is_there k.since
         (λ q differs h. omega (arith, h, one_longer)) (omega (arith, k.since party, one_longer));
-    recorded = subst (λ (c : ℕ). Answered (empty_words c (width_of m)) y.events m.words) (sym set_begun.same_size)
-        (answered_on (empty_words size_of (width_of m)) m.words m.events begin refl k.recorded);
+    recorded = record {
+      answered = subst (λ (c : ℕ). Answered (empty_words c (width_of m)) y.events m.words) (sym set_begun.same_size)
+          (answered_on (empty_words size_of (width_of m)) m.words m.events begin refl k.recorded.answered);
+      ended = subst (λ (c : ℕ). AreMembersAsked c (width_of m) m.values y.events m.finished) (sym set_begun.same_size)
+          (members_asked_on size_of (width_of m) m.values m.events begin m.finished k.counted.within k.recorded.ended);
+      going = subst (λ (c : ℕ). (q : ℕ) → SoFar c (width_of m) m.values q (member_in_hand (member_stage y.seats q))
+          (member_stage y.seats q) (own q (drop (member_seat y.seats q).first y.events))) (sym set_begun.same_size)
+          (each_member_seat
+          (λ (q : ℕ) (t : MemberSeat). SoFar size_of (width_of m) m.values q (member_in_hand t.stage) t.stage
+          (own q (drop t.first m.events)) × (t.first ≤ length m.events))
+          (λ (q : ℕ) (t : MemberSeat). SoFar size_of (width_of m) m.values q (member_in_hand t.stage) t.stage
+          (own q (drop t.first y.events)))
+          m.seats party (record (member_seat m.seats party) { stage = member_begun c; first = length m.events }) is_there
+          (λ q. (k.recorded.going q, k.began q))
+          (λ q differs h. subst (λ (es : List Event). SoFar size_of (width_of m) m.values q (member_in_hand (member_stage m.seats q))
+          (member_stage m.seats q) es) (sym (own_else_since q (member_seat m.seats q).first m.events begin h.1 differs)) h.0)
+          (subst (λ (es : List Event). SoFar size_of (width_of m) m.values party (member_in_hand (member_begun c)) (member_begun c) es)
+          (sym own_begin) (member_asked_first size_of (width_of m) m.values party c)));
+    };
     counted = member_begun_counted m party c fit k.counted;
     sound = λ few. subst (λ (c : ℕ). MembersAreSound c y) (sym set_begun.same_size) (begun_sound few);
   }

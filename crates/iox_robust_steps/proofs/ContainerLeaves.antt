@@ -1,6 +1,6 @@
 -- What a step of one party leaves to a call of another one on a container.
 use Rattle.std.proofs.Common.{◌≡◌, ℕ, ◌+◌, ◌<◌, ◌≤◌, Bool, true, false, Ok, Err, List, [], ◌∷◌, ◌++◌, length, slice_index}
-use Rattle.std.proofs.Common.{sym, ◌∙◌, ap, arith, length-append}
+use Rattle.std.proofs.Common.{sym, ◌∙◌, ap, arith, append_assoc, length-append}
 use Rattle.std.specs.Global.{Vec}
 use Rattle.iox_queues_steps.specs.Access.{RingWords}
 use Rattle.iox_queues.specs.declared.bits.machine.Event.{Event}
@@ -45,24 +45,30 @@ module _ (n width : ℕ) (start : RingWords) (first : ℕ) (events : List Event)
     whole = w.whole;
   }
 
-  pub comes_on : (i : ℕ) (value : List ℕ) → ComesIn n width start first events i value
-      → ComesIn n width start first (events ++ e ∷ []) i value
-  comes_on i value c = record {
-    moment = c.moment;
-    after = c.after;
-    before = omega (arith, c.before, longer);
-    out = ap is_shown (count_before start events e i c.moment (omega (arith, c.before))) ∙ c.out;
-    in_then = ap is_shown (count_before start events e i (c.moment + 1) (omega (arith, c.before))) ∙ c.in_then;
-    is = λ j low. value_before n width start events e i (c.moment + 1) j (omega (arith, c.before)) ∙ c.is j low;
+  pub comes_on : (party i : ℕ) (value : List ℕ) → ComesIn n width start party first events i value
+      → ComesIn n width start party first (events ++ e ∷ []) i value
+  comes_on party i value c = record {
+    earlier = c.earlier;
+    event = c.event;
+    later = c.later ++ e ∷ [];
+    whole = ap (λ (es : List Event). es ++ e ∷ []) c.whole ∙ append_assoc c.earlier (c.event ∷ c.later) (e ∷ []);
+    inside = c.inside;
+    its = c.its;
+    out = c.out;
+    in_then = c.in_then;
+    is = c.is;
   }
 
-  pub goes_on_out : (i : ℕ) → GoesOut start first events i → GoesOut start first (events ++ e ∷ []) i
-  goes_on_out i g = record {
-    moment = g.moment;
-    after = g.after;
-    before = omega (arith, g.before, longer);
-    in_before = ap is_shown (count_before start events e i g.moment (omega (arith, g.before))) ∙ g.in_before;
-    out = ap is_shown (count_before start events e i (g.moment + 1) (omega (arith, g.before))) ∙ g.out;
+  pub goes_on_out : (party i : ℕ) → GoesOut start party first events i → GoesOut start party first (events ++ e ∷ []) i
+  goes_on_out party i g = record {
+    earlier = g.earlier;
+    event = g.event;
+    later = g.later ++ e ∷ [];
+    whole = ap (λ (es : List Event). es ++ e ∷ []) g.whole ∙ append_assoc g.earlier (g.event ∷ g.later) (e ∷ []);
+    inside = g.inside;
+    its = g.its;
+    in_before = g.in_before;
+    out = g.out;
   }
 
   pub copy_on : (own : List Event) → CopyIsTrue n width start first events own → CopyIsTrue n width start first (events ++ e ∷ []) own
@@ -72,20 +78,20 @@ module _ (n width : ℕ) (start : RingWords) (first : ℕ) (events : List Event)
         (λ moment low high. sym (count_before start events e i moment high) ∙ all moment low (omega (arith, high, longer)));
   }
 
-  pub tells_on : (values : List (Vec ℕ)) (counted : ℕ) (own : List Event) (c : MemberCall) (a : MemberAnswer)
-      → MemberTells n width values start counted first events own c a
-      → MemberTells n width values start counted first (events ++ e ∷ []) own c a
-  tells_on values counted own (call.Add number owner) (Added (Ok index)) t = (t.0, comes_on index _ t.1, t.2)
-  tells_on values counted own (call.Add number owner) (Added (Err why)) t = t
-  tells_on values counted own (call.Add number owner) (Removed state) t = t
-  tells_on values counted own (call.Add number owner) (Updated copied) t = t
-  tells_on values counted own (call.Remove owner index mode) (Added got) t = t
-  tells_on values counted own (call.Remove owner index mode) (Removed state) t = (t.0, goes_on_out index t.1, t.2)
-  tells_on values counted own (call.Remove owner index mode) (Updated copied) t = t
-  tells_on values counted own call.Update (Added got) t = t
-  tells_on values counted own call.Update (Removed state) t = t
-  tells_on values counted own call.Update (Updated true) t = copy_on own t
-  tells_on values counted own call.Update (Updated false) t = t
+  pub tells_on : (values : List (Vec ℕ)) (counted party : ℕ) (own : List Event) (c : MemberCall) (a : MemberAnswer)
+      → MemberTells n width values start counted party first events own c a
+      → MemberTells n width values start counted party first (events ++ e ∷ []) own c a
+  tells_on values counted party own (call.Add number owner) (Added (Ok index)) t = (t.0, comes_on party index _ t.1, t.2)
+  tells_on values counted party own (call.Add number owner) (Added (Err why)) t = t
+  tells_on values counted party own (call.Add number owner) (Removed state) t = t
+  tells_on values counted party own (call.Add number owner) (Updated copied) t = t
+  tells_on values counted party own (call.Remove owner index mode) (Added got) t = t
+  tells_on values counted party own (call.Remove owner index mode) (Removed state) t = (t.0, goes_on_out party index t.1, t.2)
+  tells_on values counted party own (call.Remove owner index mode) (Updated copied) t = t
+  tells_on values counted party own call.Update (Added got) t = t
+  tells_on values counted party own call.Update (Removed state) t = t
+  tells_on values counted party own call.Update (Updated true) t = copy_on own t
+  tells_on values counted party own call.Update (Updated false) t = t
 
   module _ (values : List (Vec ℕ)) (q : ℕ) (cells cells' : List ℕ) (places places' : List Place) (s : RobustCall) (own : List Event)
       (l : LeavesMembers n width q cells cells' places places') where
@@ -124,18 +130,18 @@ module _ (n width : ℕ) (start : RingWords) (first : ℕ) (events : List Event)
     knows_member_else (stage.Leave owner index mode) k = (
       k.0,
       k.1,
-      goes_on_out index k.2,
+      goes_on_out q index k.2,
       λ is. still_out index k.1 (l.back index is) false (k.3 (l.back index is)),
     )
     knows_member_else (stage.Drop owner index mode) k = (
       k.0,
       k.1,
-      goes_on_out index k.2,
+      goes_on_out q index k.2,
       λ is. still_out index k.1 (l.back index is) false (k.3 (l.back index is)),
       k.4,
     )
-    knows_member_else (stage.Count c a) k = (k.0, tells_on values 0 own c a k.1)
-    knows_member_else (stage.Raise c a seen) k = (k.0, tells_on values 0 own c a k.1)
+    knows_member_else (stage.Count c a) k = (k.0, tells_on values 0 q own c a k.1)
+    knows_member_else (stage.Raise c a seen) k = (k.0, tells_on values 0 q own c a k.1)
     knows_member_else stage.Look k = tt
     knows_member_else (stage.Visit i) k = (k.0, λ j low. was_on j _ (k.1 j low))
     knows_member_else (stage.Gather i seen next) k = (
@@ -149,4 +155,4 @@ module _ (n width : ℕ) (start : RingWords) (first : ℕ) (events : List Event)
           let kept : (slice_index cells i ≡ seen) × _ = l.gathers i seen k.0 k.2 k.3 is in
           k.6 kept.0 j low ∙ sym (kept.1 j (omega (arith, low, k.5, k.4))),
     )
-    knows_member_else (stage.Done c a) k = tells_on values 1 own c a k
+    knows_member_else (stage.Done c a) k = tells_on values 1 q own c a k

@@ -9,7 +9,8 @@ use Rattle.iox_queues_steps.specs.Access.{RingWords}
 use Rattle.iox_queues.specs.Told.{own}
 use Rattle.iox_queues.specs.Values.{table_value}
 use Rattle.iox_queues.specs.declared.bits.machine.Event.{Event}
-use Rattle.iox_robust_steps.specs.ContainerSteps.{is_shown}
+use Rattle.iox_robust_steps.specs.ContainerAsked.{IsMemberAskedSoFar}
+use Rattle.iox_robust_steps.specs.ContainerSteps.{is_shown, member_in_hand}
 use Rattle.iox_robust_steps.specs.ContainerMachine.{ContainerParts, HasFewMoves, empty_parts, empty_words, member_seat}
 use Rattle.iox_robust_steps.specs.ContainerMachine.{member_stage, width_of}
 use Rattle.iox_robust_steps.specs.ContainerOfSet.{asked_so_far}
@@ -28,6 +29,8 @@ use Rattle.iox_robust_steps.specs.declared.container.MemberFinished.{MemberFinis
 use Rattle.iox_robust_steps.specs.declared.container.state.MemberSeat.{MemberSeat}
 use Rattle.iox_robust_steps.specs.declared.state.Place.{Place}
 use Rattle.iox_robust_steps.specs.declared.state.Place.TheVariants as place
+use Rattle.iox_robust_steps.proofs.ContainerMoments.{each_moment}
+use Rattle.iox_robust_steps.proofs.ContainerThroughout.{each_shows}
 use Rattle.iox_robust_steps.proofs.ContainerOfCalls.{empty_counted}
 use Rattle.iox_robust_steps.proofs.ContainerOfSet.{all_reasons}
 use Rattle.iox_robust_steps.proofs.ContainerSeats.{all_resting}
@@ -47,7 +50,12 @@ empty_kept capacity parties values small =
       size = length-replicate {A = ℕ} (capacity + (capacity * width + 1)) 0;
       began = λ q. omega (arith, ap (λ (s : MemberSeat). s.first) (all_resting parties q));
       since = λ q. omega (arith, ap (λ (s : MemberSeat). s.since) (all_resting parties q));
-      recorded = refl;
+      recorded = record {
+        answered = refl;
+        ended = tt;
+        going = λ q. subst (λ (s : MemberSeat). IsMemberAskedSoFar capacity width values q (member_in_hand s.stage) s.stage
+            (own q (drop s.first []))) (sym (all_resting parties q)) tt;
+      };
       counted = empty_counted capacity parties values;
       sound = λ few. record {
         write = refl;
@@ -94,19 +102,19 @@ between (suc a) (suc b) [] h = omega arith
 between (suc a) (suc b) (e ∷ events) h = omega (arith, between a b events (omega (arith, h)))
 
 -- a change counted once
-counted_once : (n width : ℕ) (values : List (Vec ℕ)) (start : RingWords) (first : ℕ) (events own : List Event) (c : MemberCall)
+counted_once : (n width : ℕ) (values : List (Vec ℕ)) (start : RingWords) (party first : ℕ) (events own : List Event) (c : MemberCall)
     (a : MemberAnswer)
-    → is_change c a ≡ true → MemberTells n width values start 1 first events own c a → times_counted own ≡ 1
-counted_once n width values start first events own (call.Add number owner) (Added (Ok index)) change t = t.2
-counted_once n width values start first events own (call.Add number owner) (Added (Err why)) change t = absurd (cc)
-counted_once n width values start first events own (call.Add number owner) (Removed state) change t = absurd t
-counted_once n width values start first events own (call.Add number owner) (Updated copied) change t = absurd t
-counted_once n width values start first events own (call.Remove owner index mode) (Added got) change t = absurd t
-counted_once n width values start first events own (call.Remove owner index mode) (Removed state) change t = t.2
-counted_once n width values start first events own (call.Remove owner index mode) (Updated copied) change t = absurd t
-counted_once n width values start first events own call.Update (Added got) change t = absurd t
-counted_once n width values start first events own call.Update (Removed state) change t = absurd t
-counted_once n width values start first events own call.Update (Updated copied) change t = absurd (cc)
+    → is_change c a ≡ true → MemberTells n width values start 1 party first events own c a → times_counted own ≡ 1
+counted_once n width values start party first events own (call.Add number owner) (Added (Ok index)) change t = t.2
+counted_once n width values start party first events own (call.Add number owner) (Added (Err why)) change t = absurd (cc)
+counted_once n width values start party first events own (call.Add number owner) (Removed state) change t = absurd t
+counted_once n width values start party first events own (call.Add number owner) (Updated copied) change t = absurd t
+counted_once n width values start party first events own (call.Remove owner index mode) (Added got) change t = absurd t
+counted_once n width values start party first events own (call.Remove owner index mode) (Removed state) change t = t.2
+counted_once n width values start party first events own (call.Remove owner index mode) (Updated copied) change t = absurd t
+counted_once n width values start party first events own call.Update (Added got) change t = absurd t
+counted_once n width values start party first events own call.Update (Removed state) change t = absurd t
+counted_once n width values start party first events own call.Update (Updated copied) change t = absurd (cc)
 
 module _ (m : ContainerParts) (k : MembersAreKept m) (few : HasFewMoves m) where
   sound : MembersAreSound m.indices.capacity m
@@ -144,8 +152,8 @@ module _ (m : ContainerParts) (k : MembersAreKept m) (few : HasFewMoves m) where
   news_of saw since is (f ∷ finished) told = (
     λ change later.
         let once : times_counted (own f.party (drop f.first (take f.last m.events))) ≡ 1
-        = counted_once m.indices.capacity (width_of m) m.values (empty_words m.indices.capacity (width_of m)) f.first (take f.last m.events)
-        (own f.party (drop f.first (take f.last m.events))) f.call f.answer change told.0.0 in
+        = counted_once m.indices.capacity (width_of m) m.values (empty_words m.indices.capacity (width_of m)) f.party f.first
+        (take f.last m.events) (own f.party (drop f.first (take f.last m.events))) f.call f.answer change told.0.0 in
         omega (
           arith,
           once,
@@ -175,6 +183,13 @@ module _ (m : ContainerParts) (k : MembersAreKept m) (few : HasFewMoves m) where
     whose = λ i within. shows_whose i (whose_after i None m.events) (sound.whose i within);
     passes = sound.passes;
     passing = sound.passing;
+    moments = each_moment m.indices.capacity (width_of m) m.values (empty_words m.indices.capacity (width_of m))
+        (length-replicate {A = ℕ} (m.indices.capacity + (m.indices.capacity * width_of m + 1)) 0) m.events m.finished sound.told
+        sound.passes sound.stays;
+    shows = each_shows m.indices.capacity (width_of m) m.values (empty_words m.indices.capacity (width_of m))
+        (length-replicate {A = ℕ} (m.indices.capacity + (m.indices.capacity * width_of m + 1)) 0)
+        (λ i within. ap is_shown (get_or-replicate {A = ℕ} (m.indices.capacity + (m.indices.capacity * width_of m + 1)) i 0 0
+        (omega (arith, within)))) m.events m.finished sound.told sound.stays;
     held = λ i within shown. holder_of i shown within (place_of m.indices.places i) refl;
     none_in = λ locked i within. sound.out i within (quiet_unheld (place_of m.indices.places i)
         (inner.whole.quiet (eqb-true m.indices.words.read lock_mark locked) i within));

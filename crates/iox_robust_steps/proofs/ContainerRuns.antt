@@ -53,7 +53,7 @@ pub told_on : (n width : ℕ) (values : List (Vec ℕ)) (start : RingWords) (eve
 told_on n width values start events e [] h = tt
 told_on n width values start events e (f ∷ finished) h = (
   (
-    subst (λ (es : List Event). MemberTells n width values start 1 f.first es (own f.party (drop f.first es)) f.call f.answer)
+    subst (λ (es : List Event). MemberTells n width values start 1 f.party f.first es (own f.party (drop f.first es)) f.call f.answer)
         (sym (take-append-le f.last events (e ∷ []) (omega (arith, h.0.1.ended)))) h.0.0,
     record { begun = h.0.1.begun; ended = omega (arith, h.0.1.ended, length-append events (e ∷ [])) },
   ),
@@ -86,7 +86,7 @@ module _ (n width : ℕ) (values : List (Vec ℕ)) (start : RingWords) (cells : 
   ended_told (stage.Gather i seen next) k = tt
   ended_told (stage.Done c answer) k = (
     (
-      subst (λ (es : List Event). MemberTells n width values start 1 first es (own party (drop first es)) c answer)
+      subst (λ (es : List Event). MemberTells n width values start 1 party first es (own party (drop first es)) c answer)
           (sym (take-append_seam events (e ∷ []))) k,
       record { begun = began; ended = omega (arith, length-append events (e ∷ [])) },
     ),
@@ -183,7 +183,7 @@ module _ (m : ContainerParts) (party : ℕ) (k : MembersAreKept m) (few : length
   step t = record { party = party; access = member_next n width m.values t; answer = answer t }
 
   now : m.words ≡ words_after start m.events
-  now = answered_after start m.words m.events k.recorded
+  now = answered_after start m.words m.events k.recorded.answered
 
   few_counted : (events : List Event) → times_counted events ≤ length events
   few_counted [] = omega arith

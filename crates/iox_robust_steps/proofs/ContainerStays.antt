@@ -40,7 +40,8 @@ use Rattle.iox_robust_steps.specs.declared.state.Place.{Place}
 use Rattle.iox_robust_steps.specs.declared.state.Place.TheVariants as place
 use Rattle.iox_robust_steps.proofs.ContainerRuns.{went_length}
 use Rattle.iox_robust_steps.proofs.ContainerSet.{acquire_gives_none, held_still, keeps_held, release_gives_own, still_his}
-use Rattle.iox_robust_steps.proofs.ContainerWords.{behind_counts, count_else, count_here, counts_stay, exact, next_shown, rows_apart}
+use Rattle.iox_robust_steps.proofs.ContainerWords.{behind_counts, count_else, count_here, counts_stay, exact, next_shown, row_below}
+use Rattle.iox_robust_steps.proofs.ContainerWords.{rows_apart}
 
 -- one more step
 pub whose_more : (place : ℕ) (now : Option ℕ) (events : List Event) (e : Event)
@@ -148,7 +149,7 @@ module _ (n width p : ℕ) (cells : List ℕ) (size : length cells ≡ n + (n * 
   stored cell value i = slice_index (set cells (cell % length cells) value) i
 
   abbrev Stays : ℕ → ℕ → ℕ → Option ℕ → Type 0
-  Stays cell value i o = MayBeStored n width i o p cell value
+  Stays cell value i o = ((cell < n + n * width) × MayBeStored n width i o p cell value)
       × FitsWhose (stored_by i p (Store (Cell cell) value) o) (stored cell value i) (x i)
 
   -- a store elsewhere leaves who is in
@@ -181,7 +182,10 @@ module _ (n width p : ℕ) (cells : List ℕ) (size : length cells ≡ n + (n * 
 
     pub fill_stays : (i : ℕ) → i < n → (o : Option ℕ) → FitsWhose o (slice_index cells i) (x i) → Stays cell value i o
     fill_stays i inside o h = (
-      may_fill i inside o h,
+      (
+        omega (arith, exact n width cells size small index next within low, row_below n width cells size small index next within low),
+        may_fill i inside o h,
+      ),
       elsewhere cell value i o (apart i inside) (counts_stay n width cells size small index next value within low i inside) h,
     )
 
@@ -206,7 +210,7 @@ module _ (n width p : ℕ) (cells : List ℕ) (size : length cells ≡ n + (n * 
 
     goes_else : (i : ℕ) → i < n → (o : Option ℕ) → (i ≡ index → ⊥) → FitsWhose o (slice_index cells i) (x i) → Goes i o
     goes_else i inside o differs h = (
-      may_else i inside o differs,
+      (omega (arith, within), may_else i inside o differs),
       elsewhere index (successor seen) i o (λ same. differs (sym same))
           (count_else n width cells size small index (successor seen) within i differs) h,
     )
@@ -221,7 +225,7 @@ module _ (n width p : ℕ) (cells : List ℕ) (size : length cells ≡ n + (n * 
       where
         at_index : (o : Option ℕ) → FitsWhose o (slice_index cells index) (x index) → Goes index o
         at_index None h = (
-          λ same. turned false hidden,
+          (omega (arith, within), λ same. turned false hidden),
           subst (λ (b : Bool). FitsWhose (if b then (if is_shown (successor seen) then Some p else None) else None)
               (stored index (successor seen) index) (x index)) (sym (eq-eqb index index refl))
               (subst (λ (b : Bool). FitsWhose (if b then Some p else None) (stored index (successor seen) index) (x index))
@@ -243,8 +247,11 @@ module _ (n width p : ℕ) (cells : List ℕ) (size : length cells ≡ n + (n * 
             let both : place.Held p ≡ place.Held q = sym held ∙ h.1 in
             let same_party : p ≡ q = cc in (
               (
-                λ same. (same_party, turned true in_then),
-                λ j low same. behind_counts n width cells size small index j index within low within (sym same),
+                omega (arith, within),
+                (
+                  λ same. (same_party, turned true in_then),
+                  λ j low same. behind_counts n width cells size small index j index within low within (sym same),
+                ),
               ),
               subst (λ (b : Bool). FitsWhose (if b then (if is_shown (successor seen) then Some p else None) else Some q)
                   (stored index (successor seen) index) (x index)) (sym (eq-eqb index index refl))

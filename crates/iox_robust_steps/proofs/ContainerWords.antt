@@ -1,6 +1,6 @@
 -- Where the counts of places and the words of values lie, and what a store changes of them.
 use Rattle.std.proofs.Common.{◌≡◌, ℕ, ◌+◌, ◌*◌, ◌/◌, ◌%◌, ◌^◌, ◌<◌, ◌≤◌, Bool, true, false, not, ◌==◌, List, [], ◌∷◌, ◌++◌}
-use Rattle.std.proofs.Common.{length, set, slice_index, take, refl, sym, ◌∙◌, ap, subst, arith, length-append, mod-eq_of_lt}
+use Rattle.std.proofs.Common.{length, set, slice_index, take, refl, sym, ◌∙◌, ap, subst, arith, mod-eq_of_lt}
 use Rattle.std.proofs.Math.Nat.{mul_comm}
 use Rattle.std.proofs.Math.Seq.{get_or-set_same, get_or-set_other, take-append_seam}
 use Rattle.std.proofs.lemmas.Bool.{eq-eqb, eqb-false, eqb-true, ne_eqb}
@@ -59,23 +59,13 @@ value_before n width start events e place moment j low =
     ap (λ (es : List Event). slice_index (words_after start es).cells (value_cell n width place j))
     (take-append-le moment events (e ∷ []) low)
 
--- the words now are those of the last moment, and after one more step those of the next
+-- the words now are those of the last moment, also after one more step
 module _ (start words : RingWords) (events : List Event) (now : words ≡ words_after start events) (e : Event) where
   pub at_now : take (length events) (events ++ e ∷ []) ≡ events
   at_now = take-append_seam events (e ∷ [])
 
-  all_of : (xs : List Event) → take (length xs) xs ≡ xs
-  all_of [] = refl
-  all_of (x ∷ xs) = ap (λ (ys : List Event). x ∷ ys) (all_of xs)
-
   pub cells_now : (words_after start (take (length events) (events ++ e ∷ []))).cells ≡ words.cells
   cells_now = ap (λ (es : List Event). (words_after start es).cells) at_now ∙ ap (λ (w : RingWords). w.cells) (sym now)
-
-  pub cells_next : (words_after start (take (length events + 1) (events ++ e ∷ []))).cells ≡ (after_access words e.access).cells
-  cells_next = ap (λ (k : ℕ). (words_after start (take k (events ++ e ∷ []))).cells) (sym (length-append events (e ∷ [])))
-      ∙ ap (λ (es : List Event). (words_after start es).cells) (all_of (events ++ e ∷ []))
-      ∙ ap (λ (w : RingWords). w.cells) (words_more start events e)
-      ∙ ap (λ (w : RingWords). (after_access w e.access).cells) (sym now)
 
 module _ (n width : ℕ) (cells : List ℕ) (size : length cells ≡ n + (n * width + 1)) (small : length cells < 2 ^ 62) where
   pub row_below : (i j : ℕ) → i < n → j < width → i * width + j < n * width

@@ -22,7 +22,10 @@ pub mod ContainerRuns
 pub mod ContainerOfSet
 pub mod ContainerStays
 pub mod ContainerOfCalls
+pub mod ContainerAsked
 pub mod ContainerKeeps
 pub mod ContainerCopies
 pub mod ContainerCalls
+pub mod ContainerMoments
+pub mod ContainerThroughout
 pub mod ContainerOrderly

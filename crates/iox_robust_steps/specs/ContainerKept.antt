@@ -7,8 +7,10 @@ use Rattle.iox_queues.specs.Told.{own}
 use Rattle.iox_queues.specs.Values.{table_value}
 use Rattle.iox_queues.specs.declared.bits.machine.Event.{Event}
 use Rattle.iox_robust_steps.specs.ContainerSteps.{answer_at, is_shown, value_cell}
+use Rattle.iox_robust_steps.specs.ContainerThroughout.{EachShowsWhoStays}
 use Rattle.iox_robust_steps.specs.ContainerMachine.{ContainerParts, HasFewMoves, MembersAreRecorded, empty_words, member_seat, member_stage}
 use Rattle.iox_robust_steps.specs.ContainerMachine.{width_of}
+use Rattle.iox_robust_steps.specs.ContainerMoments.{EachHasItsMoment}
 use Rattle.iox_robust_steps.specs.ContainerOfSet.{AsksSet, HaveReasons}
 use Rattle.iox_robust_steps.specs.ContainerStays.{EachLetsPass, LetsPassSoFar, MembersAreOfCalls, ShowsWhose, StaysTillTakenOut}
 use Rattle.iox_robust_steps.specs.ContainerStays.{whose_after}
@@ -65,16 +67,16 @@ KnowsMember n width values start cells places party s first events own (stage.Hi
     (times_counted own ≡ 0) × (index < n) × (place_of places index ≡ place.Held party) × (is_shown (slice_index cells index) ≡ true)
     × (seen ≡ slice_index cells index)
 KnowsMember n width values start cells places party s first events own (stage.Leave owner index mode) =
-    (times_counted own ≡ 0) × (index < n) × GoesOut start first events index
+    (times_counted own ≡ 0) × (index < n) × GoesOut start party first events index
     × (place_of places index ≡ place.Held party → is_shown (slice_index cells index) ≡ false)
 KnowsMember n width values start cells places party s first events own (stage.Drop owner index mode) =
-    (times_counted own ≡ 0) × (index < n) × GoesOut start first events index
+    (times_counted own ≡ 0) × (index < n) × GoesOut start party first events index
     × (place_of places index ≡ place.Held party → is_shown (slice_index cells index) ≡ false)
     × (call_in_hand s ≡ Some (set_call.Release owner index mode))
 KnowsMember n width values start cells places party s first events own (stage.Count c answer) =
-    (is_change c answer ≡ true) × MemberTells n width values start 0 first events own c answer
+    (is_change c answer ≡ true) × MemberTells n width values start 0 party first events own c answer
 KnowsMember n width values start cells places party s first events own (stage.Raise c answer seen) =
-    (is_change c answer ≡ true) × MemberTells n width values start 0 first events own c answer
+    (is_change c answer ≡ true) × MemberTells n width values start 0 party first events own c answer
 KnowsMember n width values start cells places party s first events own stage.Look = Unit {0}
 KnowsMember n width values start cells places party s first events own (stage.Visit i) =
     (i < n) × SawBelow n width start first events own i
@@ -82,7 +84,7 @@ KnowsMember n width values start cells places party s first events own (stage.Ga
     (i < n) × SawBelow n width start first events own i × (is_shown seen ≡ true) × (seen ≤ slice_index cells i) × (next ≤ width)
     × (length (gathered_after n [] own) ≡ next) × HasGathered n width cells i seen (gathered_after n [] own)
 KnowsMember n width values start cells places party s first events own (stage.Done c answer) =
-    MemberTells n width values start 1 first events own c answer
+    MemberTells n width values start 1 party first events own c answer
 
 -- nobody holds the index
 abbrev pub IsUnheld : List Place → ℕ → Type 0
@@ -126,9 +128,12 @@ pub record MembersAreKept (m : ContainerParts) : Type 0 where
 
 -- what every list of steps keeps: of the set of indices all that its own machine keeps; what its answer says of each call that ended; a
 -- party's calls on the set are those of its additions and removals, whose answers they are; a member stays, with its value, till the
--- party that put it in takes it out, by its removal, since each call lets pass by its own steps just what it answers; the count of a
--- place says whose member is in, and that party holds the index, so none is in where the set is locked; and a change that began and ended
--- since a party's last copy moved the count of changes on from what that copy saw, so that the next copy doesn't answer that there was none
+-- party that put it in takes it out, by its removal, since each call lets pass by its own steps just what it answers; an addition and a
+-- removal have a step of their own up to which the member isn't in, or is, at each moment of the call, and is, or isn't, from then on; a
+-- copy shows each member that is in at each moment of it, with the value that it has then;
+-- the count of a place says whose member is in, and that party holds the index, so none is in where the set is locked; and a change that
+-- began and ended since a party's last copy moved the count of changes on from what that copy saw, so that the next copy doesn't answer
+-- that there was none
 pub record MembersAreOrderly (m : ContainerParts) : Type 0 where
   pub indices : IsOrderly m.indices
   pub told : AreMembersTold m.indices.capacity (width_of m) m.values (empty_words m.indices.capacity (width_of m)) m.events m.finished
@@ -140,6 +145,8 @@ pub record MembersAreOrderly (m : ContainerParts) : Type 0 where
   pub passes : EachLetsPass m.indices.capacity m.events m.finished
   pub passing : (q : ℕ)
       → LetsPassSoFar m.indices.capacity (member_stage m.seats q) (own q (drop (member_seat m.seats q).first m.events))
+  pub moments : EachHasItsMoment m.indices.capacity (width_of m) m.values (empty_words m.indices.capacity (width_of m)) m.events m.finished
+  pub shows : EachShowsWhoStays m.indices.capacity (width_of m) (empty_words m.indices.capacity (width_of m)) m.events m.finished
   pub held : (i : ℕ) → i < m.indices.capacity → is_shown (slice_index m.words.cells i) ≡ true → (p : ℕ) × Holds p i m.indices.events
   pub none_in : is_locked m.indices ≡ true → (i : ℕ) → i < m.indices.capacity → is_shown (slice_index m.words.cells i) ≡ false
   pub news : (q : ℕ) → AllAreNews (member_seat m.seats q).saw (member_seat m.seats q).since m.words.write m.finished

@@ -1,7 +1,7 @@
 -- A container of members as a machine: its steps, over a set of indices that knows their holders.
 use Rattle.std.specs.Prelude.{ℕ, ◌≡◌, ◌+◌, ◌-◌, ◌*◌, ◌^◌, ◌<◌, Bool, true, false, not, if◌then◌else◌, ◌==◌, ◌&&◌, nat_lt, Option, Some}
 use Rattle.std.specs.Prelude.{None}
-use Rattle.std.specs.Prelude.{List, [], ◌∷◌, ◌++◌, length, set, slice_get, replicate}
+use Rattle.std.specs.Prelude.{List, [], ◌∷◌, ◌++◌, length, set, slice_get, replicate, drop}
 use Rattle.std.specs.Global.{Vec}
 use Rattle.iox_queues_steps.specs.Access.{RingWords, answer_of, after_access, word_of}
 use Rattle.iox_queues_steps.specs.declared.access.Word.TheVariants.{Cell}
@@ -9,9 +9,11 @@ use Rattle.iox_queues_steps.specs.declared.access.Access.TheVariants.{Local}
 use Rattle.iox_queues_steps.specs.declared.schedule.Stepped.{Stepped}
 use Rattle.iox_queues_steps.specs.declared.schedule.Stepped.TheVariants as stepped
 use Rattle.iox_queues.specs.Recorded.{Answered}
+use Rattle.iox_queues.specs.Told.{own}
 use Rattle.iox_queues.specs.Turns.{CallsOf, RunsBy, StepsBy, TellsCalls}
 use Rattle.iox_queues.specs.Values.{table_value}
 use Rattle.iox_queues.specs.declared.bits.machine.Event.{Event}
+use Rattle.iox_robust_steps.specs.ContainerAsked.{AreMembersAsked, IsMemberAskedSoFar}
 use Rattle.iox_robust_steps.specs.ContainerSteps.{answer_at, is_shown, member_begun, member_in_hand, member_is_idle, member_is_over}
 use Rattle.iox_robust_steps.specs.ContainerSteps.{member_next, member_take}
 use Rattle.iox_robust_steps.specs.Machine.{RobustSetState}
@@ -247,9 +249,13 @@ member_calls = record {
 abbrev pub MemberTellsStep : ContainerParts → MemberMove → Stepped → ContainerParts → Type 0
 MemberTellsStep m step r n = TellsCalls ContainerParts MemberCall MemberFinished member_calls m (asks_of step) (member_call m step) r n
 
--- each step got what its word held, and they left the words as they are
-abbrev pub MembersAreRecorded : ContainerParts → Type 0
-MembersAreRecorded m = Answered (empty_words m.indices.capacity (width_of m)) m.events m.words
+-- each step got what its word held, and they left the words as they are; the steps of each call, ended or in hand, are those that its
+-- value asked for
+pub record MembersAreRecorded (m : ContainerParts) : Type 0 where
+  pub answered : Answered (empty_words m.indices.capacity (width_of m)) m.events m.words
+  pub ended : AreMembersAsked m.indices.capacity (width_of m) m.values m.events m.finished
+  pub going : (party : ℕ) → IsMemberAskedSoFar m.indices.capacity (width_of m) m.values party (member_in_hand (member_stage m.seats party))
+      (member_stage m.seats party) (own party (drop (member_seat m.seats party).first m.events))
 
 -- a call copies, or did
 abbrev pub is_copy : ContainerCall → Bool

@@ -1,5 +1,5 @@
 -- How long a member stays in a container: till the party that put it in takes it out, by a removal.
-use Rattle.std.specs.Prelude.{ℕ, ◌≡◌, ◌<◌, Bool, true, false, if◌then◌else◌, ◌==◌, nat_lt, Ok, Err, Option, Some, None, List, []}
+use Rattle.std.specs.Prelude.{ℕ, ◌≡◌, ◌+◌, ◌*◌, ◌<◌, Bool, true, false, if◌then◌else◌, ◌==◌, nat_lt, Ok, Err, Option, Some, None, List, []}
 use Rattle.std.specs.Prelude.{◌∷◌, ◌++◌, take, drop}
 use Rattle.iox_queues_steps.specs.declared.access.Word.TheVariants.{Write, Read, Cell}
 use Rattle.iox_queues_steps.specs.declared.access.Access.{Access}
@@ -42,12 +42,12 @@ MayBeStored n width place (Some owner) party cell value =
     (cell ≡ place → (party ≡ owner) × (is_shown value ≡ false))
     × ((j : ℕ) → j < width → cell ≡ value_cell n width place j → ⊥)
 
--- so of a step of a party; no step exchanges a cell
+-- so of a step of a party, which stores the count of a place or a word of the value of one; no step exchanges a cell
 abbrev pub MayBeMade : ℕ → ℕ → ℕ → Option ℕ → ℕ → Access → Type 0
 MayBeMade n width place now party (Load word) = Unit {0}
 MayBeMade n width place now party (Store Write value) = Unit {0}
 MayBeMade n width place now party (Store Read value) = Unit {0}
-MayBeMade n width place now party (Store (Cell cell) value) = MayBeStored n width place now party cell value
+MayBeMade n width place now party (Store (Cell cell) value) = (cell < n + n * width) × MayBeStored n width place now party cell value
 MayBeMade n width place now party (Exchange Write old new) = Unit {0}
 MayBeMade n width place now party (Exchange Read old new) = Unit {0}
 MayBeMade n width place now party (Exchange (Cell cell) old new) = ⊥

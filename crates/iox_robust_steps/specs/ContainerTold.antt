@@ -2,7 +2,7 @@
 use Rattle.std.specs.Prelude.{ℕ, ◌≡◌, ◌+◌, ◌<◌, ◌≤◌, Bool, true, false, if◌then◌else◌, ◌==◌, nat_lt, Ok, Err, List, [], ◌∷◌, ◌++◌}
 use Rattle.std.specs.Prelude.{length, slice_index, take, drop}
 use Rattle.std.specs.Global.{Vec}
-use Rattle.iox_queues_steps.specs.Access.{RingWords}
+use Rattle.iox_queues_steps.specs.Access.{RingWords, after_access}
 use Rattle.iox_queues_steps.specs.declared.access.Word.TheVariants.{Write, Read, Cell}
 use Rattle.iox_queues_steps.specs.declared.access.Access.{Access}
 use Rattle.iox_queues_steps.specs.declared.access.Access.TheVariants.{Load, Store, Exchange, Local}
@@ -97,45 +97,54 @@ pub record CopyIsTrue (n width : ℕ) (start : RingWords) (first : ℕ) (events 
       → ((moment : ℕ) → first ≤ moment → moment ≤ length events → count_at start events place moment ≡ count)
       → (shown_at n place own).count ≡ count
 
--- one of the steps since `first` put the member in: none was in at the place before, and this value is there with it
-pub record ComesIn (n width : ℕ) (start : RingWords) (first : ℕ) (events : List Event) (place : ℕ) (value : List ℕ) : Type 0 where
-  pub moment : ℕ
-  pub after : first ≤ moment
-  pub before : moment < length events
-  pub out : is_shown (count_at start events place moment) ≡ false
-  pub in_then : is_shown (count_at start events place (moment + 1)) ≡ true
-  pub is : (j : ℕ) → j < width → value_at n width start events place (moment + 1) j ≡ slice_index value j
+-- one of the party's steps since `first` put the member in: none was in at the place before, and this value is there with it
+pub record ComesIn (n width : ℕ) (start : RingWords) (party first : ℕ) (events : List Event) (place : ℕ) (value : List ℕ) : Type 0 where
+  pub earlier : List Event
+  pub event : Event
+  pub later : List Event
+  pub whole : events ≡ earlier ++ event ∷ later
+  pub inside : first ≤ length earlier
+  pub its : event.party ≡ party
+  pub out : is_shown (slice_index (words_after start earlier).cells place) ≡ false
+  pub in_then : is_shown (slice_index (after_access (words_after start earlier) event.access).cells place) ≡ true
+  pub is : (j : ℕ) → j < width
+      → slice_index (after_access (words_after start earlier) event.access).cells (value_cell n width place j) ≡ slice_index value j
 
--- one of the steps since `first` took the member out that was in at the place
-pub record GoesOut (start : RingWords) (first : ℕ) (events : List Event) (place : ℕ) : Type 0 where
-  pub moment : ℕ
-  pub after : first ≤ moment
-  pub before : moment < length events
-  pub in_before : is_shown (count_at start events place moment) ≡ true
-  pub out : is_shown (count_at start events place (moment + 1)) ≡ false
+-- one of the party's steps since `first` took the member out that was in at the place
+pub record GoesOut (start : RingWords) (party first : ℕ) (events : List Event) (place : ℕ) : Type 0 where
+  pub earlier : List Event
+  pub event : Event
+  pub later : List Event
+  pub whole : events ≡ earlier ++ event ∷ later
+  pub inside : first ≤ length earlier
+  pub its : event.party ≡ party
+  pub in_before : is_shown (slice_index (words_after start earlier).cells place) ≡ true
+  pub out : is_shown (slice_index (after_access (words_after start earlier) event.access).cells place) ≡ false
 
--- what the answer of a call says, which began with the step `first` and made the steps `own`: an addition put its value in, and a
--- removal took its member out, and so many changes were counted; one that was refused counted none; a copy is true, where one was made
-abbrev pub MemberTells : ℕ → ℕ → List (Vec ℕ) → RingWords → ℕ → ℕ → List Event → List Event → MemberCall → MemberAnswer → Type 0
-MemberTells n width values start counted first events own (call.Add number owner) (Added (Ok index)) =
-    (index < n) × ComesIn n width start first events index (table_value values number) × (times_counted own ≡ counted)
-MemberTells n width values start counted first events own (call.Add number owner) (Added (Err why)) = times_counted own ≡ 0
-MemberTells n width values start counted first events own (call.Add number owner) (Removed state) = ⊥
-MemberTells n width values start counted first events own (call.Add number owner) (Updated copied) = ⊥
-MemberTells n width values start counted first events own (call.Remove owner index mode) (Added got) = ⊥
-MemberTells n width values start counted first events own (call.Remove owner index mode) (Removed state) =
-    (index < n) × GoesOut start first events index × (times_counted own ≡ counted)
-MemberTells n width values start counted first events own (call.Remove owner index mode) (Updated copied) = ⊥
-MemberTells n width values start counted first events own call.Update (Added got) = ⊥
-MemberTells n width values start counted first events own call.Update (Removed state) = ⊥
-MemberTells n width values start counted first events own call.Update (Updated true) = CopyIsTrue n width start first events own
-MemberTells n width values start counted first events own call.Update (Updated false) = Unit {0}
+-- what the answer of a party's call says, which began with the step `first` and made the steps `own`: an addition put its value in, and a
+-- removal took its member out, by a step of the party, and so many changes were counted; one that was refused counted none; a copy is
+-- true, where one was made
+abbrev pub MemberTells : ℕ → ℕ → List (Vec ℕ) → RingWords → ℕ → ℕ → ℕ → List Event → List Event → MemberCall → MemberAnswer → Type 0
+MemberTells n width values start counted party first events own (call.Add number owner) (Added (Ok index)) =
+    (index < n) × ComesIn n width start party first events index (table_value values number) × (times_counted own ≡ counted)
+MemberTells n width values start counted party first events own (call.Add number owner) (Added (Err why)) = times_counted own ≡ 0
+MemberTells n width values start counted party first events own (call.Add number owner) (Removed state) = ⊥
+MemberTells n width values start counted party first events own (call.Add number owner) (Updated copied) = ⊥
+MemberTells n width values start counted party first events own (call.Remove owner index mode) (Added got) = ⊥
+MemberTells n width values start counted party first events own (call.Remove owner index mode) (Removed state) =
+    (index < n) × GoesOut start party first events index × (times_counted own ≡ counted)
+MemberTells n width values start counted party first events own (call.Remove owner index mode) (Updated copied) = ⊥
+MemberTells n width values start counted party first events own call.Update (Added got) = ⊥
+MemberTells n width values start counted party first events own call.Update (Removed state) = ⊥
+MemberTells n width values start counted party first events own call.Update (Updated true) = CopyIsTrue n width start first events own
+MemberTells n width values start counted party first events own call.Update (Updated false) = Unit {0}
 
 -- so of each call that ended, which lies among the steps made
 abbrev pub AreMembersTold : ℕ → ℕ → List (Vec ℕ) → RingWords → List Event → List MemberFinished → Type 0
 AreMembersTold n width values start events [] = Unit {0}
 AreMembersTold n width values start events (f ∷ finished) =
-    (MemberTells n width values start 1 f.first (take f.last events) (own f.party (drop f.first (take f.last events))) f.call f.answer
+    (MemberTells n width values start 1 f.party f.first (take f.last events) (own f.party (drop f.first (take f.last events))) f.call
+    f.answer
     × LiesWithin events f.first f.last)
     × AreMembersTold n width values start events finished
 

@@ -8,9 +8,12 @@ pub mod Recovering
 pub mod Kept
 pub mod State
 pub mod ContainerSteps
+pub mod ContainerAsked
 pub mod ContainerMachine
 pub mod ContainerTold
 pub mod ContainerOfSet
 pub mod ContainerStays
+pub mod ContainerMoments
+pub mod ContainerThroughout
 pub mod ContainerKept
 pub mod ContainerView

@@ -34,14 +34,15 @@ pub struct MemberFinished {
 ///
 /// A table has the values that may be added, each of as many words as the first. Any party may stop anywhere. A removal fits only where
 /// the party that added the member removes it, so once; no call recovers the members of a party. However many steps were made, each got
-/// what its word held, and is one of one call of its party.
+/// what its word held, and is one of one call of its party; the steps of a call are those that its value asked for.
 ///
 /// Where fewer than 2^64 - 1 steps were made, all stands that is said of a set of indices ([`RobustSetMachine`]). An addition that
 /// wasn't refused put its value in at the index that it answers, where none was in, a removal took its member out, each by one step of its
-/// own, and each counted one change. An addition is refused as its call on the set was, and a removal answers what its own did. A member
-/// stays, with its value, till the party that put it in takes it out, by its removal. Each member that a copy shows was in, with just that
-/// value, at one moment of the copy, and a member in throughout is shown. A copy answers that nothing changed only where no change began
-/// and ended since the party's last copy.
+/// own, and each counted one change. That step is the moment of the call: up to it a member that is added isn't in, and one that is
+/// removed is, and from then on the other way round. An addition is refused as its call on the set was, and a removal answers what its own
+/// did. A member stays, with its value, till the party that put it in takes it out. Each member that a copy shows was in, with just that
+/// value, at one moment of the copy, and a member in throughout is shown, with its value. A copy answers that nothing changed only where
+/// no change began and ended since the party's last copy.
 #[derive(Debug, Drop)]
 pub struct ContainerMachine {
     state: MemberState,

@@ -1,6 +1,9 @@
 -- Lines name no more commands and steps than they have bytes.
 use Rattle.std.proofs.Common.{◌≡◌, ℕ, zero, suc, ◌+◌, ◌≤◌, ◌==◌, Bool, true, false, List, [], ◌∷◌, ◌++◌, Result, Ok, Err, if◌then◌else◌}
 use Rattle.std.proofs.Common.{length, length-append, map, take, ap, arith}
+use Rattle.std.specs.List.{AllZip, filter_map, join_with_byte}
+use Rattle.std.specs.Result.{result_ok}
+use Rattle.std.specs.Str.{byte}
 use Rattle.iox_command.specs.declared.command.Command.{Command}
 use Rattle.iox_command.specs.declared.command.Command.TheVariants as command
 use Rattle.iox_command.specs.declared.step.ForeignStep.{ForeignStep}
@@ -9,23 +12,21 @@ use Rattle.iox_conversation.proofs.Shorthands.{before_first_of, ended_lines_of, 
 use Rattle.iox_conversation.specs.Lines.{heard_whole}
 use Rattle.iox_hub_machine.specs.RunLaws.{all_asked, steps_named}
 use Rattle.iox_line.proofs.Shorthands.{WritesSteps, beginning}
-use Rattle.iox_line.specs.Letters.{space}
+use Rattle.iox_line.specs.Outcome.{IsReadAs}
 use Rattle.iox_line.specs.Spelling.{Spells}
 use Rattle.iox_line.specs.Steps.{WritesLists}
-use Rattle.iox_line.specs.Words.{joined}
 use Rattle.iox_line.specs.declared.error.LineError.{LineError}
-use Rattle.iox_script.specs.Answered.{AreReadAs, commands_among}
 
 -- the bytes of lines, and one more for each
 abbrev bytes_of : List (List ℕ) → ℕ
 bytes_of [] = 0
 bytes_of (line ∷ lines) = 1 + length line + bytes_of lines
 
-words-few : (separator : ℕ) (words : List (List ℕ)) → length words ≤ 1 + length (joined separator words)
+words-few : (separator : ℕ) (words : List (List ℕ)) → length words ≤ 1 + length (join_with_byte separator words)
 words-few separator [] = omega arith
 words-few separator (word ∷ []) = omega arith
 words-few separator (word ∷ next ∷ words) =
-    omega (arith, words-few separator (next ∷ words), length-append word (separator ∷ joined separator (next ∷ words)))
+    omega (arith, words-few separator (next ∷ words), length-append word (separator ∷ join_with_byte separator (next ∷ words)))
 
 lists-few : (now : ℕ) (steps : List StepBefore) (words : List (List ℕ)) → WritesLists now steps words → length steps ≤ length words
 lists-few now [] words are = omega arith
@@ -44,14 +45,14 @@ steps-few (step ∷ steps) (word ∷ words) are = omega (arith, steps-few steps 
 -- words that name a service have as many for its steps
 named-few : (chosen attributed listed named : List (List ℕ)) (node pattern name line : List ℕ) (words : List (List ℕ)) (verb : List ℕ)
     (steps : ℕ) → steps ≤ length listed → named ≡ node ∷ pattern ∷ name ∷ (chosen ++ (attributed ++ listed)) → words ≡ verb ∷ named
-    → line ≡ joined space words → steps ≤ length line
+    → line ≡ join_with_byte (byte " ") words → steps ≤ length line
 named-few chosen attributed listed named node pattern name line words verb steps few is all spelled = omega (
   arith,
   few,
   ap (λ (all : List (List ℕ)). length all) is,
   ap (λ (all : List (List ℕ)). length all) all,
   ap (λ (bytes : List ℕ). length bytes) spelled,
-  words-few space words,
+  words-few (byte " ") words,
   length-append chosen (attributed ++ listed),
   length-append attributed listed,
 )
@@ -76,11 +77,15 @@ line-few line (command.Foreign pattern name steps) spelled =
       steps-few steps writes.0 writes.1,
       ap (λ (all : List (List ℕ)). length all) writes.2,
       ap (λ (bytes : List ℕ). length bytes) spelled.spaced_so,
-      words-few space spelled.words,
+      words-few (byte " ") spelled.words,
     )
 line-few line other spelled = omega arith
 
-reads-few : (lines : List (List ℕ)) (reads : List (Result (Command ℕ) LineError)) → AreReadAs lines reads
+-- the commands among what was read, in order
+abbrev pub commands_among : List (Result (Command ℕ) LineError) → List (Command ℕ)
+commands_among reads = filter_map (λ (read : Result (Command ℕ) LineError). result_ok read) reads
+
+reads-few : (lines : List (List ℕ)) (reads : List (Result (Command ℕ) LineError)) → AllZip IsReadAs lines reads
     → all_asked (commands_among reads) ≤ bytes_of lines
 reads-few [] [] are = omega arith
 reads-few (line ∷ lines) (Ok asked ∷ reads) are = omega (arith, line-few line asked are.0.1, reads-few lines reads are.1)
@@ -132,13 +137,13 @@ append-few [] others = omega arith
 append-few (line ∷ lines) others = omega (arith, append-few lines others)
 
 -- commands among the lines that are heard, and the steps that they name, are no more than the bytes, or one more
-pub asked-heard : (bytes : List ℕ) (reads : List (Result (Command ℕ) LineError)) → AreReadAs (heard bytes) reads
+pub asked-heard : (bytes : List ℕ) (reads : List (Result (Command ℕ) LineError)) → AllZip IsReadAs (heard bytes) reads
     → all_asked (commands_among reads) ≤ 1 + length bytes
 asked-heard bytes reads are = omega (arith, reads-few (heard bytes) reads are, heard-few bytes)
 
 -- so it is of the first of those that were read whole
 pub asked-whole : (ended : Bool) (bytes : List ℕ) (lines others : List (List ℕ)) (reads : List (Result (Command ℕ) LineError))
-    → heard_whole ended bytes ≡ lines ++ others → AreReadAs lines reads → all_asked (commands_among reads) ≤ 1 + length bytes
+    → heard_whole ended bytes ≡ lines ++ others → AllZip IsReadAs lines reads → all_asked (commands_among reads) ≤ 1 + length bytes
 asked-whole ended bytes lines others reads whole are = omega (
   arith,
   reads-few lines reads are,

@@ -1,8 +1,8 @@
 -- A script answers lines as the machine does.
 use Rattle.std.proofs.Common.{ℕ, ◌≡◌, ◌<◌, ◌≤◌, ◌^◌, ◌⊎◌, ◌∷◌, ◌++◌, ◌∙◌, Bool, true, false, List, [], Option, None, Some, IfSome}
-use Rattle.std.proofs.Common.{Result, Ok, Err}
-use Rattle.std.proofs.Common.{OnOk, IfErr, codes, length, refl, sym, ap, inl, inr, arith, append_assoc, length-append}
+use Rattle.std.proofs.Common.{OnOk, IfErr, codes, length, refl, sym, ap, inl, inr, arith, append_assoc, length-append, Result, Ok, Err}
 use Rattle.std.specs.Io.KnownBytes.{Appends}
+use Rattle.std.specs.List.{AllZip}
 use Rattle.iox_conversation.proofs.Shorthands.{heard}
 use Rattle.iox_conversation.proofs.LineLemmas.{is_unbroken}
 use Rattle.iox_conversation.proofs.WholeLineLemmas.{heard_whole-done, heard_whole-more}
@@ -12,23 +12,27 @@ use Rattle.iox_conversation.specs.declared.error.ServeError.{ServeError}
 use Rattle.iox_conversation.specs.declared.error.ServeError.TheVariants.{WriteFault}
 use Rattle.iox_hub_commands.specs.Command.declared.command.Command.{Command}
 use Rattle.iox_hub_commands.specs.Command.declared.reply.Reply.{Reply}
+use Rattle.iox_hub_commands.specs.Asked.{types_of}
 use Rattle.iox_hub_commands.specs.HubBase.declared.hub.HubConfig.{HubConfig}
 use Rattle.iox_hub_commands.specs.Numbers.{IsNew, numbers_used}
 use Rattle.iox_hub_commands.specs.Runs.{Runs}
-use Rattle.iox_hub_machine.specs.RunLaws.{RunAnswers, all_asked}
+use Rattle.iox_hub_machine.specs.RunLaws.{RunAnswers, all_asked, names_in}
 use Rattle.iox_line.specs.DescribeBase.Detail.{detail}
 use Rattle.iox_line.specs.DescribeBase.declared.type_detail.TypeVariant.TheVariants.{FixedSize}
 use Rattle.iox_line.specs.DomainValues.Actions.{decision_of}
 use Rattle.iox_line.specs.LineFault.{fault_text}
-use Rattle.iox_line.specs.Outcome.{Answers}
+use Rattle.iox_line.specs.Outcome.{Answers, IsReadAs}
 use Rattle.iox_line.specs.ReplyText.{reply_text}
 use Rattle.iox_line.specs.declared.error.LineError.{LineError}
+use Rattle.iox_line.specs.declared.error.LineError.TheVariants as fault
 use Rattle.iox_script.proofs.Breaking.{due-longer, whole-at_end, whole-by}
-use Rattle.iox_script.proofs.Counted.{asked-heard, asked-whole}
-use Rattle.iox_script.specs.Answered.{AnswersAsNewMachine, AreReadAs, BeginsAsNewMachine, GoesOnAsNewMachine}
-use Rattle.iox_script.specs.Answered.{NewMachineMayReply, commands_among, reply_lines, script_types}
+use Rattle.iox_script.proofs.Counted.{asked-heard, asked-whole, commands_among}
+use Rattle.iox_script.specs.Answered.{AnswersAsNewMachine, BeginsAsNewMachine, NewMachineMayReply, reply_lines}
 use Rattle.iox_script.specs.Conversation.{AnswersLine, AnswersRead, IsNewScript, ScriptHub, ScriptStep}
 use Rattle.iox_script.specs.declared.script.Script.{Script}
+use Rattle.iox_machine.specs.Choices.{as_named}
+use Rattle.iox_machine.specs.Run as machine
+use Rattle.iox_negotiate_machine.specs.Laws.{HaveOwnHashes}
 use Rattle.iox_hub_commands.specs.declared.handlers.FixedDegradation.{FixedDegradation}
 use Rattle.iox_hub_commands.specs.declared.handlers.FixedHandlers.{FixedHandlers}
 
@@ -36,7 +40,8 @@ use Rattle.iox_hub_commands.specs.declared.handlers.FixedHandlers.{FixedHandlers
 abbrev pub ScriptRunsAnswer : Type 0
 ScriptRunsAnswer =
     RunAnswers {T = ℕ} {U = ℕ} {B = FixedHandlers} {D = FixedDegradation}
-    (detail FixedSize (codes "u64") 8 8) (detail FixedSize (codes "u64") 8 8) script_types
+    (detail FixedSize (codes "u64") 8 8) (detail FixedSize (codes "u64") 8 8)
+    (types_of (codes "u64") 8 8 (codes "u64") 8 8)
     (λ value. value ≡ 0) (λ header. header ≡ 0)
     (λ strategy backpressure degradation. record { strategy = strategy; backpressure = backpressure; degradation = degradation })
     (λ handlers cause info action. action ≡ handlers.degradation)
@@ -47,9 +52,15 @@ ScriptRunsAnswer =
 -- what lines are read as, a run of the commands among them, and the text of its replies and of the faults
 abbrev IsRunOfLines : List (List ℕ) → ScriptHub → List ℕ → ScriptHub → Type 0
 IsRunOfLines lines old text new =
-    (reads : List (Result (Command ℕ) LineError)) × (replies : List (Reply ℕ)) × AreReadAs lines reads
+    (reads : List (Result (Command ℕ) LineError)) × (replies : List (Reply ℕ)) × AllZip IsReadAs lines reads
     × Runs ScriptStep (commands_among reads) old replies new
     × (text ≡ reply_lines reads replies)
+
+-- the line of a fault
+fault_line : (why : LineError) (reads : List (Result (Command ℕ) LineError)) (replies : List (Reply ℕ))
+    → reply_lines (Err why ∷ reads) replies ≡ (codes "err " ++ fault_text why) ++ (10 ∷ reply_lines reads replies)
+fault_line fault.Faulty reads replies = refl
+fault_line fault.TooLong reads replies = refl
 
 -- a line is answered before others
 run_of_line : (read : Result (Command ℕ) LineError) (line : List ℕ) (lines : List (List ℕ)) (old mid new : ScriptHub)
@@ -62,13 +73,13 @@ run_of_line (Ok command) line lines old mid new text rest is answered more = (
   (answered.0, mid, more.1, answered.1, more.3, refl),
   rw (answered.2, more.4) refl,
 )
-run_of_line (Err fault) line lines old mid new text rest is answered more =
+run_of_line (Err why) line lines old mid new text rest is answered more =
     let same = answered.1 in (
-      Err fault ∷ more.0,
+      Err why ∷ more.0,
       more.1,
       (is, more.2),
       rw same at more.3,
-      rw (answered.0, more.4) refl,
+      rw (answered.0, more.4) (sym (fault_line why more.0 more.1)),
     )
 
 -- lines are answered by a run
@@ -94,10 +105,12 @@ never_stops same = absurd (differ same)
 
 -- what a new hub replied to the commands that lines spell is what a new machine may reply
 replies_as_new_machine : ScriptRunsAnswer → (config : HubConfig) (old new : ScriptHub) (lines : List (List ℕ))
-    (reads : List (Result (Command ℕ) LineError)) (replies : List (Reply ℕ)) → IsNew config old → AreReadAs lines reads
+    (reads : List (Result (Command ℕ) LineError)) (replies : List (Reply ℕ)) → IsNew config old → AllZip IsReadAs lines reads
     → Runs ScriptStep (commands_among reads) old replies new
     → all_asked (commands_among reads) < 2 ^ 56
-    → NewMachineMayReply config.expired_connection_buffer reads replies
+    → HaveOwnHashes (names_in (commands_among reads))
+    → machine.Answers (types_of (codes "u64") 8 8 (codes "u64") 8 8) (as_named (λ value. value ≡ 0)) config.expired_connection_buffer
+    (commands_among reads) false replies
 replies_as_new_machine law config old new lines reads replies is are run few = λ own.
     law config (commands_among reads) old new replies false run (λ room grown stopped. never_stops stopped)
     (record {
@@ -109,7 +122,7 @@ replies_as_new_machine law config old new lines reads replies is are run few = �
 -- what a new hub answered to lines is what a new machine may answer
 answers_as_new_machine : ScriptRunsAnswer → (config : HubConfig) (script final : Script) (lines : List (List ℕ)) (text : List ℕ)
     → IsNewScript config script → Served AnswersLine script lines text final
-    → ((reads : List (Result (Command ℕ) LineError)) → AreReadAs lines reads → all_asked (commands_among reads) < 2 ^ 56)
+    → ((reads : List (Result (Command ℕ) LineError)) → AllZip IsReadAs lines reads → all_asked (commands_among reads) < 2 ^ 56)
     → AnswersAsNewMachine config.expired_connection_buffer lines text
 answers_as_new_machine law config script final lines text new served few =
     let run = run_of_lines script final lines text served in (
@@ -117,8 +130,10 @@ answers_as_new_machine law config script final lines text new served few =
       run.1,
       run.2,
       run.4,
-      replies-many (commands_among run.0) script.hub final.hub run.1 run.3,
-      replies_as_new_machine law config script.hub final.hub lines run.0 run.1 new run.2 run.3 (few run.0 run.2),
+      (
+        replies-many (commands_among run.0) script.hub final.hub run.1 run.3,
+        replies_as_new_machine law config script.hub final.hub lines run.0 run.1 new run.2 run.3 (few run.0 run.2),
+      ),
     )
 
 -- so it is of a conversation
@@ -137,11 +152,18 @@ conversation_as_new_machine law config script (Some bytes) held holds (Ok done) 
 conversation_as_new_machine law config script None held holds (Ok done) new said few = tt
 conversation_as_new_machine law config script left held holds (Err error) new said few = tt
 
+-- A text is what a new machine may answer to lines, and one more is what it may go on to answer to the lines behind them.
+abbrev GoesOnAsNewMachine : ℕ → List (List ℕ) → List ℕ → List (List ℕ) → List ℕ → Type 0
+GoesOnAsNewMachine buffer lines text behind more =
+    (reads : List (Result (Command ℕ) LineError)) × (later : List (Result (Command ℕ) LineError)) × (replies : List (Reply ℕ))
+    × AllZip IsReadAs lines reads × AllZip IsReadAs behind later × (text ≡ reply_lines reads replies)
+    × (text ++ more ≡ reply_lines (reads ++ later) replies) × NewMachineMayReply buffer (reads ++ later) replies
+
 -- what lines and those behind them are read as, a run of the commands among them all, and the texts of its replies and of the faults
 abbrev IsRunOnward : List (List ℕ) → ScriptHub → List ℕ → List (List ℕ) → ScriptHub → List ℕ → Type 0
 IsRunOnward lines old text behind new more =
     (reads : List (Result (Command ℕ) LineError)) × (later : List (Result (Command ℕ) LineError)) × (replies : List (Reply ℕ))
-    × AreReadAs lines reads × AreReadAs behind later × Runs ScriptStep (commands_among (reads ++ later)) old replies new
+    × AllZip IsReadAs lines reads × AllZip IsReadAs behind later × Runs ScriptStep (commands_among (reads ++ later)) old replies new
     × (text ≡ reply_lines reads replies) × (text ++ more ≡ reply_lines (reads ++ later) replies)
 
 -- a line is answered before others
@@ -159,17 +181,17 @@ onward_of_line (Ok command) line lines behind old mid new text rest more is answ
   append_assoc text (10 ∷ rest) more ∙ (ap (λ l. l ++ (10 ∷ (rest ++ more))) answered.2
       ∙ ap (λ l. reply_text answered.0 ++ (10 ∷ l)) on.7),
 )
-onward_of_line (Err fault) line lines behind old mid new text rest more is answered on =
+onward_of_line (Err why) line lines behind old mid new text rest more is answered on =
     let same = answered.1 in (
-      Err fault ∷ on.0,
+      Err why ∷ on.0,
       on.1,
       on.2,
       (is, on.3),
       on.4,
       rw same at on.5,
-      rw (answered.0, on.6) refl,
+      rw (answered.0, on.6) (sym (fault_line why on.0 on.2)),
       append_assoc text (10 ∷ rest) more ∙ (ap (λ l. l ++ (10 ∷ (rest ++ more))) answered.0
-          ∙ ap (λ l. (codes "err " ++ fault_text fault) ++ (10 ∷ l)) on.7),
+          ∙ (ap (λ l. (codes "err " ++ fault_text why) ++ (10 ∷ l)) on.7 ∙ sym (fault_line why (on.0 ++ on.1) on.2))),
     )
 
 no_lines : (replies : List (Reply ℕ)) → reply_lines [] replies ≡ []
@@ -200,8 +222,8 @@ onward_of_lines old mid new (line ∷ lines) behind text more served next =
     rw served.5 (onward_of_line served.3.0 line lines behind old.hub served.2.hub new.hub served.0 served.1 more served.3.1 served.3.2
     (onward_of_lines served.2 mid new lines behind served.1 more served.4 next))
 
-are-append : (lines behind : List (List ℕ)) (reads later : List (Result (Command ℕ) LineError)) → AreReadAs lines reads
-    → AreReadAs behind later → AreReadAs (lines ++ behind) (reads ++ later)
+are-append : (lines behind : List (List ℕ)) (reads later : List (Result (Command ℕ) LineError)) → AllZip IsReadAs lines reads
+    → AllZip IsReadAs behind later → AllZip IsReadAs (lines ++ behind) (reads ++ later)
 are-append [] behind [] later are more = more
 are-append (line ∷ lines) behind (read ∷ reads) later are more = (are.0, are-append lines behind reads later are.1 more)
 are-append [] behind (read ∷ reads) later are more = absurd are
@@ -210,7 +232,7 @@ are-append (line ∷ lines) behind [] later are more = absurd are
 -- what a new hub answered to lines, and to those behind them, is what a new machine may go on to answer
 goes_on_as_new_machine : ScriptRunsAnswer → (config : HubConfig) (script mid final : Script) (lines behind : List (List ℕ))
     (text more : List ℕ) → IsNewScript config script → Served AnswersLine script lines text mid → Served AnswersLine mid behind more final
-    → ((reads : List (Result (Command ℕ) LineError)) → AreReadAs (lines ++ behind) reads → all_asked (commands_among reads) < 2 ^ 56)
+    → ((reads : List (Result (Command ℕ) LineError)) → AllZip IsReadAs (lines ++ behind) reads → all_asked (commands_among reads) < 2 ^ 56)
     → GoesOnAsNewMachine config.expired_connection_buffer lines text behind more
 goes_on_as_new_machine law config script mid final lines behind text more new served next few =
     let on = onward_of_lines script mid final lines behind text more served next in
@@ -222,8 +244,10 @@ goes_on_as_new_machine law config script mid final lines behind text more new se
       on.4,
       on.6,
       on.7,
-      replies-many (commands_among (on.0 ++ on.1)) script.hub final.hub on.2 on.5,
-      replies_as_new_machine law config script.hub final.hub (lines ++ behind) (on.0 ++ on.1) on.2 new are on.5 (few (on.0 ++ on.1) are),
+      (
+        replies-many (commands_among (on.0 ++ on.1)) script.hub final.hub on.2 on.5,
+        replies_as_new_machine law config script.hub final.hub (lines ++ behind) (on.0 ++ on.1) on.2 new are on.5 (few (on.0 ++ on.1) are),
+      ),
     )
 
 -- a conversation on a new hub that broke off

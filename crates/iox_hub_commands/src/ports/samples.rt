@@ -23,10 +23,7 @@ impl Made {
         ensures { option_copied result ≡ values_under (homes.ports_of H.domain_of) (value_at self.now.samples sample) home.now }
     {
         let held = self.samples.get(sample).copied()?;
-        match calls::ports(home, held.port.domain) {
-            Some(ports) => ports.payload(held.taken),
-            None => None,
-        }
+        calls::ports(home, held.port.domain)?.payload(held.taken)
     }
 
     /// The sequence number of a sample's message, which is none where its service doesn't number messages. None where no sample goes by the
@@ -40,13 +37,8 @@ impl Made {
         ensures { result ≡ sequence_under (homes.ports_of H.domain_of) (value_at self.now.samples sample) home.now }
     {
         let held = self.samples.get(sample).copied()?;
-        match calls::ports(home, held.port.domain) {
-            Some(ports) => match ports.header(held.taken) {
-                Some(header) => Some(header.sequence),
-                None => None,
-            },
-            None => None,
-        }
+        let ports = calls::ports(home, held.port.domain)?;
+        Some(ports.header(held.taken)?.sequence)
     }
 
     /// A sample is released, and its number is spent. Answers false, and nothing happens, where no sample goes by the number, or where

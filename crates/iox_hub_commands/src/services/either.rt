@@ -1,10 +1,13 @@
 //! Services are opened, or created.
-ghost use Rattle.std.specs.Prelude.{Result, ◌≡◌, ◌<◌, ◌+◌, ◌^◌, length};
+ghost use Rattle.std.specs.Prelude.{Result, ◌≡◌, ◌<◌, ◌+◌, ◌^◌, length, true, Some, Err};
 ghost use Rattle.iox_hub_base.specs.DescribeBase.Detail.{detail};
 ghost use Rattle.iox_hub_base.specs.DescribeBase.declared.type_detail.TypeVariant.TheVariants.{FixedSize};
 ghost use Rattle.iox_hub_base.specs.Hubs.{is_node};
+ghost use Rattle.iox_command.specs.NegotiateBase.declared.failure.CreateFailure.{CreateFailure};
 ghost use Rattle.iox_hub_commands.specs.Asked.{types_of};
+ghost use Rattle.iox_hub_commands.specs.Described.{settings_of};
 ghost use Rattle.iox_hub_commands.specs.Either.{EitherAs, EitherNumbered, either_lacking};
+ghost use Rattle.iox_hub_commands.specs.Refusing.{FindsNothing, IsUncreated, either_refused};
 ghost use Rattle.iox_hub_base.specs.DescribeBase.Hash.{service_hash_of};
 ghost use Rattle.iox_hub_base.specs.DescribeSettings.Agreement.{agreement};
 ghost use Rattle.iox_hub_base.specs.Negotiate.Negotiation.{Either};
@@ -16,7 +19,10 @@ use crate::services::asked::ServiceAsked;
 use crate::services::factories::Factories;
 use crate::services::kinds::CommandPattern;
 use crate::services::made::MadeFactory;
-use crate::services::requests::{event, message_types, publish_subscribe, request_response};
+use crate::services::refusing::{either_refused, uncreated_at_first_look};
+use crate::services::requests::{
+    event, message_types, publish_subscribe, request_response, steps_have_form,
+};
 use iox_command::{Refusal, ServiceOptions, StepBefore};
 use iox_describe::pattern::{Event, PublishSubscribe, RequestResponse};
 use iox_describe_base::{AttributeVerifier, MessageTypeDetails, ZeroCopySend};
@@ -35,9 +41,13 @@ impl Factories {
     /// number of its factory. The steps of foreign nodes are done before the accesses that they name.
     ///
     /// None, and nothing happens, where the hub has no node of the number. Refused as
-    /// `HubBuilder::open_or_create_with_attributes_in` refuses it; also with the `OutOfMemory` of the pattern's error of opening,
+    /// `HubBuilder::open_or_create_with_attributes_in` refuses it: for its settings before anything else is done, whatever memory there is,
+    /// where no step is named before the first access and nothing lies under the hash;
+    /// also with the `OutOfMemory` of the pattern's error of opening,
     /// and nothing happens but that there may be more room, where an allocation fails for the lists of steps or for room: it
     /// takes none for that where no steps are named and there is room.
+    ///
+    /// Example: `let opened = factories.open_or_create(alloc, &mut hub, &asked, attributes, &[]);`
     pub fn open_or_create<T: Words + ZeroCopySend, U: Copy + ZeroCopySend, B: Drop, D: Drop>(
         &mut self,
         alloc: Global,
@@ -47,17 +57,65 @@ impl Factories {
         steps: &[StepBefore],
     ) -> Option<Result<u64, Refusal>>
         requires number { self.old.made.next + 1 < 2 ^ 64 }
-        ensures { EitherNumbered (is_node asked.now.node hub.old.nodes) (detail FixedSize T.name T.size T.alignment)
+        ensures either { EitherNumbered (is_node asked.now.node hub.old.nodes) (detail FixedSize T.name T.size T.alignment)
             (detail FixedSize U.name U.size U.alignment) (types_of T.name T.size T.alignment U.name U.size U.alignment) asked.now
             attributes steps.now self.old.made hub.old result self.new.made hub.new }
+        ensures settings_first { is_node asked.now.node hub.old.nodes ≡ true → (failure : CreateFailure)
+            → IsUncreated (settings_of asked.now.options (types_of T.name T.size T.alignment U.name U.size U.alignment)) (Some failure)
+            → FindsNothing asked.now steps.now hub.old
+            → (result ≡ Some (Err (either_refused asked.now.options failure))) × (self.new.made ≡ self.old.made) × (hub.new ≡ hub.old) }
     {
         if !hub.has_node(asked.node) {
             return None;
         }
+        Some(self.either_there(alloc, hub, asked, attributes, steps))
+    }
+
+    // The same, where the node is there.
+    fn either_there<T: Words + ZeroCopySend, U: Copy + ZeroCopySend, B: Drop, D: Drop>(
+        &mut self,
+        alloc: Global,
+        hub: &mut Hub<T, U, B, D>,
+        asked: &ServiceAsked,
+        attributes: AttributeVerifier,
+        steps: &[StepBefore],
+    ) -> Result<u64, Refusal>
+        requires number { self.old.made.next + 1 < 2 ^ 64 }
+        ensures either { EitherNumbered true (detail FixedSize T.name T.size T.alignment)
+            (detail FixedSize U.name U.size U.alignment) (types_of T.name T.size T.alignment U.name U.size U.alignment) asked.now
+            attributes steps.now self.old.made hub.old (Some result) self.new.made hub.new }
+        ensures settings_first { (failure : CreateFailure)
+            → IsUncreated (settings_of asked.now.options (types_of T.name T.size T.alignment U.name U.size U.alignment)) (Some failure)
+            → FindsNothing asked.now steps.now hub.old
+            → (result ≡ Err (either_refused asked.now.options failure)) × (self.new.made ≡ self.old.made) × (hub.new ≡ hub.old) }
+    {
+        match uncreated_at_first_look(hub, asked, steps) {
+            Some(failure) => {
+                steps_have_form(&asked.name, &message_types::<T, U>(), steps);
+                Err(either_refused(&asked.options, failure))
+            }
+            None => self.either_accepted(alloc, hub, asked, attributes, steps),
+        }
+    }
+
+    // The same, where the node is there, and the first look doesn't refuse the settings.
+    fn either_accepted<T: Words + ZeroCopySend, U: Copy + ZeroCopySend, B: Drop, D: Drop>(
+        &mut self,
+        alloc: Global,
+        hub: &mut Hub<T, U, B, D>,
+        asked: &ServiceAsked,
+        attributes: AttributeVerifier,
+        steps: &[StepBefore],
+    ) -> Result<u64, Refusal>
+        requires number { self.old.made.next + 1 < 2 ^ 64 }
+        ensures { EitherNumbered true (detail FixedSize T.name T.size T.alignment) (detail FixedSize U.name U.size U.alignment)
+            (types_of T.name T.size T.alignment U.name U.size U.alignment) asked.now attributes steps.now self.old.made hub.old
+            (Some result) self.new.made hub.new }
+    {
         let types = message_types::<T, U>();
         match self.prepare(alloc, &asked.name, &types, steps) {
-            Ok(lists) => Some(self.either_prepared(alloc, hub, asked, types, attributes, lists)),
-            Err(_) => Some(Err(either_lacking(&asked.options))),
+            Ok(lists) => self.either_prepared(alloc, hub, asked, types, attributes, lists),
+            Err(_) => Err(either_lacking(&asked.options)),
         }
     }
 

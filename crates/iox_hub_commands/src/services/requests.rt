@@ -21,4 +21,4 @@ pub mod steps;
 
 pub use asked::{event, message_types, publish_subscribe, request_response};
 pub use described::description;
-pub use steps::{step_list, step_lists};
+pub use steps::{acts_first, step_list, step_lists, steps_have_form};

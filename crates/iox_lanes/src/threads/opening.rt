@@ -13,7 +13,7 @@ use iox_queues_base::Words;
 use std::alloc::Global;
 
 /// Threads take over from the lanes of a domain, as `open_threads` of `iox_lanes_threads` has it, and the board keeps the domain
-/// as it was when the lanes began. In threads messages have no numbers; those that the lanes kept go.
+/// as it was when the lanes began. In threads no message is kept (`RecordedLanes`); those that the lanes kept go.
 ///
 /// The board has this number, by which it knows its ports: whoever opens two gives them two. The lanes come back as they were
 /// where a party is inside a call (`PartyInCall`), a loan or a sample is out (`SamplesOut`), more than 2^63 steps were made

@@ -15,7 +15,8 @@ pub enum ConnectionRing {
 pub enum SlotWord {
     /// A word of the header: 0, 1 or 2.
     Header(u64),
-    /// A word of the user header.
+    /// A word of the user header. Where the service numbers its messages, the first of these words is the number of the message, and those
+    /// of the user header lie behind it.
     UserHeader(u64),
     /// A word of the payload.
     Payload(u64),

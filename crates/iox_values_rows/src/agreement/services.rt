@@ -1,11 +1,10 @@
-//! Services of each pattern in a table, from their creation to their end, and again; and texts that are none of a service.
+//! Services of each pattern in a table, from their creation to their end, and again; and lines that say of numbers what is asked or not.
 use crate::agreement::lines::{
     event_line, first_publish_subscribe_line, named_event_line, named_request_response_line,
     publish_subscribe_line, request_response_line,
 };
 use crate::agreement::sizes::{attributes, requirements};
 use crate::agreement::tables::is_made;
-use crate::answers::hold;
 use iox_describe::pattern::{Event, Pattern, PublishSubscribe, RequestResponse};
 use iox_describe::{
     AttributeError, AttributeSpecifier, AttributeVerifier, Header, LimitError, MessageTypeDetails,
@@ -187,36 +186,6 @@ fn refusal_of(
     refusal_in(alloc, &mut Table::new(alloc, 1), text, numbers)
 }
 
-/// Whether opening is refused as corrupted where this text was published.
-fn is_corrupted_text(alloc: Global, text: &[u8]) -> bool {
-    let corrupted = PublishSubscribeOpenError::ServiceInCorruptedState;
-    refusal_of(alloc, text, None) == Some(Some(corrupted))
-}
-
-/// Whether opening is refused as corrupted where a text of this line was changed.
-fn is_corrupted(alloc: Global, line: &str, from: &str, to: &str) -> Result<bool, AllocError> {
-    let Some((before, after)) = line.split_once(from) else {
-        return Ok(false);
-    };
-    let text = format!(in alloc; "{before}{to}{after}")?;
-    Ok(is_corrupted_text(alloc, text.as_bytes()))
-}
-
-/// Whether opening is not refused where the line is the service's own.
-fn is_whole(alloc: Global, line: &str) -> bool {
-    refusal_of(alloc, line.as_bytes(), None) == Some(None)
-}
-
-/// The first beginning of a line under which opening isn't refused as corrupted: the whole line, by its length.
-fn first_beginning_opened(alloc: Global, line: &str) -> Option<usize> {
-    for length in 0..=line.len() {
-        if !is_corrupted_text(alloc, line.as_bytes().get(..length).unwrap_or_default()) {
-            return Some(length);
-        }
-    }
-    None
-}
-
 /// The line of version 2 of the same service with numbers of messages.
 fn numbers_line(alloc: Global) -> Result<String, AllocError> {
     match publish_subscribe_line().split_once("false") {
@@ -230,33 +199,6 @@ fn is_met(alloc: Global, line: &str, numbers: Option<bool>, met: bool) -> bool {
     let unmet = PublishSubscribeOpenError::IncompatibleSequenceNumbers;
     let wanted = if met { None } else { Some(unmet) };
     refusal_of(alloc, line.as_bytes(), numbers) == Some(wanted)
-}
-
-// A space; another hash than that under which it lies; nothing at all.
-#[test]
-fn a_text_that_is_not_the_services_line_is_corrupted(rt: HostRuntime) -> Result<(), AllocError> {
-    let alloc: Global = rt.alloc();
-    let answers = [
-        is_corrupted(alloc, publish_subscribe_line(), "{", "{ "),
-        is_corrupted(alloc, publish_subscribe_line(), "2}", "2} "),
-        is_corrupted(alloc, publish_subscribe_line(), "40bd", "40be"),
-        Ok(is_whole(alloc, publish_subscribe_line())),
-        is_corrupted(alloc, first_publish_subscribe_line(), "{", "{ "),
-        is_corrupted(alloc, first_publish_subscribe_line(), "1}", "1} "),
-        is_corrupted(alloc, first_publish_subscribe_line(), "40bd", "40be"),
-        Ok(is_whole(alloc, first_publish_subscribe_line())),
-    ];
-    hold(&rt, &answers)
-}
-
-#[test]
-fn each_beginning_of_either_line_is_corrupted(rt: HostRuntime) {
-    let alloc: Global = rt.alloc();
-    let lines = [publish_subscribe_line(), first_publish_subscribe_line()];
-    for line in lines {
-        let opened = first_beginning_opened(alloc, line);
-        assert!(rt; opened == Some(line.len()), "{opened:?}");
-    }
 }
 
 #[test]

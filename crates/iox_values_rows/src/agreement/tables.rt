@@ -1,4 +1,4 @@
-//! Tables with any number of nodes, services, lives and foreign steps, with ample memory.
+//! Tables with any number of lives and foreign steps, with ample memory.
 use crate::answers::hold;
 use iox_describe::{
     AttributeSpecifier, Description, Header, LimitError, MessageTypeDetails, MessagingPattern,
@@ -35,83 +35,6 @@ fn is_shown(table: &mut Table, hash: &ServiceHash, text: &[u8]) -> bool {
         LookAnswer::Found { bytes, .. } => bytes.as_bytes() == text,
         _ => false,
     }
-}
-
-/// Whether own nodes come in, from 1 up to this number.
-fn own_nodes_come_in(table: &mut Table, hash: &ServiceHash, own: u64) -> bool {
-    for node in 1..own {
-        if table.open_segment(hash, 1, node) != OpenSegmentAnswer::Registered {
-            return false;
-        }
-    }
-    true
-}
-
-/// Whether so many foreign nodes come in.
-fn foreign_nodes_come_in(table: &mut Table, hash: &ServiceHash, foreign: u64) -> bool {
-    for node in 0..foreign {
-        if table.act(hash, &ForeignStep::Register { node }).is_err() {
-            return false;
-        }
-    }
-    true
-}
-
-/// Whether so many own nodes, and then so many foreign ones, come in; then there is no room for one more.
-fn come_in(table: &mut Table, hash: &ServiceHash, own: u64, foreign: u64) -> bool {
-    let room = own.saturating_add(foreign);
-    is_made(table, hash, (1, 0, room), b"text")
-        && own_nodes_come_in(table, hash, own)
-        && foreign_nodes_come_in(table, hash, foreign)
-        && table.open_segment(hash, 1, own) == OpenSegmentAnswer::Full
-}
-
-/// The same in a new table.
-fn are_let_in(alloc: Global, own: u64, foreign: u64) -> bool {
-    match hash_of(b"A") {
-        Ok(hash) => come_in(&mut Table::new(alloc, 1), &hash, own, foreign),
-        Err(_) => false,
-    }
-}
-
-#[test]
-fn any_number_of_nodes_comes_in(rt: HostRuntime) {
-    let alloc: Global = rt.alloc();
-    for count in &[1, 2, 7, 64, 1_000] {
-        let come = [
-            are_let_in(alloc, *count, 0),
-            are_let_in(alloc, 1, *count),
-            are_let_in(alloc, *count, *count),
-        ];
-        assert!(rt; come == [true; 3], "{count}: {come:?}");
-    }
-}
-
-/// Whether the service of this number and name is made, and shown.
-fn stands(table: &mut Table, number: u64, name: &[u8]) -> bool {
-    match hash_of(name) {
-        Ok(hash) => is_made(table, &hash, (number, 0, 1), name) && is_shown(table, &hash, name),
-        Err(_) => false,
-    }
-}
-
-/// Whether the service `1` is shown.
-fn is_first_shown(table: &mut Table) -> bool {
-    match hash_of(b"1") {
-        Ok(hash) => is_shown(table, &hash, b"1"),
-        Err(_) => false,
-    }
-}
-
-/// Whether a table has room for so many services beside one another.
-fn all_stand(alloc: Global, table: &mut Table, count: u64) -> Result<bool, AllocError> {
-    for number in 1..=count {
-        let name = format!(in alloc; "{number}")?;
-        if !stands(table, number, name.as_bytes()) {
-            return Ok(false);
-        }
-    }
-    Ok(is_first_shown(table) == (count > 0))
 }
 
 /// Whether the one node of a service leaves, and takes it away.
@@ -158,24 +81,16 @@ const LIVES: [(u64, usize); 6] = [
     (1_000, 1),
 ];
 
-/// Whether so many services stand, and so many lives follow.
-fn are_many(alloc: Global, count: u64, length: usize) -> [Result<bool, AllocError>; 2] {
-    [
-        all_stand(alloc, &mut Table::new(alloc, 1), count),
-        lives_follow(alloc, count, length),
-    ]
-}
-
-fn all_are_many(rt: &impl Abort, alloc: Global) -> Result<(), AllocError> {
+fn all_lives_follow(rt: &impl Abort, alloc: Global) -> Result<(), AllocError> {
     for (count, length) in &LIVES {
-        hold(rt, &are_many(alloc, *count, *length))?;
+        hold(rt, &[lives_follow(alloc, *count, *length)])?;
     }
     Ok(())
 }
 
 #[test]
-fn any_number_of_services_and_of_lives_follows(rt: HostRuntime) -> Result<(), AllocError> {
-    all_are_many(&rt, rt.alloc())
+fn any_number_of_lives_follows(rt: HostRuntime) -> Result<(), AllocError> {
+    all_lives_follow(&rt, rt.alloc())
 }
 
 /// The description of event service `A`.

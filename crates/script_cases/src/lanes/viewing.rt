@@ -1,13 +1,13 @@
 //! What lanes find before their first step, and what can be seen of them.
 use crate::lanes::calling;
 use crate::lanes::said::Said;
-use crate::lanes::words::{number, party, word};
+use crate::lanes::words::{number, number_if, party, word};
 use iox_lanes_base::words::SlotWord;
 use iox_lanes_machine::{Found, Lanes};
 use std::alloc::{AllocError, Global};
 use std::str::SplitWhitespace;
 
-// What a line says is found.
+// What a line says is found. Of a publisher it may say a last number of a message; without one messages have no numbers.
 fn found(words: &mut SplitWhitespace<'_>) -> Option<Found> {
     let kind = word(words);
     let port = number(words);
@@ -34,6 +34,11 @@ fn found(words: &mut SplitWhitespace<'_>) -> Option<Found> {
             word: SlotWord::Payload(place),
             value: third,
         },
+        "user_header" => Found::Held {
+            slot: port,
+            word: SlotWord::UserHeader(place),
+            value: third,
+        },
         "buffer" => Found::Buffer {
             publisher,
             place,
@@ -49,7 +54,7 @@ fn found(words: &mut SplitWhitespace<'_>) -> Option<Found> {
             node_id: place,
             publisher_id: third,
             fails: kind == "failing",
-            last: None,
+            last: number_if(words),
         },
         "swapped" => Found::Swapped {
             subscriber: publisher,

@@ -17,7 +17,8 @@ use Rattle.iox_describe.specs.Within.{AreValues}
 use Rattle.iox_describe.proofs.Plain.{values-written}
 use Rattle.iox_describe.proofs.reader.publish_subscribe_of.Goals as goal
 
-found : (version : Version) (target : StaticConfig) → AreFound key value (written version) target (settings_tree version (PublishSubscribe target))
+found : (version : Version) (target : StaticConfig)
+    → AreFound key value (written version) target (settings_tree version (PublishSubscribe target))
 found One target = search rules
 found Two target = search rules
 

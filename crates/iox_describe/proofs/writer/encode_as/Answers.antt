@@ -7,5 +7,6 @@ use Rattle.iox_describe.proofs.writer.encode_as.Goals as goal
 
 pub returns : goal.returns
 unfolding line
-returns c = c.in_ok-text.ensures.text (ap has_float c.in_ok-tree.ensures ∙ tree-float c.args.version c.args.description.now) ∙ ap compact_text
-    c.in_ok-tree.ensures
+returns c =
+    c.in_ok-text.ensures.text (ap has_float c.in_ok-tree.ensures ∙ tree-float c.args.version c.args.description.now)
+    ∙ ap compact_text c.in_ok-tree.ensures

@@ -1,7 +1,7 @@
 //! The steps of foreign nodes before each access.
 ghost use Rattle.std.specs.Prelude.{◌≡◌, ℕ, [], map, min, IfOk, IsOk};
 ghost use Rattle.std.specs.List.{AllByRecursion};
-ghost use Rattle.iox_hub_commands.specs.Steps.{PublishesInForm, step_of, list_of, list_before, last_access, lists_of};
+ghost use Rattle.iox_hub_commands.specs.Steps.{PublishesInForm, step_of, list_of, list_before, last_access, acts_first, lists_of};
 
 use crate::services::requests::described::description;
 use iox_command::{ForeignStep as Named, StepBefore};
@@ -87,6 +87,34 @@ fn last_access(steps: &[StepBefore]) -> u64
         last = before.access.max(last);
     }
     last
+}
+
+/// Whether a step is named before the first access.
+/// Example: `let is_first = acts_first(&steps);`
+pub fn acts_first(steps: &[StepBefore]) -> bool
+    ensures { result ≡ acts_first steps.now }
+{
+    let mut rest = steps;
+    while let Some((before, later)) = rest.split_first() {
+        if before.access == 1 {
+            return true;
+        }
+        rest = later;
+    }
+    false
+}
+
+/// What the steps publish has the form of a description, which is told of each. It takes no memory.
+/// Example: `steps_have_form(&name, &types, &steps);`
+#[inline(never)]
+pub fn steps_have_form(name: &ServiceName, types: &MessageTypeDetails, steps: &[StepBefore])
+    ensures { AllByRecursion (AllByRecursion PublishesInForm) (lists_of name.now types.now steps.now) }
+{
+    let mut rest = steps;
+    while let Some((before, later)) = rest.split_first() {
+        step(&before.step, name, types);
+        rest = later;
+    }
 }
 
 // A step on the service of a name.

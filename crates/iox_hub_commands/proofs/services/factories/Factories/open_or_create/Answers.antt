@@ -1,12 +1,10 @@
-use Rattle.std.proofs.Common.{◌∙◌, Ok, refl, sym}
+use Rattle.std.proofs.Common.{◌∙◌, sym, ap, Some}
 use Rattle.iox_hub_commands.proofs.services.factories.Factories.open_or_create.Goals as goal
 
-pub returns-in-Ok : goal.returns-in-Ok
-returns-in-Ok g c = rw (sym c.has_node.ensures ∙ c.if-not-has_node.false) (
-  Ok c.in-Ok.lists.items,
-  c.prepare.new.self.made,
-  c.either_prepared.result,
-  rw c.message_types-types.ensures at c.in-Ok.ensures.prepares,
-  rw c.message_types-types.ensures at c.either_prepared.ensures,
-  refl,
-)
+pub returns-clause-either : goal.returns-clause-either
+returns-clause-either g c = rw (sym c.has_node.ensures ∙ c.if-not-has_node.false) c.either_there.ensures.either
+
+pub returns-clause-settings_first : goal.returns-clause-settings_first
+returns-clause-settings_first g c is_there failure is nothing =
+    let told = c.either_there.ensures.settings_first failure is nothing in
+    (ap (λ reply. Some reply) told.0, told.1, told.2)
