@@ -7,8 +7,10 @@ Usage: bench/alive.py [--count] [PROGRAM [WORD]]     (PROGRAM is crates/iox/out/
 It is asked about all rows, or about those whose name has the word.
 
 Each figure is the least of three runs of a script, less the least of three of its beginning alone, for each line behind that. With
-`--count` it is instructions, of one run each, as callgrind of valgrind counts them: these tell the same on a busy machine.
+`--count` it is instructions, of one run each, as callgrind of valgrind counts them: these tell the same on a busy machine. An
+instruction that repeats itself over bytes would count once a byte, so the C library is told to clear and copy without it.
 """
+import os
 import re
 import subprocess
 import sys
@@ -20,6 +22,8 @@ PROGRAM = Path(WORDS[0] if WORDS else Path(__file__).resolve().parent.parent / "
 IS_COUNTING, WORD = "--count" in sys.argv, (WORDS[1:] or [""])[0]
 # Counting takes some fifty times as long, so so much less of what is behind is counted.
 A_COUNT = 20
+# Clearing and copying by instructions of 32 bytes.
+WITHOUT_REPEATS = "glibc.cpu.x86_rep_stosb_threshold=1000000000:glibc.cpu.x86_rep_movsb_threshold=1000000000"
 # How many lines a row measures, but for those whose lines walk many ports.
 LINES = 300_000
 
@@ -45,7 +49,8 @@ def seconds(script):
 def instructions(script):
     """The instructions of one run."""
     words = ["valgrind", "--tool=callgrind", "--callgrind-out-file=/dev/null", PROGRAM]
-    ran = subprocess.run(words, input=script.encode(), stdout=subprocess.DEVNULL, stderr=subprocess.PIPE, check=True)
+    how = {"stdout": subprocess.DEVNULL, "stderr": subprocess.PIPE, "env": {**os.environ, "GLIBC_TUNABLES": WITHOUT_REPEATS}}
+    ran = subprocess.run(words, input=script.encode(), check=True, **how)
     return int(re.search(rb"Collected : (\d+)", ran.stderr)[1])
 
 
@@ -70,7 +75,7 @@ for loans in (1, 1_000, 10_000, 100_000):
     out = ["node", "create n1 ps A", f"publisher f1 loans={loans + 1}"] + ["loan p1 1"] * loans
     tell(f"put, {loans:,} loans out", out, ["put p1 3"] * LINES)
     tell(f"set of the last, {loans:,} loans out", out, [f"set l{loans} 0 4"] * LINES)
-for held in (0, 1_000, 5_000):
+for held in (0, 1_000, 5_000, 100_000):
     out = ["node", f"create n1 ps A subscribers=1 buffer={held + 2} borrowed={held + 2}", "publisher f1", "subscriber f1"]
     out += ["put p1 3", "receive s1"] * held
     tell(f"put, receive, release of the newest, {held:,} samples held", out, cycles(1, held + 1, lambda at: at), 3)
@@ -100,3 +105,26 @@ for kind in ("publisher", "subscriber"):
 for readers in (10, 100, 1_000, 10_000):
     out = ["node", f"create n1 ps A subscribers={readers}", "publisher f1", *["subscriber f1"] * readers, *["put p1 3"] * 3]
     tell(f"put to {readers:,} subscribers", out, ["put p1 3"] * (LINES * 10 // readers))
+for services in (10, 1_000, 10_000):
+    out = ["node", *(f"create n1 ps A{at}" for at in range(services))]
+    tell(f"node, {services:,} services", out, ["node"] * 3_000)
+    behind = [line for at in range(3_000) for line in ("create n1 ps B", f"close f{services + 1 + at}")]
+    tell(f"a service is created or closed, beside {services:,}", out, behind, 2)
+    behind = [line for at in range(3_000) for line in ("open n1 ps A0", f"close f{services + 1 + at}")]
+    tell(f"a further factory is opened or closed, {services:,} services", out, behind, 2)
+for ports in (1, 10, 1_000):
+    out = ["node", f"create n1 ps A subscribers={ports} publishers=2", *["subscriber f1"] * ports]
+    behind = [line for at in range(400) for line in ("publisher f1", f"leave p{1 + at}")]
+    tell(f"a publisher comes or leaves, {ports:,} subscribers of its service", out, behind, 2)
+    out = ["node", f"create n1 ps A publishers={ports} subscribers=2", *["publisher f1"] * ports]
+    behind = [line for at in range(400) for line in ("subscriber f1", f"leave s{1 + at}")]
+    tell(f"a subscriber comes or leaves, {ports:,} publishers of its service", out, behind, 2)
+    out = ["node", f"create n1 ps A publishers={ports}", *["publisher f1"] * ports, "put p1 3"]
+    tell(f"put of the first of {ports:,} publishers", out, ["put p1 3"] * LINES)
+    tell(f"update of the first of {ports:,} publishers", out, ["update p1"] * LINES)
+    out = ["node", f"create n1 ps A subscribers={ports} publishers=2", *["subscriber f1"] * ports, "receive s1"]
+    tell(f"receive of the first of {ports:,} subscribers, no publisher", out, ["receive s1"] * LINES)
+for held in (1, 1_000, 100_000):
+    out = ["node", f"create n1 ps A subscribers=1 buffer={held + 2} borrowed={held + 2}", "publisher f1", "subscriber f1"]
+    out += ["put p1 3", "receive s1"] * held
+    tell(f"read of the first of {held:,} samples held", out, ["read m1"] * LINES)

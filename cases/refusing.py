@@ -41,7 +41,8 @@ create n1 ev C
 open n1 ps A |1 register:x1 |2 leave:x1
 close f1
 """
-# Lines that are refused for their settings or skipped, whatever memory there is; and some that make what they need.
+# Lines that are refused for their settings or for what their first look finds, or skipped, whatever memory there is; and some that make
+# what they need.
 NEEDING_NONE = b"""\
 node
 create n1 ps A nodes=16777216
@@ -53,6 +54,27 @@ open_or_create n1 ev A nodes=16777216
 open_or_create n1 rr A nodes=16777216
 open_or_create n1 ps A overflow=0 buffer=1 history=2
 open_or_create n1 ps A nodes=16777216 |2 lock:x1 publish:x1
+open n1 ps A
+open n1 ev A
+open n1 rr A
+open n1 ps A @a=b
+open n1 ps A |2 lock:x1 publish:x1
+foreign ps L lock:x1
+foreign ev L lock:x1
+foreign rr L lock:x1
+open n1 ps L
+open n1 ev L
+open n1 rr L
+create n1 ps L
+create n1 ev L
+create n1 rr L
+create n1 ps L @a=b
+create n1 ps L nodes=16777216
+open_or_create n1 ps L
+open_or_create n1 ev L
+open_or_create n1 rr L
+open_or_create n1 ps L nodes=16777216
+open_or_create n1 ps L |2 giveup:x1
 loan p1 1
 loan_uninit p1 1
 put p1 1
@@ -297,7 +319,7 @@ def what_is_told_without_memory_comes_before_want_of_it():
     with tempfile.TemporaryDirectory(prefix="iox-check-") as folder:
         met = {(at, what) for at, _, what in outcomes(program, refuser_in(folder), NEEDING_NONE)}
     told = [at for at, it in enumerate(replies(NEEDING_NONE)) if it == "skip" or it.startswith("err")]
-    expect((len(told), [at for at in told if (at, "refused") in met]), (22, []))
+    expect((len(told), [at for at in told if (at, "refused") in met]), (40, []))
     # One line further it is found wanting.
     expect((NEEDING_NONE.splitlines().index(b"create n1 ps A"), "refused") in met, True)
 

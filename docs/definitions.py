@@ -29,6 +29,25 @@ HANDED_ON = "handed on"
 OF_MODELS = {"view", "invariant"}
 # The clauses by which the program and a run of commands answer as the plain machine: of each crate's function, by their names.
 HEADLINE = {("iox_hub", "run"): ("answers",), ("iox_script", "serve"): ("answered", "begun")}
+# The clauses by which typed calls answer so: of each crate's type, its methods with theirs.
+TYPED = {
+    ("iox_hub", "RecordedHub"): {
+        "new": "begun",
+        "new_node": "node",
+        "open_or_create": "opened",
+        "publisher": "made",
+        "subscriber": "made",
+        "send_slice": "sent",
+        "retry": "sent",
+        "give_up": "given_up",
+        "receive": "received",
+        "payload": "reads",
+        "release": "released",
+        "end_subscriber": "left",
+        "end_publisher": "left",
+        "answers_as_machine": "answers",
+    }
+}
 
 
 def without_comments(text, mark):
@@ -193,12 +212,35 @@ def of_headline(crate, function, names):
                 yield Uses(text), balanced(part, it.end() - 1)
 
 
+def of_methods(crate, owner, names):
+    """Gives these clauses of a type's methods, by their names, with what its file brings in."""
+    for text in sources(crate).values():
+        for trait, name, head, item in items(text):
+            if name != owner or trait or not head.startswith("impl"):
+                continue
+            for part in re.split(r"(?m)^(?=    pub fn )", item):
+                method = re.match(r"    pub fn (\w+)", part)
+                if method and method[1] in names:
+                    for it in re.finditer(rf"\bensures {names[method[1]]} \{{", part):
+                        yield Uses(text), balanced(part, it.end() - 1)
+
+
 def headline(known):
-    """Returns the sentence that says how many definitions the clauses of the headline reach."""
-    found = closure(known, {it for at, names in HEADLINE.items() for uses, text in of_headline(*at, names) for it in uses.reached(text)})
+    """Returns what the clauses of the headline name, and the sentence that says how many definitions they reach."""
+    asked = {it for at, names in HEADLINE.items() for uses, text in of_headline(*at, names) for it in uses.reached(text)}
+    found = closure(known, asked)
     crates = [it[0] for it in found]
     machine, line = crates.count("iox_machine"), crates.count("iox_line")
-    return f"They reach {len(found)} definitions: {machine} of `iox_machine`, {line} of `iox_line`, and {len(found) - machine - line} of other crates."
+    others = len(found) - machine - line
+    return asked, f"They reach {len(found)} definitions: {machine} of `iox_machine`, {line} of `iox_line`, and {others} of other crates."
+
+
+def typed(known, asked):
+    """Returns the sentence that says how many definitions are reached with the clauses of typed calls, of each type that there is."""
+    methods = {it: list(of_methods(*it, names)) for it, names in TYPED.items()}
+    more = {it for found in methods.values() for uses, text in found for it in uses.reached(text)}
+    names = ", ".join(f"`{owner}`" for (_, owner), found in methods.items() if found)
+    return names and f"With the clauses of typed calls, the methods of {names}, they reach {len(closure(known, asked | more))} definitions."
 
 
 def reached(known, all_of_them=False):
@@ -286,8 +328,10 @@ def main(words):
         print(f"not reached: {it[2]} of {it[0]}/specs/{it[1]}.antt")
     for it in strange:
         print(it)
-    if counted := headline(known) not in PAGE.read_text():
-        print(f"not on the page: {headline(known)}")
+    asked, counts = headline(known)
+    counted = [it for it in (counts, typed(known, asked)) if it not in PAGE.read_text()]
+    for it in counted:
+        print(f"not on the page: {it}")
     print(f"{len(wanted)} definitions reached, {len(missing)} of them not listed; {len(extra)} listed and not reached, {len(strange)} unknown")
     return 1 if missing or extra or strange or counted else 0
 

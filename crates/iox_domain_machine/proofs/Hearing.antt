@@ -32,10 +32,11 @@ use Rattle.iox_domain_machine.specs.Standing.{StandsFor}
 use Rattle.iox_domain_machine.specs.Subscribers.{SubscriberStandsFor, publisher_by}
 use Rattle.iox_domain_machine.specs.Tables.{LentSlot}
 use Rattle.iox_domain_machine.proofs.Found.{never_some, never_true, same_some}
-use Rattle.iox_machine.specs.Mailbox.{Mailbox, has_data}
+use Rattle.iox_machine.specs.Mailbox.{Mailbox}
 use Rattle.iox_machine.specs.PortList.{those}
 use Rattle.iox_machine.specs.Receiving.{has_samples}
 use Rattle.iox_machine.specs.Service.{Service, Subscriber, mailbox}
+use Rattle.iox_machine.proofs.Shorthands.{has_data}
 
 -- what stands in a list stands there at least once
 pub often_head : (key : ℕ) (keys : List ℕ) → 0 < how_often key (key ∷ keys)

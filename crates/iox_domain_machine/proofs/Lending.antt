@@ -48,11 +48,11 @@ use Rattle.iox_domain_machine.proofs.LendingNames.{lent_at}
 use Rattle.iox_domain_machine.proofs.LendingStands.{service_after, lent_stands}
 use Rattle.iox_domain_machine.proofs.LendingTally.{Tells}
 use Rattle.iox_machine.specs.Choices.{Choices}
-use Rattle.iox_machine.specs.Lending.{IsRoomFor, how_many, is_static, loans_of, LendsLonger, loan_refusal, Lends}
+use Rattle.iox_machine.specs.Lending.{IsRoomFor, how_many, loans_of, loan_refusal, Lends}
 use Rattle.iox_machine.specs.Lending as lending
 use Rattle.iox_machine.specs.Message as machine
 use Rattle.iox_machine.specs.Ports.{publisher_in, LendsLoan}
-use Rattle.iox_machine.proofs.Shorthands.{IsSkipped}
+use Rattle.iox_machine.proofs.Shorthands.{IsSkipped, is_static, LendsLonger}
 use Rattle.iox_machine.specs.Service.{Service, Publisher, Send}
 use Rattle.iox_machine.specs.State.{State}
 use Rattle.iox_machine.specs.Table.{at}

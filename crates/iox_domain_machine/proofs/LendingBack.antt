@@ -14,10 +14,10 @@ use Rattle.iox_domain_machine.proofs.Alone.{alone_does, alone_skips}
 use Rattle.iox_domain_machine.proofs.AloneDid.{by_option, alone_did}
 use Rattle.iox_machine.specs.Choices.{Choices}
 use Rattle.iox_machine.specs.Lending.{Lends}
-use Rattle.iox_machine.specs.Ports.{AtFree, publisher_in, LendsLoan}
+use Rattle.iox_machine.specs.Ports.{publisher_in, LendsLoan}
 use Rattle.iox_machine.specs.Run.{Step}
 use Rattle.iox_machine.specs.Service.{Service, Publisher, Send}
-use Rattle.iox_machine.proofs.Shorthands.{with_publisher, IsSkipped}
+use Rattle.iox_machine.proofs.Shorthands.{with_publisher, IsSkipped, AtFree}
 use Rattle.iox_machine.specs.State.{State, counted}
 
 -- A publisher that is free lent a message of so many values, or it was refused.

@@ -43,12 +43,12 @@ use Rattle.iox_domain_machine.proofs.SendingBack.{sending_back}
 use Rattle.iox_domain_machine.proofs.SendingLoan.{send_matches}
 use Rattle.iox_domain_machine.proofs.TableEnds.{at_end, removed_end, numbers_total, none_above}
 use Rattle.iox_machine.specs.Choices.{Choices}
-use Rattle.iox_machine.specs.Lending.{LendsLonger, loan_refusal}
+use Rattle.iox_machine.specs.Lending.{loan_refusal}
 use Rattle.iox_machine.specs.Message as machine
 use Rattle.iox_machine.specs.Ports.{publisher_in, Puts}
 use Rattle.iox_machine.specs.Sending.{Sends}
 use Rattle.iox_machine.specs.Service.{Service, Publisher}
-use Rattle.iox_machine.proofs.Shorthands.{with_publisher}
+use Rattle.iox_machine.proofs.Shorthands.{with_publisher, LendsLonger}
 use Rattle.iox_machine.specs.State.{State}
 use Rattle.iox_machine.specs.Table.{at, removed}
 

@@ -19,10 +19,11 @@ use Rattle.iox_domain_machine.specs.Standing.{StandsFor}
 use Rattle.iox_domain_machine.specs.Subscribers.{publisher_by}
 use Rattle.iox_domain_machine.specs.Tables.{LentSlot}
 use Rattle.iox_domain_machine.proofs.Found.{never_true}
-use Rattle.iox_machine.specs.Mailbox.{Mailbox, has_data, is_idle}
+use Rattle.iox_machine.specs.Mailbox.{Mailbox, is_idle}
 use Rattle.iox_machine.specs.Receiving as machine
 use Rattle.iox_machine.specs.Service.{Service, mailbox}
 use Rattle.iox_domain_machine.proofs.Hearing.{Hears, length_same, told}
+use Rattle.iox_machine.proofs.Shorthands.{has_data}
 
 and_same : (one other : Bool) → (one && other) ≡ (other && one)
 and_same true true = refl

@@ -48,13 +48,13 @@ use Rattle.iox_domain_machine.proofs.ReceiveSamples.{after_taking, holding_one_m
 use Rattle.iox_domain_machine.proofs.ReceiveSweeping.{HasSwept, not_idle, set_again, sweep_stands, swept_to}
 use Rattle.iox_domain_machine.proofs.ReceiveTaking.{box_is, service_after, taking_hears, taking_sound, taking_stands}
 use Rattle.iox_domain_machine.proofs.Releasing.{other_boxes}
-use Rattle.iox_machine.specs.Mailbox.{has_data, is_idle}
+use Rattle.iox_machine.specs.Mailbox.{is_idle}
 use Rattle.iox_machine.specs.Message.{Sample}
 use Rattle.iox_machine.specs.PortList.{those}
 use Rattle.iox_machine.specs.Receiving as machine
-use Rattle.iox_machine.specs.Receiving.{Takes, gives, has_samples, lasting}
+use Rattle.iox_machine.specs.Receiving.{gives, has_samples, lasting, Takes}
 use Rattle.iox_machine.specs.Service.{Service, Subscriber, mailbox}
-use Rattle.iox_machine.proofs.Shorthands.{with_subscriber, taken}
+use Rattle.iox_machine.proofs.Shorthands.{with_subscriber, taken, has_data}
 use Rattle.iox_machine.specs.Table.{at}
 
 not_idle_by : (test : ℕ → Bool) (some none : Bool) (one : ℕ) (left : List ℕ) (rest : Bool) → test one ≡ some → list_any test left ≡ rest

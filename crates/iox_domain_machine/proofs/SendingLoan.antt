@@ -31,6 +31,7 @@ use Rattle.iox_domain.specs.DomainPorts.declared.meeting.Sent.{Sent}
 use Rattle.iox_domain.specs.DomainPorts.declared.publisher_port.PublisherPort.{PublisherPort}
 use Rattle.iox_domain.specs.DomainPorts.declared.subscriber_entry.SubscriberEntry.{SubscriberEntry}
 use Rattle.iox_domain.specs.DomainValues.Sequences.{is_used_up}
+use Rattle.iox_machine.proofs.Shorthands as shorthands
 use Rattle.iox_domain.specs.Ports.{AtPublisher, with_publisher}
 use Rattle.iox_domain.specs.PortsPublishing.{SendsOne}
 use Rattle.iox_domain.specs.Rolls.{IsListOf}
@@ -140,7 +141,7 @@ module _ {T U : Type 0} (types : MessageTypeDetails) (choices : Choices T) (buff
   abbrev SendsIt : Bool → Reply T → Service T → Type 0
   SendsIt standing answered after =
       MatchBool standing
-      (SendsNumbered (is_used_up was.0.last_sequence) answered after)
+      (SendsNumbered (shorthands.is_used_up was.0.last_sequence) answered after)
       (IsRefused {T = T} (refusal.Send error.ConnectionBrokenSinceSenderNoLongerExists) before answered after)
 
   -- and where the loan is written and no send waits, or isn't and one does
@@ -185,8 +186,12 @@ module _ {T U : Type 0} (types : MessageTypeDetails) (choices : Choices T) (buff
   skips is = comes false is None old service (refl, refl) (names.reader out.publisher) (stays lent old service stands)
 
   -- numbers are used up of both, or of neither
-  used_alike : is_used_up was.0.last_sequence ≡ is_used_up port.last_sequence
-  used_alike = ap is_used_up was.2.last_sequence
+  used_alike : shorthands.is_used_up was.0.last_sequence ≡ is_used_up port.last_sequence
+  used_alike = ap shorthands.is_used_up was.2.last_sequence ∙ same_used port.last_sequence
+    where
+      same_used : (last : Option ℕ) → shorthands.is_used_up last ≡ is_used_up last
+      same_used None = refl
+      same_used (Some last) = refl
 
   -- a send is refused before its update: the loan is given up
   refuses : (why : SendError) → (run_laws.is_written lent_loan && not (is_some was.0.blocked)) ≡ true

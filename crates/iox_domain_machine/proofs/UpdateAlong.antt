@@ -4,9 +4,8 @@ use Rattle.std.proofs.Common.{inr}
 use Rattle.std.proofs.lemmas.Bool.{cases_eq, eq-eqb, eqb-true, or_cases, or_left, or_right}
 use Rattle.std.proofs.lemmas.List.Folds.{list_any-append}
 use Rattle.std.specs.Prelude.{is_some, if◌then◌else◌, ◌&&◌}
-use Rattle.iox_machine.proofs.Shorthands.{now_at}
+use Rattle.iox_machine.proofs.Shorthands.{now_at, gone_from}
 use Rattle.iox_machine.specs.PortList.{unless}
-use Rattle.iox_machine.specs.SubscriberUpdate.{gone_from}
 use Rattle.iox_machine.specs.Table.{contains}
 
 -- no two places have the same

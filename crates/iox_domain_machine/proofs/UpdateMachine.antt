@@ -8,8 +8,9 @@ use Rattle.std.specs.Prelude.{filter, fold, is_some, if◌then◌else◌}
 use Rattle.iox_domain_machine.proofs.Found.{never_true}
 use Rattle.iox_machine.specs.Mailbox.{Mailbox, is_idle}
 use Rattle.iox_machine.specs.Service.{Service, mailbox, with_mailbox, connect}
-use Rattle.iox_machine.specs.SubscriberUpdate.{Parted, is_unborrowed, part, room_for}
+use Rattle.iox_machine.specs.SubscriberUpdate.{Parted, part, room_for}
 use Rattle.iox_machine.specs.Table.{contains}
+use Rattle.iox_machine.proofs.Shorthands.{is_unborrowed}
 
 module _ {T : Type 0} (limit number : ℕ) where
   -- a mailbox of a connection that came

@@ -5,8 +5,7 @@ use Rattle.std.proofs.lemmas.Bool.{eq-eqb, ne_eqb}
 use Rattle.std.proofs.lemmas.List.Elements.{filter_map-append}
 use Rattle.std.proofs.lemmas.List.Sums.{fold-append}
 use Rattle.std.specs.Prelude.{filter, filter_map, fold, is_some, if◌then◌else◌}
-use Rattle.iox_machine.proofs.Shorthands.{parting}
-use Rattle.iox_machine.specs.SubscriberUpdate.{gone_from}
+use Rattle.iox_machine.proofs.Shorthands.{parting, gone_from}
 
 -- at a place that lists somebody
 abbrev pub Place : Type 0

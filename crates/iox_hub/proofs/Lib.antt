@@ -10,3 +10,13 @@ pub mod HandledTurns
 pub mod HandledChoices
 pub mod HandledRuns
 pub mod HandledAnswers
+pub mod GhostSteps
+pub mod Recording
+pub mod RecordedSkips
+pub mod RecordedIds
+pub mod RecordedRuns
+pub mod RecordedReading
+pub mod RecordedSent
+pub mod RecordedTold
+pub mod AskedNames
+pub mod RecordedOpening

@@ -6,6 +6,11 @@ pub mod Room
 pub mod RunLaws
 pub mod Turns
 pub mod HandledLaws
+pub mod Recorded
+pub mod RecordedCalls
+pub mod RecordedNames
+pub mod RecordedLaws
+pub mod Recording
 -- The definitions that contracts of the names here cite, by the crates that have them.
 pub use Rattle.iox_hub_commands.specs.Delivery as Delivery
 pub use Rattle.iox_delivery_factories.specs as DeliveryFactories

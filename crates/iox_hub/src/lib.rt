@@ -19,6 +19,7 @@
 //! | `making` | ports come, with the handlers that are named |
 //! | `stepping` | one command, and its reply |
 //! | `running` | a list of commands |
+//! | `recorded` | a hub of which proofs know what was asked of it: typed calls that say their commands |
 //! | `laws` | what a run comes to in other words |
 //!
 //! Its `specs/` hand on the definitions that contracts of these names cite: `Rattle.iox_hub.specs.Delivery`, `Domain` and others.
@@ -56,6 +57,7 @@ mod making;
 pub mod node;
 pub mod port;
 pub mod prelude;
+pub mod recorded;
 pub mod running;
 pub mod sample;
 pub mod sample_mut;

@@ -1,8 +1,12 @@
 -- A hub: its nodes, the table of its services, and the domains of those that are open in it.
-use Rattle.std.specs.Prelude.{ℕ, ◌≡◌, ◌+◌, ◌-◌, ◌^◌, ◌&&◌, Bool, List, [], min, nat_le}
+use Rattle.std.specs.Prelude.{ℕ, ◌≡◌, ◌+◌, ◌-◌, ◌^◌, ◌&&◌, Bool, List, [], Option, None, Some, min, nat_le}
 use Rattle.std.specs.Option.{unwrap_or}
 use Rattle.iox_delivery_factories.specs.Domain.Kept.{kept_under, kept}
 use Rattle.iox_negotiate_table.specs.Contents.{empty_table}
+use Rattle.iox_negotiate_table.specs.declared.entry.Entry.{Entry}
+use Rattle.iox_negotiate_table.specs.declared.entry.Entry.TheVariants as entry
+use Rattle.iox_hub_base.specs.declared.hub.HashState.{HashState}
+use Rattle.iox_hub_base.specs.declared.hub.HashState.TheVariants as state
 use Rattle.iox_hub_base.specs.declared.hub.Hub.{Hub}
 use Rattle.iox_hub_base.specs.declared.hub.HubConfig.{HubConfig}
 
@@ -30,3 +34,9 @@ factories_of number counts = unwrap_or (kept_under number counts) 0
 -- one factory of a service more
 abbrev pub with_factory : ℕ → List (ℕ × ℕ) → List (ℕ × ℕ)
 with_factory number counts = kept number (one_more (factories_of number counts)) counts
+
+-- what lies under a hash where this entry does: nothing, a lock, or the description of a service that stands
+abbrev pub hash_state : Option Entry → HashState
+hash_state None = state.Absent
+hash_state (Some (entry.Locked node number)) = state.Locked
+hash_state (Some (entry.Described number bytes)) = state.Described

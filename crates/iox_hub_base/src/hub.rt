@@ -1,8 +1,8 @@
 //! A hub.
-ghost use Rattle.std.specs.Prelude.{◌≡◌, ◌-◌, ◌^◌, Ok, min, nat_eq, not, is_some};
+ghost use Rattle.std.specs.Prelude.{◌≡◌, ◌-◌, ◌^◌, Ok, min, nat_eq};
 ghost use Rattle.iox_delivery_factories.specs.DescribeBase.Hash.{service_hash_of};
 ghost use Rattle.iox_negotiate_table.specs.Contents.{entry_at};
-ghost use Rattle.iox_hub_base.specs.Hubs.{IsNewHub, one_more, is_node};
+ghost use Rattle.iox_hub_base.specs.Hubs.{IsNewHub, one_more, is_node, hash_state};
 ghost use Rattle.iox_hub_base.specs.Room.{loans_left_in, samples_at_most_in};
 
 use crate::factory::PortFactory;
@@ -37,6 +37,17 @@ impl Default for HubConfig {
             id: 0,
         }
     }
+}
+
+/// What lies under the hash of a service.
+#[derive(Clone, Copy, Debug, PartialEq, Eq)]
+pub enum HashState {
+    /// Nothing: no service of it stands, and nobody is about to create one.
+    Absent,
+    /// A lock: a node is about to create the service.
+    Locked,
+    /// A description: the service stands.
+    Described,
 }
 
 /// All nodes and services of a program: one owned value, which each call is handed.
@@ -122,18 +133,19 @@ impl<T: Copy, U: Copy, B: Drop, D: Drop> Hub<T, U, B, D> {
         factory.service.storage() == self.id()
     }
 
-    /// Whether nothing lies under the hash of a pattern and a name: no service of them stands, and no node has locked it to create one.
-    /// Nothing changes. It takes memory only where a service stands.
+    /// What lies under the hash of a pattern and a name. Nothing changes, and it is told whatever memory there is: where a service stands
+    /// its description is copied if there is memory for that, and let go at once; elsewhere none is asked for.
     ///
     /// This port's own.
-    /// Example: `let is_absent = hub.is_absent(MessagingPattern::Event, &name);`
-    pub fn is_absent(&mut self, pattern: MessagingPattern, name: &ServiceName) -> bool
-        ensures absent { result ≡ not (is_some (entry_at (service_hash_of pattern name.now) self.old.table)) }
+    /// Example: `let state = hub.state_under(MessagingPattern::Event, &name);`
+    pub fn state_under(&mut self, pattern: MessagingPattern, name: &ServiceName) -> HashState
+        ensures state { result ≡ hash_state (entry_at (service_hash_of pattern name.now) self.old.table) }
         ensures same { self.new ≡ self.old }
     {
         match self.table.look(&service_hash(pattern, name)) {
-            LookAnswer::Absent => true,
-            _ => false,
+            LookAnswer::Absent => HashState::Absent,
+            LookAnswer::Locked => HashState::Locked,
+            _ => HashState::Described,
         }
     }
 

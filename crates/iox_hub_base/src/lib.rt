@@ -59,7 +59,7 @@ pub mod taking;
 
 pub use builder::HubBuilder;
 pub use factory::{NotClosed, PortFactory};
-pub use hub::{Hub, HubConfig};
+pub use hub::{HashState, Hub, HubConfig};
 pub use iox_domain::{Domain, Kept};
 pub use node::NodeHandle;
 pub use presence::Presence;

@@ -1,18 +1,28 @@
--- A first look that finds nothing refuses settings that can't be: it is the one access of a call that opens or creates, and changes
--- nothing.
+-- The first look of a call tells a refusal: it is the one access of the call, and changes nothing.
 use Rattle.std.proofs.Common.{◌≡◌, ℕ, zero, suc, ◌+◌, ◌||◌, Bool, true, false, cond, List, [], ◌∷◌, map, Option, None, Some, Result, Ok}
-use Rattle.std.proofs.Common.{Err, refl, sym, subst, inl, inr, arith, length, min, nat_eq}
+use Rattle.std.proofs.Common.{◌∙◌, Err, refl, sym, subst, inl, inr, arith, length, min, nat_eq}
 use Rattle.std.specs.List.{AllByRecursion, filter}
-use Rattle.std.specs.Prelude.{drop}
+use Rattle.std.specs.Prelude.{drop, if◌then◌else◌}
 use Rattle.iox_command.specs.NegotiateBase.Access.{Look}
 use Rattle.iox_command.specs.NegotiateBase.EventErrors as event
+use Rattle.iox_command.specs.NegotiateBase.Failing.{refusal_seen}
+use Rattle.iox_command.specs.NegotiateBase.Opening.{EitherSeen, OpensSeen}
 use Rattle.iox_command.specs.NegotiateBase.PublishSubscribeErrors as publish_subscribe
 use Rattle.iox_command.specs.NegotiateBase.RequestResponseErrors as request_response
+use Rattle.iox_command.specs.NegotiateBase.Runs.{Went}
+use Rattle.iox_command.specs.NegotiateBase.Sight.{IsSight}
+use Rattle.iox_command.specs.NegotiateBase.declared.answer.LookAnswer.{LookAnswer}
 use Rattle.iox_command.specs.NegotiateBase.declared.answer.LookAnswer.TheVariants as look
+use Rattle.iox_command.specs.NegotiateBase.declared.creation.Attempt.TheVariants as attempt
 use Rattle.iox_command.specs.NegotiateBase.declared.failure.CreateFailure.{CreateFailure}
+use Rattle.iox_command.specs.NegotiateBase.declared.failure.CreateFailure.TheVariants as uncreated
+use Rattle.iox_command.specs.NegotiateBase.declared.failure.OpenFailure.{OpenFailure}
+use Rattle.iox_command.specs.NegotiateBase.declared.failure.OpenFailure.TheVariants as unopened
 use Rattle.iox_command.specs.NegotiateBase.declared.failure.OpenOrCreateFailure.{OpenOrCreateFailure}
 use Rattle.iox_command.specs.NegotiateBase.declared.failure.OpenOrCreateFailure.TheVariants as neither
+use Rattle.iox_command.specs.NegotiateBase.declared.sight.Sight.{Sight}
 use Rattle.iox_command.specs.NegotiateBase.declared.sight.Sight.TheVariants as sight
+use Rattle.iox_command.specs.NegotiateBase.declared.sight.SightFailure.TheVariants as unseen
 use Rattle.iox_command.specs.declared.refusal.Refusal.{Refusal}
 use Rattle.iox_command.specs.declared.refusal.Refusal.TheVariants as refusal
 use Rattle.iox_command.specs.declared.service.ServiceOptions.{ServiceOptions}
@@ -20,24 +30,34 @@ use Rattle.iox_command.specs.declared.service.ServiceOptions.TheVariants as opti
 use Rattle.iox_command.specs.declared.step.StepBefore.{StepBefore}
 use Rattle.iox_hub_base.specs.DescribeBase.Attributes.{Required}
 use Rattle.iox_hub_base.specs.DescribeBase.Detail.{Detail}
+use Rattle.iox_hub_base.specs.DescribeBase.declared.attribute.Attribute.{Attribute}
 use Rattle.iox_hub_base.specs.DescribeBase.declared.hash.ServiceHash.{ServiceHash}
 use Rattle.iox_hub_base.specs.DescribeBase.declared.message_type.MessageTypeDetails.{MessageTypeDetails}
 use Rattle.iox_hub_base.specs.DescribeBase.declared.pattern.MessagingPattern.{MessagingPattern}
+use Rattle.iox_hub_base.specs.DescribeBase.declared.pattern.MessagingPattern.TheVariants as pattern
 use Rattle.iox_hub_base.specs.DescribeSettings.Agreement.{Agreement, AreWithinLimits}
+use Rattle.iox_hub_base.specs.Hubs.{hash_state}
+use Rattle.iox_hub_base.specs.declared.hub.HashState.{HashState}
+use Rattle.iox_hub_base.specs.declared.hub.HashState.TheVariants as state
 use Rattle.iox_hub_base.specs.declared.hub.Hub.{Hub}
-use Rattle.iox_hub_commands.specs.Asking.{IsHistoryTooLong, hash_of}
+use Rattle.iox_hub_commands.specs.Asking.{IsHistoryTooLong, agreed_of, hash_of}
+use Rattle.iox_hub_commands.specs.Creating.{CreatesAgreed, CreatesAs, CreatesUnlessRefused}
 use Rattle.iox_hub_commands.specs.Described.{settings_of}
 use Rattle.iox_hub_commands.specs.Either.{EitherAs, EitherJudged, EitherNumbered}
-use Rattle.iox_hub_commands.specs.Refusing.{FindsNothing, IsUncreated, either_refused}
+use Rattle.iox_hub_commands.specs.Opening.{OpensAs, OpensJudged, OpensNumbered}
+use Rattle.iox_hub_commands.specs.Refusing.{IsUncreated, create_refused, either_refused, open_absent, open_locked, either_locked}
+use Rattle.iox_hub_commands.specs.Refusing.{first_look, open_told, create_told, either_told}
 use Rattle.iox_hub_commands.specs.ServicesNumbering.{GetsNumber}
 use Rattle.iox_hub_commands.specs.ServicesTables.{FactoryTable}
 use Rattle.iox_hub_commands.specs.Steps.{PublishesInForm, acts_first, from, last_access, list_before, lists_of, step_of}
 use Rattle.iox_hub_commands.specs.declared.services.asked.ServiceAsked.{ServiceAsked}
 use Rattle.iox_negotiate.specs.Asked.{IsRefusal}
 use Rattle.iox_negotiate_table.specs.Contents.{entry_at}
+use Rattle.iox_negotiate_table.specs.Describe.Within.{HasForm, IsWithinLimits}
 use Rattle.iox_negotiate_table.specs.Sights.{Looks}
-use Rattle.iox_negotiate_table.specs.Stepped.{next_list}
+use Rattle.iox_negotiate_table.specs.Stepped.{SteppedSight, next_list}
 use Rattle.iox_negotiate_table.specs.declared.entry.Entry.{Entry}
+use Rattle.iox_negotiate_table.specs.declared.entry.Entry.TheVariants as lying
 use Rattle.iox_negotiate_table.specs.declared.step.ForeignStep.{ForeignStep}
 
 -- ---- lists of steps
@@ -94,88 +114,342 @@ module _ (name : List ℕ) (types : MessageTypeDetails) where
 
 -- ---- the first look
 
--- where nothing lies a look finds nothing
-finds_nothing : (found : Option Entry) → found ≡ None → Looks found look.Absent
-finds_nothing found none = subst (λ (it : Option Entry). Looks it look.Absent) (sym none) refl
+module _ {T U B D : Type 0} (asked : ServiceAsked) (steps : List StepBefore) (hub : Hub T U B D) (found : HashState) where
+  -- what a first look finds lies under the hash, and no step is named before it
+  parts : first_look asked steps hub ≡ Some found
+      → (acts_first steps ≡ false) × (hash_state (entry_at (hash_of asked.name asked.options) hub.table) ≡ found)
+  parts is = here (acts_first steps) (hash_state (entry_at (hash_of asked.name asked.options) hub.table)) is
+    where
+      here : (acts : Bool) (at : HashState) → (if acts then None else Some at) ≡ Some found → (acts ≡ false) × (at ≡ found)
+      here true at is = absurd cc
+      here false at is = (refl, cc)
 
-module _ {T U B D V E : Type 0} (payload user_header : Detail) (kind : MessagingPattern) (told : E → Refusal)
-    (error : OpenOrCreateFailure V → E) (hash : ServiceHash) (node : ℕ) (verdict : Agreement → Result (Unit {0}) V) (agreed : Agreement)
-    (lists : List (List ForeignStep)) (table : FactoryTable) (hub : Hub T U B D) (failure : CreateFailure) where
-  -- the call makes that look alone, and is refused
-  ends_there : IsRefusal (AreWithinLimits agreed.settings) (IsHistoryTooLong agreed.settings) (Some failure)
-      → next_list lists ≡ [] → entry_at hash hub.table ≡ None
-      → GetsNumber kind told (EitherJudged payload user_header error hash node verdict agreed lists) table hub
-      (Err (told (error (neither.Create failure)))) table hub
-  ends_there refused none absent = (
-    Err (error (neither.Create failure)),
-    record {
-      answer = Err (error (neither.Create failure));
-      mid = record { table = hub.table; lists = drop 1 lists };
-      negotiated = record {
-        refusal = Some failure;
-        refused = refused;
-        within = λ is. absurd cc;
+looks_absent : (entry : Option Entry) → hash_state entry ≡ state.Absent → Looks entry look.Absent
+looks_absent None is = refl
+looks_absent (Some (lying.Locked node number)) is = absurd cc
+looks_absent (Some (lying.Described number bytes)) is = absurd cc
+
+looks_locked : (entry : Option Entry) → hash_state entry ≡ state.Locked → Looks entry look.Locked
+looks_locked None is = absurd cc
+looks_locked (Some (lying.Locked node number)) is = refl
+looks_locked (Some (lying.Described number bytes)) is = absurd cc
+
+-- what has the form of a description is within its limits if its settings are
+within_limits : (agreed : Agreement) → HasForm agreed → AreWithinLimits agreed.settings → IsWithinLimits agreed
+within_limits agreed formed limits = record {
+  name = formed.name;
+  service_hash = formed.service_hash;
+  settings = formed.settings;
+  limits = limits;
+  attributes = formed.attributes;
+}
+
+module _ {T U B D : Type 0} (payload user_header : Detail) (hash : ServiceHash) (node : ℕ) (lists : List (List ForeignStep))
+    (table : FactoryTable) (hub : Hub T U B D) (answer : LookAnswer) (shown : Sight) (none : next_list lists ≡ [])
+    (looks : Looks (entry_at hash hub.table) answer) (is_sight : IsSight hash answer shown) where
+  went : Went SteppedSight (record { table = hub.table; lists = lists }) (Look hash answer ∷ [])
+      (record { table = hub.table; lists = drop 1 lists })
+  went = (record { table = hub.table; lists = drop 1 lists }, (hub.table, Ok tt, rw none (refl, refl), (looks, refl), refl), refl)
+
+  module _ {V E : Type 0} (kind : MessagingPattern) (told : E → Refusal) (error : OpenFailure V → E)
+      (verdict : Agreement → Result (Unit {0}) V) (failure : OpenFailure V) where
+    -- a call that opens makes that look alone, and is refused
+    open_ends : OpensSeen hash node verdict shown [] (Some (Err failure))
+        → GetsNumber kind told (OpensJudged payload user_header error hash node verdict lists) table hub (Err (told (error failure))) table
+        hub
+    open_ends seen = (
+      Err (error failure),
+      record {
+        answer = Err (error failure);
+        mid = record { table = hub.table; lists = drop 1 lists };
         negotiated = record {
-          answer = Err (neither.Create failure);
+          answer = Err failure;
           done = record {
-            made = Look hash look.Absent ∷ [];
-            went = (
-              record { table = hub.table; lists = drop 1 lists },
-              (hub.table, Ok tt, rw none (refl, refl), (finds_nothing (entry_at hash hub.table) absent, refl), refl),
-              refl,
-            );
+            made = Look hash answer ∷ [];
+            went = went;
             told = record {
               count = 0;
               before = [];
-              last = Look hash look.Absent ∷ [];
+              last = Look hash answer ∷ [];
               all = refl;
               led = refl;
-              ends = inl (omega arith, (sight.Absent, refl, refl, (refl, refl)));
+              ends = inl (omega arith, (shown, refl, is_sight, seen));
             };
           };
           told = refl;
         };
-      };
-      settled = (refl, refl);
-    },
-    (refl, refl),
-  )
-
-module _ {T U B D : Type 0} (payload user_header : Detail) (types : MessageTypeDetails) (attributes : Required) (table : FactoryTable)
-    (hub : Hub T U B D) (node : ℕ) (name : List ℕ) (lists : List (List ForeignStep)) (failure : CreateFailure)
-    (none : next_list lists ≡ []) where
-  ends_as : (named : ServiceOptions) → IsUncreated (settings_of named types) (Some failure)
-      → entry_at (hash_of name named) hub.table ≡ None
-      → EitherAs named payload user_header types node name attributes lists table hub (Err (either_refused named failure)) table hub
-  ends_as (options.PublishSubscribe named) refused absent =
-      ends_there payload user_header _ refusal.PublishSubscribeOpenOrCreate publish_subscribe.open_or_create_error _ node _ _ lists table
-      hub failure refused none absent
-  ends_as (options.Event named) refused absent =
-      ends_there payload user_header _ refusal.EventOpenOrCreate event.open_or_create_error _ node _ _ lists table hub failure refused none
-      absent
-  ends_as (options.RequestResponse named) refused absent =
-      ends_there payload user_header _ refusal.RequestResponseOpenOrCreate request_response.open_or_create_error _ node _ _ lists table hub
-      failure refused none absent
-
--- Settings that can't be are refused at a first look that finds nothing, and nothing else happens: it is what a call that opens or
--- creates may come to.
-pub refused_at_first_look : {T U B D : Type 0} (payload user_header : Detail) (types : MessageTypeDetails) (asked : ServiceAsked)
-    (attributes : Required) (steps : List StepBefore) (table : FactoryTable) (hub new : Hub T U B D) (failure : CreateFailure)
-    (answer : Refusal) → IsUncreated (settings_of asked.options types) (Some failure) → FindsNothing asked steps hub
-    → AllByRecursion (AllByRecursion PublishesInForm) (lists_of asked.name types steps)
-    → answer ≡ either_refused asked.options failure → new ≡ hub
-    → EitherNumbered true payload user_header types asked attributes steps table hub (Some (Err answer)) table new
-refused_at_first_look {T} {U} {B} {D} payload user_header types asked attributes steps table hub new failure answer refused nothing formed
-    told same = (
-      Ok (lists_of asked.name types steps),
-      table,
-      Err answer,
-      ((refl, refl), refl, inr refl, formed),
-      subst (λ (after : Hub T U B D). EitherAs asked.options payload user_header types asked.node asked.name attributes
-          (lists_of asked.name types steps) table hub (Err answer) table after) (sym same)
-          (subst (λ (why : Refusal). EitherAs asked.options payload user_header types asked.node asked.name attributes
-          (lists_of asked.name types steps) table hub (Err why) table hub) (sym told)
-          (ends_as payload user_header types attributes table hub asked.node asked.name (lists_of asked.name types steps) failure
-          (none_next asked.name types steps nothing.0) asked.options refused nothing.1)),
-      refl,
+        settled = (refl, refl);
+      },
+      (refl, refl),
     )
+
+  module _ {E : Type 0} (kind : MessagingPattern) (told : E → Refusal) (error : CreateFailure → E) (agreed : Agreement)
+      (failure : CreateFailure) (accepted : IsRefusal (AreWithinLimits agreed.settings) (IsHistoryTooLong agreed.settings) None)
+      (formed : HasForm agreed) where
+    -- so does one that creates
+    create_ends : refusal_seen shown ≡ Some failure
+        → GetsNumber kind told (CreatesAgreed payload user_header error hash node agreed lists) table hub (Err (told (error failure))) table
+        hub
+    create_ends seen = (
+      Err (error failure),
+      record {
+        answer = Err (error failure);
+        mid = record { table = hub.table; lists = drop 1 lists };
+        negotiated = record {
+          refusal = None;
+          refused = accepted;
+          within = λ none. within_limits agreed formed accepted.0;
+          negotiated = record {
+            answer = Err failure;
+            done = record {
+              made = Look hash answer ∷ [];
+              went = went;
+              told = (shown, attempt.Failed failure, refl, is_sight, rw seen (refl, refl), refl);
+            };
+            told = refl;
+          };
+        };
+        settled = (refl, refl);
+      },
+      (refl, refl),
+    )
+
+  module _ {V E : Type 0} (kind : MessagingPattern) (told : E → Refusal) (error : OpenOrCreateFailure V → E)
+      (verdict : Agreement → Result (Unit {0}) V) (agreed : Agreement) (failure : OpenOrCreateFailure V) (refused : Option CreateFailure)
+      (is_refused : IsRefusal (AreWithinLimits agreed.settings) (IsHistoryTooLong agreed.settings) refused) (formed : HasForm agreed) where
+    limits : refused ≡ None → AreWithinLimits agreed.settings
+    limits none = (subst (λ it. IsRefusal (AreWithinLimits agreed.settings) (IsHistoryTooLong agreed.settings) it) none is_refused).0
+
+    -- and one that does either
+    either_ends : EitherSeen hash node verdict agreed refused shown [] (Some (Err failure))
+        → GetsNumber kind told (EitherJudged payload user_header error hash node verdict agreed lists) table hub
+        (Err (told (error failure))) table hub
+    either_ends seen = (
+      Err (error failure),
+      record {
+        answer = Err (error failure);
+        mid = record { table = hub.table; lists = drop 1 lists };
+        negotiated = record {
+          refusal = refused;
+          refused = is_refused;
+          within = λ none. within_limits agreed formed (limits none);
+          negotiated = record {
+            answer = Err failure;
+            done = record {
+              made = Look hash answer ∷ [];
+              went = went;
+              told = record {
+                count = 0;
+                before = [];
+                last = Look hash answer ∷ [];
+                all = refl;
+                led = refl;
+                ends = inl (omega arith, (shown, refl, is_sight, seen));
+              };
+            };
+            told = refl;
+          };
+        };
+        settled = (refl, refl);
+      },
+      (refl, refl),
+    )
+
+-- ---- the patterns
+
+module _ {T U B D : Type 0} (payload user_header : Detail) (types : MessageTypeDetails) (table : FactoryTable) (hub : Hub T U B D)
+    (node : ℕ) (name : List ℕ) (lists : List (List ForeignStep)) (none : next_list lists ≡ []) where
+  module _ (attributes : Required) where
+    absent_opens : (named : ServiceOptions) → hash_state (entry_at (hash_of name named) hub.table) ≡ state.Absent
+        → OpensAs named payload user_header types node name attributes lists table hub (Err (open_absent named)) table hub
+    absent_opens (options.PublishSubscribe named) is =
+        open_ends payload user_header _ node lists table hub look.Absent sight.Absent none (looks_absent _ is) refl
+        pattern.PublishSubscribe refusal.PublishSubscribeOpen publish_subscribe.open_error _ unopened.DoesNotExist (refl, refl)
+    absent_opens (options.Event named) is =
+        open_ends payload user_header _ node lists table hub look.Absent sight.Absent none (looks_absent _ is) refl pattern.Event
+        refusal.EventOpen event.open_error _ unopened.DoesNotExist (refl, refl)
+    absent_opens (options.RequestResponse named) is =
+        open_ends payload user_header _ node lists table hub look.Absent sight.Absent none (looks_absent _ is) refl
+        pattern.RequestResponse refusal.RequestResponseOpen request_response.open_error _ unopened.DoesNotExist (refl, refl)
+
+    locked_opens : (named : ServiceOptions) → hash_state (entry_at (hash_of name named) hub.table) ≡ state.Locked
+        → OpensAs named payload user_header types node name attributes lists table hub (Err (open_locked named)) table hub
+    locked_opens (options.PublishSubscribe named) is =
+        open_ends payload user_header _ node lists table hub look.Locked (sight.Failed unseen.HangsInCreation) none (looks_locked _ is) refl
+        pattern.PublishSubscribe refusal.PublishSubscribeOpen publish_subscribe.open_error _ unopened.HangsInCreation (refl, refl)
+    locked_opens (options.Event named) is =
+        open_ends payload user_header _ node lists table hub look.Locked (sight.Failed unseen.HangsInCreation) none (looks_locked _ is) refl
+        pattern.Event refusal.EventOpen event.open_error _ unopened.HangsInCreation (refl, refl)
+    locked_opens (options.RequestResponse named) is =
+        open_ends payload user_header _ node lists table hub look.Locked (sight.Failed unseen.HangsInCreation) none (looks_locked _ is) refl
+        pattern.RequestResponse refusal.RequestResponseOpen request_response.open_error _ unopened.HangsInCreation (refl, refl)
+
+    settings_either : (named : ServiceOptions) (failure : CreateFailure) → IsUncreated (settings_of named types) (Some failure)
+        → HasForm (agreed_of name named types attributes.pairs)
+        → hash_state (entry_at (hash_of name named) hub.table) ≡ state.Absent
+        → EitherAs named payload user_header types node name attributes lists table hub (Err (either_refused named failure)) table hub
+    settings_either (options.PublishSubscribe named) failure refused formed is =
+        either_ends payload user_header _ node lists table hub look.Absent sight.Absent none (looks_absent _ is) refl
+        pattern.PublishSubscribe refusal.PublishSubscribeOpenOrCreate publish_subscribe.open_or_create_error _ _ (neither.Create failure)
+        (Some failure) refused formed (refl, refl)
+    settings_either (options.Event named) failure refused formed is =
+        either_ends payload user_header _ node lists table hub look.Absent sight.Absent none (looks_absent _ is) refl pattern.Event
+        refusal.EventOpenOrCreate event.open_or_create_error _ _ (neither.Create failure) (Some failure) refused formed (refl, refl)
+    settings_either (options.RequestResponse named) failure refused formed is =
+        either_ends payload user_header _ node lists table hub look.Absent sight.Absent none (looks_absent _ is) refl
+        pattern.RequestResponse refusal.RequestResponseOpenOrCreate request_response.open_or_create_error _ _ (neither.Create failure)
+        (Some failure) refused formed (refl, refl)
+
+    locked_either : (named : ServiceOptions) (refused : Option CreateFailure) → IsUncreated (settings_of named types) refused
+        → HasForm (agreed_of name named types attributes.pairs)
+        → hash_state (entry_at (hash_of name named) hub.table) ≡ state.Locked
+        → EitherAs named payload user_header types node name attributes lists table hub (Err (either_locked named)) table hub
+    locked_either (options.PublishSubscribe named) refused is_refused formed is =
+        either_ends payload user_header _ node lists table hub look.Locked (sight.Failed unseen.HangsInCreation) none (looks_locked _ is)
+        refl pattern.PublishSubscribe refusal.PublishSubscribeOpenOrCreate publish_subscribe.open_or_create_error _ _
+        (neither.Open unopened.HangsInCreation) refused is_refused formed (refl, refl)
+    locked_either (options.Event named) refused is_refused formed is =
+        either_ends payload user_header _ node lists table hub look.Locked (sight.Failed unseen.HangsInCreation) none (looks_locked _ is)
+        refl pattern.Event refusal.EventOpenOrCreate event.open_or_create_error _ _ (neither.Open unopened.HangsInCreation) refused
+        is_refused formed (refl, refl)
+    locked_either (options.RequestResponse named) refused is_refused formed is =
+        either_ends payload user_header _ node lists table hub look.Locked (sight.Failed unseen.HangsInCreation) none (looks_locked _ is)
+        refl pattern.RequestResponse refusal.RequestResponseOpenOrCreate request_response.open_or_create_error _ _
+        (neither.Open unopened.HangsInCreation) refused is_refused formed (refl, refl)
+
+  module _ (attributes : List Attribute) where
+    locked_creates : (named : ServiceOptions) → IsUncreated (settings_of named types) None → HasForm (agreed_of name named types attributes)
+        → hash_state (entry_at (hash_of name named) hub.table) ≡ state.Locked
+        → CreatesAs named payload user_header types node name attributes lists table hub
+        (Err (create_refused named uncreated.HangsInCreation)) table hub
+    locked_creates (options.PublishSubscribe named) accepted formed is =
+        create_ends payload user_header _ node lists table hub look.Locked (sight.Failed unseen.HangsInCreation) none (looks_locked _ is)
+        refl pattern.PublishSubscribe refusal.PublishSubscribeCreate publish_subscribe.create_error _ uncreated.HangsInCreation accepted
+        formed refl
+    locked_creates (options.Event named) accepted formed is =
+        create_ends payload user_header _ node lists table hub look.Locked (sight.Failed unseen.HangsInCreation) none (looks_locked _ is)
+        refl pattern.Event refusal.EventCreate event.create_error _ uncreated.HangsInCreation accepted formed refl
+    locked_creates (options.RequestResponse named) accepted formed is =
+        create_ends payload user_header _ node lists table hub look.Locked (sight.Failed unseen.HangsInCreation) none (looks_locked _ is)
+        refl pattern.RequestResponse refusal.RequestResponseCreate request_response.create_error _ uncreated.HangsInCreation accepted formed
+        refl
+
+-- ---- the calls
+
+-- who is told one refusal is told no other
+answers : {one other : Refusal} → Some one ≡ Some other → one ≡ other
+answers {one} {other} same = cc
+
+-- and isn't told nothing
+pub none_told : {told : Option Refusal} {why : Refusal} → None ≡ told → Some why ≡ told → ⊥
+none_told {told} {why} none some = let same : None ≡ Some why = none ∙ sym some in cc
+
+module _ {T U B D : Type 0} (payload user_header : Detail) (types : MessageTypeDetails) (asked : ServiceAsked) (steps : List StepBefore)
+    (table : FactoryTable) (hub new : Hub T U B D) (answer : Refusal)
+    (formed : AllByRecursion (AllByRecursion PublishesInForm) (lists_of asked.name types steps)) (same : new ≡ hub) where
+  module _ (attributes : Required) where
+    -- What a first look tells who opens is what the call comes to, and nothing else happens.
+    pub unopened_at_first_look : Some answer ≡ open_told asked.options (first_look asked steps hub)
+        → OpensNumbered true payload user_header types asked attributes steps table hub (Some (Err answer)) table new
+    unopened_at_first_look told = among (first_look asked steps hub) refl told
+      where
+        Ends : Refusal → Hub T U B D → Type 0
+        Ends why after = OpensAs asked.options payload user_header types asked.node asked.name attributes (lists_of asked.name types steps)
+            table hub (Err why) table after
+
+        so : (why : Refusal) → answer ≡ why → Ends why hub
+            → OpensNumbered true payload user_header types asked attributes steps table hub (Some (Err answer)) table new
+        so why is ends = (
+          Ok (lists_of asked.name types steps),
+          table,
+          Err answer,
+          ((refl, refl), refl, inr refl, formed),
+          subst (λ (after : Hub T U B D). Ends answer after) (sym same) (subst (λ (it : Refusal). Ends it hub) (sym is) ends),
+          refl,
+        )
+
+        among : (found : Option HashState) → first_look asked steps hub ≡ found → Some answer ≡ open_told asked.options found
+            → OpensNumbered true payload user_header types asked attributes steps table hub (Some (Err answer)) table new
+        among None finds told = absurd cc
+        among (Some state.Absent) finds told =
+            let it = parts asked steps hub state.Absent finds in
+            so (open_absent asked.options) (answers told) (absent_opens payload user_header types table hub asked.node asked.name
+            (lists_of asked.name types steps) (none_next asked.name types steps it.0) attributes asked.options it.1)
+        among (Some state.Locked) finds told =
+            let it = parts asked steps hub state.Locked finds in
+            so (open_locked asked.options) (answers told) (locked_opens payload user_header types table hub asked.node asked.name
+            (lists_of asked.name types steps) (none_next asked.name types steps it.0) attributes asked.options it.1)
+        among (Some state.Described) finds told = absurd cc
+
+    -- So is what it tells who opens or creates.
+    pub neither_at_first_look : (refused : Option CreateFailure) → IsUncreated (settings_of asked.options types) refused
+        → HasForm (agreed_of asked.name asked.options types attributes.pairs)
+        → Some answer ≡ either_told asked.options refused (first_look asked steps hub)
+        → EitherNumbered true payload user_header types asked attributes steps table hub (Some (Err answer)) table new
+    neither_at_first_look refused is_refused agreed told = among refused is_refused (first_look asked steps hub) refl told
+      where
+        Ends : Refusal → Hub T U B D → Type 0
+        Ends why after = EitherAs asked.options payload user_header types asked.node asked.name attributes (lists_of asked.name types steps)
+            table hub (Err why) table after
+
+        so : (why : Refusal) → answer ≡ why → Ends why hub
+            → EitherNumbered true payload user_header types asked attributes steps table hub (Some (Err answer)) table new
+        so why is ends = (
+          Ok (lists_of asked.name types steps),
+          table,
+          Err answer,
+          ((refl, refl), refl, inr refl, formed),
+          subst (λ (after : Hub T U B D). Ends answer after) (sym same) (subst (λ (it : Refusal). Ends it hub) (sym is) ends),
+          refl,
+        )
+
+        among : (refused : Option CreateFailure) → IsUncreated (settings_of asked.options types) refused → (found : Option HashState)
+            → first_look asked steps hub ≡ found → Some answer ≡ either_told asked.options refused found
+            → EitherNumbered true payload user_header types asked attributes steps table hub (Some (Err answer)) table new
+        among refused is_refused None finds told = absurd cc
+        among None is_refused (Some state.Absent) finds told = absurd cc
+        among (Some failure) is_refused (Some state.Absent) finds told =
+            let it = parts asked steps hub state.Absent finds in
+            so (either_refused asked.options failure) (answers told) (settings_either payload user_header types table hub asked.node
+            asked.name (lists_of asked.name types steps) (none_next asked.name types steps it.0) attributes asked.options failure is_refused
+            agreed it.1)
+        among refused is_refused (Some state.Locked) finds told =
+            let it = parts asked steps hub state.Locked finds in
+            so (either_locked asked.options) (answers told) (locked_either payload user_header types table hub asked.node asked.name
+            (lists_of asked.name types steps) (none_next asked.name types steps it.0) attributes asked.options refused is_refused agreed
+            it.1)
+        among refused is_refused (Some state.Described) finds told = absurd cc
+
+  module _ (attributes : List Attribute) where
+    -- So is what it tells who creates, where the settings aren't refused.
+    pub uncreated_at_first_look : IsUncreated (settings_of asked.options types) None
+        → HasForm (agreed_of asked.name asked.options types attributes)
+        → Some answer ≡ create_told asked.options (first_look asked steps hub)
+        → CreatesUnlessRefused None payload user_header types asked attributes steps table hub (Some (Err answer)) table new
+    uncreated_at_first_look accepted agreed told = among (first_look asked steps hub) refl told
+      where
+        Ends : Refusal → Hub T U B D → Type 0
+        Ends why after = CreatesAs asked.options payload user_header types asked.node asked.name attributes
+            (lists_of asked.name types steps) table hub (Err why) table after
+
+        so : (why : Refusal) → answer ≡ why → Ends why hub
+            → CreatesUnlessRefused None payload user_header types asked attributes steps table hub (Some (Err answer)) table new
+        so why is ends = (
+          Ok (lists_of asked.name types steps),
+          table,
+          Err answer,
+          ((refl, refl), refl, inr refl, formed),
+          subst (λ (after : Hub T U B D). Ends answer after) (sym same) (subst (λ (it : Refusal). Ends it hub) (sym is) ends),
+          refl,
+        )
+
+        among : (found : Option HashState) → first_look asked steps hub ≡ found → Some answer ≡ create_told asked.options found
+            → CreatesUnlessRefused None payload user_header types asked attributes steps table hub (Some (Err answer)) table new
+        among None finds told = absurd cc
+        among (Some state.Absent) finds told = absurd cc
+        among (Some state.Locked) finds told =
+            let it = parts asked steps hub state.Locked finds in
+            so (create_refused asked.options uncreated.HangsInCreation) (answers told) (locked_creates payload user_header types table hub
+            asked.node asked.name (lists_of asked.name types steps) (none_next asked.name types steps it.0) attributes asked.options
+            accepted agreed it.1)
+        among (Some state.Described) finds told = absurd cc

@@ -1,5 +1,5 @@
 -- Settings that can't be are refused for one reason, and aren't accepted.
-use Rattle.std.proofs.Common.{◌≡◌, ◌⊎◌, None, Some, refl, inl, inr}
+use Rattle.std.proofs.Common.{◌≡◌, ◌⊎◌, Option, None, Some, refl, ap, inl, inr}
 use Rattle.std.proofs.Math.Logic.{⊎_elim}
 use Rattle.iox_hub_base.specs.DescribeSettings.Agreement.{AreWithinLimits}
 use Rattle.iox_hub_base.specs.DescribeSettings.declared.static_config.Settings.{Settings}
@@ -34,3 +34,9 @@ one_reason settings one other is also = ⊎_elim
     (λ beyond. ⊎_elim (λ beyond_too. rw (beyond.0, beyond_too.0) refl) (λ long. absurd (beyond.1 long.1)) (tells settings other also))
     (λ long. ⊎_elim (λ beyond. absurd (beyond.1 long.1)) (λ long_too. rw (long.0, long_too.0) refl) (tells settings other also))
     (tells settings one is)
+
+-- whether they are refused is one thing
+pub one_refusal : (settings : Settings) (one : Option CreateFailure) (other : CreateFailure) → IsUncreated settings one
+    → IsUncreated settings (Some other) → one ≡ Some other
+one_refusal settings None other is also = absurd (not_accepted settings other also is)
+one_refusal settings (Some one) other is also = ap (λ it. Some it) (one_reason settings one other is also)

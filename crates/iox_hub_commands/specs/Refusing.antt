@@ -1,5 +1,5 @@
--- Which services aren't created, whatever stands already, or where nothing does.
-use Rattle.std.specs.Prelude.{◌≡◌, false, List, Option, None, Some}
+-- Which services aren't created, whatever stands already; and what the first look of a call tells with no memory.
+use Rattle.std.specs.Prelude.{List, Option, None, Some, option_map, if◌then◌else◌}
 use Rattle.iox_negotiate.specs.Asked.{IsRefusal}
 use Rattle.iox_command.specs.declared.refusal.Refusal.{Refusal}
 use Rattle.iox_command.specs.declared.refusal.Refusal.TheVariants as refusal
@@ -12,7 +12,12 @@ use Rattle.iox_command.specs.NegotiateBase.EventErrors as event
 use Rattle.iox_command.specs.NegotiateBase.PublishSubscribeErrors as publish_subscribe
 use Rattle.iox_command.specs.NegotiateBase.RequestResponseErrors as request_response
 use Rattle.iox_command.specs.NegotiateBase.declared.failure.CreateFailure.{CreateFailure}
-use Rattle.iox_command.specs.NegotiateBase.declared.failure.OpenOrCreateFailure.TheVariants.{Create}
+use Rattle.iox_command.specs.NegotiateBase.declared.failure.CreateFailure.TheVariants as uncreated
+use Rattle.iox_command.specs.NegotiateBase.declared.failure.OpenFailure.TheVariants as unopened
+use Rattle.iox_command.specs.NegotiateBase.declared.failure.OpenOrCreateFailure.TheVariants.{Create, Open}
+use Rattle.iox_hub_base.specs.Hubs.{hash_state}
+use Rattle.iox_hub_base.specs.declared.hub.HashState.{HashState}
+use Rattle.iox_hub_base.specs.declared.hub.HashState.TheVariants as state
 use Rattle.iox_hub_base.specs.declared.hub.Hub.{Hub}
 use Rattle.iox_negotiate_table.specs.Contents.{entry_at}
 use Rattle.iox_hub_commands.specs.Asking.{IsHistoryTooLong, hash_of}
@@ -37,14 +42,44 @@ either_refused (options.Event named) failure = refusal.EventOpenOrCreate (event.
 either_refused (options.RequestResponse named) failure
     = refusal.RequestResponseOpenOrCreate (request_response.open_or_create_error (Create failure))
 
--- The first look for the service that is asked for finds nothing: no step is named before it, and neither a lock nor a description lies
--- under the hash.
-abbrev pub FindsNothing : {T U B D : Type 0} → ServiceAsked → List StepBefore → Hub T U B D → Type 0
-FindsNothing asked steps hub = (acts_first steps ≡ false) × (entry_at (hash_of asked.name asked.options) hub.table ≡ None)
+-- the refusal of the pattern that is asked for, of who opens where no service stands
+abbrev pub open_absent : ServiceOptions → Refusal
+open_absent (options.PublishSubscribe named) = refusal.PublishSubscribeOpen (publish_subscribe.open_error unopened.DoesNotExist)
+open_absent (options.Event named) = refusal.EventOpen (event.open_error unopened.DoesNotExist)
+open_absent (options.RequestResponse named) = refusal.RequestResponseOpen (request_response.open_error unopened.DoesNotExist)
 
--- Why nothing comes of a call that opens or creates, if its first look tells: no service is created with these settings, and that look
--- finds nothing.
-abbrev pub IsToldFirst : {T U B D : Type 0} → Settings → ServiceAsked → List StepBefore → Hub T U B D → Option CreateFailure → Type 0
-IsToldFirst settings asked steps hub (Some failure) = IsUncreated settings (Some failure) × FindsNothing asked steps hub
-IsToldFirst settings asked steps hub None
-    = (failure : CreateFailure) → IsUncreated settings (Some failure) → FindsNothing asked steps hub → ⊥
+-- that of who opens where another is about to create the service
+abbrev pub open_locked : ServiceOptions → Refusal
+open_locked (options.PublishSubscribe named) = refusal.PublishSubscribeOpen (publish_subscribe.open_error unopened.HangsInCreation)
+open_locked (options.Event named) = refusal.EventOpen (event.open_error unopened.HangsInCreation)
+open_locked (options.RequestResponse named) = refusal.RequestResponseOpen (request_response.open_error unopened.HangsInCreation)
+
+-- that of who opens or creates where another is about to create the service
+abbrev pub either_locked : ServiceOptions → Refusal
+either_locked (options.PublishSubscribe named)
+    = refusal.PublishSubscribeOpenOrCreate (publish_subscribe.open_or_create_error (Open unopened.HangsInCreation))
+either_locked (options.Event named) = refusal.EventOpenOrCreate (event.open_or_create_error (Open unopened.HangsInCreation))
+either_locked (options.RequestResponse named)
+    = refusal.RequestResponseOpenOrCreate (request_response.open_or_create_error (Open unopened.HangsInCreation))
+
+-- what the first look for the service that is asked for finds, unless a step is named before it
+abbrev pub first_look : {T U B D : Type 0} → ServiceAsked → List StepBefore → Hub T U B D → Option HashState
+first_look asked steps hub = if acts_first steps then None else Some (hash_state (entry_at (hash_of asked.name asked.options) hub.table))
+
+-- why nothing is opened, if a first look that finds this tells it: no service stands, or another is about to create it
+abbrev pub open_told : ServiceOptions → Option HashState → Option Refusal
+open_told named (Some state.Absent) = Some (open_absent named)
+open_told named (Some state.Locked) = Some (open_locked named)
+open_told named found = None
+
+-- why nothing is created, if a first look that finds this tells it: another is about to create the service
+abbrev pub create_told : ServiceOptions → Option HashState → Option Refusal
+create_told named (Some state.Locked) = Some (create_refused named uncreated.HangsInCreation)
+create_told named found = None
+
+-- Why nothing is opened or created, if a first look that finds this tells it: no service stands, and none is created with these
+-- settings; or another is about to create it.
+abbrev pub either_told : ServiceOptions → Option CreateFailure → Option HashState → Option Refusal
+either_told named refused (Some state.Absent) = option_map (either_refused named) refused
+either_told named refused (Some state.Locked) = Some (either_locked named)
+either_told named refused found = None

@@ -1,6 +1,6 @@
 -- The steps of foreign nodes that a command names.
-use Rattle.std.specs.Prelude.{ℕ, zero, suc, ◌+◌, Bool, false, ◌||◌, List, [], ◌∷◌, map, min, max, nat_eq}
-use Rattle.std.specs.List.{filter}
+use Rattle.std.specs.Prelude.{ℕ, zero, suc, ◌+◌, Bool, List, [], ◌∷◌, map, min, max, nat_eq}
+use Rattle.std.specs.List.{filter, list_any}
 use Rattle.iox_command.specs.declared.step.ForeignStep.{ForeignStep as Named}
 use Rattle.iox_command.specs.declared.step.ForeignStep.TheVariants as named
 use Rattle.iox_command.specs.declared.step.StepBefore.{StepBefore}
@@ -41,8 +41,7 @@ last_access (before ∷ rest) = max before.access (last_access rest)
 
 -- whether a step is named before the first access
 abbrev pub acts_first : List StepBefore → Bool
-acts_first [] = false
-acts_first (before ∷ rest) = nat_eq before.access 1 || acts_first rest
+acts_first steps = list_any (λ before. nat_eq before.access 1) steps
 
 -- so many numbers from this one on
 abbrev pub from : ℕ → ℕ → List ℕ

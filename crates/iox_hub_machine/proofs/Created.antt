@@ -65,7 +65,6 @@ use Rattle.iox_machine.specs.Choices.{Choices}
 use Rattle.iox_machine.proofs.Calls.{creates-go}
 use Rattle.iox_machine.specs.Agreement.{Agreement, unfit}
 use Rattle.iox_machine.specs.Asked.{settings_of}
-use Rattle.iox_machine.specs.Factories.{create_refusal}
 use Rattle.iox_machine.specs.Negotiation.{Call, Creates}
 use Rattle.iox_machine.specs.Phase.{Node, Own, Phase, Published}
 use Rattle.iox_machine.specs.Run as machine
@@ -78,8 +77,10 @@ use Rattle.iox_negotiate_machine.proofs.Refusing.{unfit-is}
 use Rattle.iox_negotiate_machine.specs.CallLaws.{HasNoRoomForHistory}
 use Rattle.iox_negotiate_machine.specs.Laws.{HaveOwnHashes}
 use Rattle.iox_negotiate_machine.specs.Standing.{description_of}
+use Rattle.iox_negotiate_machine.proofs.Told.{event-create-told, publish-subscribe-create-told, request-response-create-told}
 use Rattle.iox_negotiate_table.specs.Stepped.{Steps, SteppedSight}
 use Rattle.iox_negotiate_table.specs.declared.step.ForeignStep.{ForeignStep as TableStep}
+use Rattle.iox_machine.specs.Refusals.{create_refusal}
 
 -- ---- what is created
 
@@ -111,9 +112,9 @@ lacking_is (options.RequestResponse named) = refl
 
 -- the refusal for the settings
 refusal_is : (named : ServiceOptions) (why : CreateFailure) → create_refused named why ≡ create_refusal named why
-refusal_is (options.PublishSubscribe named) why = refl
-refusal_is (options.Event named) why = refl
-refusal_is (options.RequestResponse named) why = refl
+refusal_is (options.PublishSubscribe named) why = publish-subscribe-create-told named why
+refusal_is (options.Event named) why = event-create-told named why
+refusal_is (options.RequestResponse named) why = request-response-create-told named why
 
 -- settings can't be where the machine says so
 unfit_so : (types : MessageTypeDetails) (named : ServiceOptions) (refused : Option CreateFailure)
@@ -241,15 +242,18 @@ module _ (payload user_header : Detail) (variant : TypeVariant) where
           → Replied (factory_reply (Some result))
       by_options (options.PublishSubscribe one) is lists listed creates =
           created_so publish_subscribe.create_error refusal.PublishSubscribeCreate
-          (λ why. ap (λ (it : ServiceOptions). create_refusal it why) is) lists listed roomier same same_made result
+          (λ why. publish-subscribe-create-told one why ∙ ap (λ (it : ServiceOptions). create_refusal it why) is)
+          lists listed roomier same same_made result
           (subst (GetsBy refusal.PublishSubscribeCreate publish_subscribe.create_error lists) is creates)
       by_options (options.Event one) is lists listed creates =
           created_so event.create_error refusal.EventCreate
-          (λ why. ap (λ (it : ServiceOptions). create_refusal it why) is) lists listed roomier same same_made result
+          (λ why. event-create-told one why ∙ ap (λ (it : ServiceOptions). create_refusal it why) is)
+          lists listed roomier same same_made result
           (subst (GetsBy refusal.EventCreate event.create_error lists) is creates)
       by_options (options.RequestResponse one) is lists listed creates =
           created_so request_response.create_error refusal.RequestResponseCreate
-          (λ why. ap (λ (it : ServiceOptions). create_refusal it why) is) lists listed roomier same same_made result
+          (λ why. request-response-create-told one why ∙ ap (λ (it : ServiceOptions). create_refusal it why) is)
+          lists listed roomier same same_made result
           (subst (GetsBy refusal.RequestResponseCreate request_response.create_error lists) is creates)
 
     by_prepared : (prepared : Result (List (List TableStep)) AllocError) (roomier : FactoryTable) (result : Result ℕ Refusal)

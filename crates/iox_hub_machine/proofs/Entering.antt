@@ -15,10 +15,11 @@ use Rattle.iox_hub_machine.specs.Seats.{seats_in}
 use Rattle.iox_machine.proofs.Calls.{HasRoom, creates-go, opens-go, opens-or-creates-go}
 use Rattle.iox_machine.specs.Agreement.{Agreement}
 use Rattle.iox_machine.specs.AgreementLaws.{life_of}
-use Rattle.iox_machine.specs.Negotiation.{Call, Creates, Opens, OpensOrCreates}
+use Rattle.iox_machine.specs.Negotiation.{Call, Creates}
 use Rattle.iox_machine.specs.Phase.{Node, Own, Phase, Absent, Published, acted, entered, is_in, same_node}
 use Rattle.iox_negotiate_machine.proofs.Seats.{Entry, node-is}
 use Rattle.iox_negotiate_machine.specs.CallLaws.{IsServiceIn}
+use Rattle.iox_machine.proofs.Shorthands.{Opens, OpensOrCreates}
 
 module _ (node other : Node) where
   still_there : (entry : Entry) (nodes : List Entry) (b : Bool) → same_node entry.0 node ≡ b

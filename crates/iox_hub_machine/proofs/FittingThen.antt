@@ -16,7 +16,7 @@ use Rattle.iox_command.specs.declared.service.ServiceOptions.TheVariants as opti
 use Rattle.iox_describe_base.proofs.CompatibleLemmas.{compatible-from, compatible-true}
 use Rattle.iox_describe_base.specs.Compatible.{IsCompatible, is_compatible, same_detail}
 use Rattle.iox_domain.specs.Fitting.{FitTypes, Fits, any_payload, any_user_header, asked_types}
-use Rattle.iox_machine.specs.Agreement.{Agreement, publish_subscribe_verdict}
+use Rattle.iox_machine.specs.Agreement.{Agreement, verdict}
 use Rattle.iox_machine.specs.Asked.{settings_of}
 
 -- of clauses that are met the first is
@@ -94,16 +94,18 @@ module _ (payload user_header : Detail) (variant : TypeVariant) where
 
   met_types : (types : MessageTypeDetails) (required : Required) (named : PublishSubscribeOptions) (attributes : List Attribute)
       (c : StaticConfig)
-      → publish_subscribe_verdict types required named (record { settings = settings.PublishSubscribe c; attributes = attributes }) ≡ Ok tt
+      → verdict types (options.PublishSubscribe named) required
+      (record { settings = settings.PublishSubscribe c; attributes = attributes }) ≡ Ok tt
       → is_compatible types c.types ≡ true
   met_types types required named attributes c met = first_met _ (is_compatible types c.types) _ met
 
   -- what is opened fits
   pub met_fits : (required : Required) (named : PublishSubscribeOptions) (agreed : Agreement)
-      → publish_subscribe_verdict types required named agreed ≡ Ok tt → FitsHere payload user_header agreed.settings
+      → verdict types (options.PublishSubscribe named) required agreed ≡ Ok tt → FitsHere payload user_header agreed.settings
   met_fits required named agreed met = fits_there agreed.settings
       (λ c is. compatible-true types c.types (met_types types required named agreed.attributes c
-      (subst (λ (s : Settings). publish_subscribe_verdict types required named (record { settings = s; attributes = agreed.attributes })
+      (subst (λ (s : Settings). verdict types (options.PublishSubscribe named) required
+      (record { settings = s; attributes = agreed.attributes })
       ≡ Ok tt) is met)))
 
   types_of_new : (named : PublishSubscribeOptions) (c : StaticConfig)

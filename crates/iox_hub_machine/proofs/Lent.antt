@@ -83,8 +83,8 @@ use Rattle.iox_hub_machine.proofs.Rooming.{roomy_there}
 use Rattle.iox_hub_machine.proofs.Turning.{lends_decides}
 use Rattle.iox_hub_machine.proofs.WrittenWhole.{written_whole}
 use Rattle.iox_machine.specs.Choices.{Choices}
-use Rattle.iox_machine.specs.Ports.{AtFree, LendsLoan, publisher_in}
-use Rattle.iox_machine.proofs.Shorthands.{IsSkipped}
+use Rattle.iox_machine.specs.Ports.{LendsLoan, publisher_in}
+use Rattle.iox_machine.proofs.Shorthands.{IsSkipped, AtFree}
 use Rattle.iox_machine.specs.Run.{Step}
 use Rattle.iox_machine.specs.Service.{Service, Publisher}
 use Rattle.iox_machine.specs.State.{State, counted}

@@ -28,12 +28,15 @@ use Rattle.iox_command.specs.NegotiateBase.RequestResponseErrors as request_resp
 use Rattle.iox_command.specs.NegotiateBase.declared.failure.OpenFailure.{OpenFailure}
 use Rattle.iox_command.specs.NegotiateBase.declared.failure.OpenFailure.TheVariants as unopened
 use Rattle.iox_command.specs.NegotiateBase.DescribeBase.declared.type_detail.TypeVariant.{TypeVariant}
+use Rattle.iox_command.specs.Patterns.{pattern_of}
 use Rattle.iox_command.specs.declared.command.Command.TheVariants as command
 use Rattle.iox_command.specs.declared.refusal.Refusal.{Refusal}
 use Rattle.iox_command.specs.declared.refusal.Refusal.TheVariants as refusal
 use Rattle.iox_command.specs.declared.reply.Reply.{Reply}
 use Rattle.iox_command.specs.declared.reply.Reply.TheVariants as reply
+use Rattle.iox_command.specs.declared.service.EventOptions.{EventOptions}
 use Rattle.iox_command.specs.declared.service.PublishSubscribeOptions.{PublishSubscribeOptions}
+use Rattle.iox_command.specs.declared.service.RequestResponseOptions.{RequestResponseOptions}
 use Rattle.iox_command.specs.declared.service.ServiceOptions.{ServiceOptions}
 use Rattle.iox_command.specs.declared.service.ServiceOptions.TheVariants as options
 use Rattle.iox_command.specs.declared.step.StepBefore.{StepBefore}
@@ -57,6 +60,7 @@ use Rattle.iox_hub_machine.proofs.FewHeld.{few_held}
 use Rattle.iox_hub_machine.proofs.FittingThen.{FitsHere, met_fits}
 use Rattle.iox_hub_machine.proofs.Formed.{AreMade, formed_so, listed_so}
 use Rattle.iox_hub_machine.proofs.Skipping.{skipped_matches}
+use Rattle.iox_hub_machine.proofs.Verdicts.{event_judge, publish_subscribe_judge, request_response_judge}
 use Rattle.iox_hub_machine.proofs.Verdicts.{same_event_verdict, same_publish_subscribe_verdict, same_request_response_verdict}
 use Rattle.iox_hub_machine.specs.OpenLaws.{HasNumbersFor, OpeningMatches}
 use Rattle.iox_hub_machine.specs.ServiceLaws.{IsFollowed}
@@ -64,20 +68,25 @@ use Rattle.iox_hub_machine.specs.Services.{HubStandsFor, factory_as}
 use Rattle.iox_machine.specs.Choices.{Choices}
 use Rattle.iox_machine.proofs.Names.{phase-there}
 use Rattle.iox_machine.proofs.Opened.{opened-meets-asked}
-use Rattle.iox_machine.specs.Agreement.{Agreement, event_verdict, publish_subscribe_verdict, request_response_verdict}
+use Rattle.iox_machine.specs.Agreement.{Agreement, verdict}
 use Rattle.iox_machine.specs.AgreementLaws.{agreed_in}
-use Rattle.iox_machine.specs.Negotiation.{Call, Opens}
+use Rattle.iox_machine.specs.Negotiation.{Call}
+use Rattle.iox_machine.specs.Factories.{Negotiates, OpensService}
 use Rattle.iox_machine.specs.OpeningLaws.{IsAgreedOn}
+use Rattle.iox_machine.specs.Refusals.{open_refusal}
 use Rattle.iox_machine.specs.Phase.{Node, Own, Phase, Published}
 use Rattle.iox_machine.specs.Run as machine
-use Rattle.iox_machine.specs.State.{State}
+use Rattle.iox_machine.specs.State.{Factory, State}
 use Rattle.iox_negotiate.specs.Negotiation as built
 use Rattle.iox_negotiate_machine.proofs.OpenCalls.{open-matches}
+use Rattle.iox_negotiate_machine.proofs.Told.{event-open-told, event_clause, opening-told, publish-subscribe-open-told}
+use Rattle.iox_negotiate_machine.proofs.Told.{publish_subscribe_clause, request-response-open-told, request_response_clause}
 use Rattle.iox_negotiate_machine.specs.Laws.{HaveOwnHashes}
 use Rattle.iox_negotiate_machine.specs.Standing.{description_of}
 use Rattle.iox_negotiate_table.specs.NegotiateBase.Opening as rounds
 use Rattle.iox_negotiate_table.specs.Stepped.{SteppedSight}
 use Rattle.iox_negotiate_table.specs.declared.step.ForeignStep.{ForeignStep as TableStep}
+use Rattle.iox_machine.proofs.Shorthands.{Opens}
 
 -- what is done where a test is passed
 pub by_true : (P Q : Type 0) (b : Bool) → b ≡ true → P → MatchBool b P Q
@@ -199,20 +208,60 @@ module _ {T U B D : Type 0} (payload user_header : Detail) (variant : TypeVarian
           stands = it.stands_then;
         }
 
+    -- the factory that the node gets
+    abbrev factory_in : MessagingPattern → Factory
+    factory_in kind = record { pattern = kind; name = name; node = node }
+
+    -- what comes of the call of a machine whose clauses are told so is a step of the machine
+    module _ (answer : Reply T) (after : State T) where
+      publish_subscribe_step : (named : PublishSubscribeOptions)
+          → Negotiates (Opens types pattern.PublishSubscribe steps (Own node) (publish_subscribe_judge types required name named))
+          (λ why. refusal.PublishSubscribeOpen (publish_subscribe.open_error why)) (λ is_new. unopened.OutOfMemory)
+          (factory_in pattern.PublishSubscribe) state answer after
+          → OpensService types steps (factory_in pattern.PublishSubscribe) (options.PublishSubscribe named) required state answer after
+      publish_subscribe_step named =
+          opening-told types steps (factory_in pattern.PublishSubscribe) (options.PublishSubscribe named) required publish_subscribe_clause
+          (publish_subscribe_judge types required name named) (λ agreed. same_publish_subscribe_verdict types required name named agreed)
+          state answer after
+          (λ why. refusal.PublishSubscribeOpen (publish_subscribe.open_error why)) (publish-subscribe-open-told named)
+
+      event_step : (named : EventOptions)
+          → Negotiates (Opens types pattern.Event steps (Own node) (event_judge types required name named))
+          (λ why. refusal.EventOpen (event.open_error why))
+          (λ is_new. unopened.OutOfMemory) (factory_in pattern.Event) state answer after
+          → OpensService types steps (factory_in pattern.Event) (options.Event named) required state answer after
+      event_step named =
+          opening-told types steps (factory_in pattern.Event) (options.Event named) required event_clause
+          (event_judge types required name named)
+          (λ agreed. same_event_verdict types required name named agreed) state answer after
+          (λ why. refusal.EventOpen (event.open_error why)) (event-open-told named)
+
+      request_response_step : (named : RequestResponseOptions)
+          → Negotiates (Opens types pattern.RequestResponse steps (Own node) (request_response_judge types required name named))
+          (λ why. refusal.RequestResponseOpen (request_response.open_error why)) (λ is_new. unopened.OutOfMemory)
+          (factory_in pattern.RequestResponse) state answer after
+          → OpensService types steps (factory_in pattern.RequestResponse) (options.RequestResponse named) required state answer after
+      request_response_step named =
+          opening-told types steps (factory_in pattern.RequestResponse) (options.RequestResponse named) required request_response_clause
+          (request_response_judge types required name named) (λ agreed. same_request_response_verdict types required name named agreed)
+          state answer after
+          (λ why. refusal.RequestResponseOpen (request_response.open_error why)) (request-response-open-told named)
+
     -- what is opened is as it was asked for
     opened_fits : (named : PublishSubscribeOptions) (fresh : Bool) (last : Call)
-        → Opens types pattern.PublishSubscribe steps (Own node) (publish_subscribe_verdict types required named)
+        → Opens types pattern.PublishSubscribe steps (Own node) (publish_subscribe_judge types required name named)
         (record { phase = state.phases pattern.PublishSubscribe name; accesses = 0 }) (Some (Ok fresh)) last
         → pattern.PublishSubscribe ≡ pattern.PublishSubscribe → (life : ℕ) (agreed : Agreement) (nodes : List (Node × ℕ))
         → last.phase ≡ Published life agreed nodes → FitsHere payload user_header agreed.settings
     opened_fits named fresh last goes is life agreed nodes phase_is =
         met_fits payload user_header variant required named agreed
-        (agreed_there (λ one. publish_subscribe_verdict types required named one ≡ Ok tt) last.phase life agreed nodes phase_is
-        (subst (IsAgreedOn (λ one. publish_subscribe_verdict types required named one ≡ Ok tt))
+        (agreed_there (λ one. verdict types (options.PublishSubscribe named) required one ≡ Ok tt) last.phase life agreed nodes phase_is
+        (subst (IsAgreedOn (λ one. verdict types (options.PublishSubscribe named) required one ≡ Ok tt))
         (phase-there pattern.PublishSubscribe name last.phase state)
         ((opened-meets-asked choices types old.hub.expired_connection_buffer node name (options.PublishSubscribe named) required steps
         state (reply.FactoryMade (state.made.factories + 1)) then
-        (by_true _ _ _ made_node (inr (Ok fresh, last, goes, inl (refl, refl))))).0 (state.made.factories + 1) refl)))
+        (publish_subscribe_step (reply.FactoryMade (state.made.factories + 1)) then named
+        (by_true _ _ _ made_node (inr (Ok fresh, last, goes, inl (refl, refl)))))).0 (state.made.factories + 1) refl)))
       where
         then : State T
         then = with_factory_in payload user_header choices degrades decides reader_degrades names own pattern.PublishSubscribe name asked
@@ -224,64 +273,46 @@ module _ {T U B D : Type 0} (payload user_header : Detail) (variant : TypeVarian
         → OpensAs named payload user_header types node name required lists roomier old.hub result new.factories.made new.hub
         → Followed named (factory_reply (Some result))
     opens_as (options.PublishSubscribe named) lists listed roomier same same_made result (opened, does, numbers) =
-        followed_by (options.PublishSubscribe named) pattern.PublishSubscribe _ _ _ _ (λ after came. by_true _ _ _ made_node came)
+        followed_by (options.PublishSubscribe named) pattern.PublishSubscribe _ _ _ _
+        (λ after came. publish_subscribe_step (factory_reply (Some result)) after named (by_true _ _ _ made_node came))
         (opened_so pattern.PublishSubscribe
         (λ given. first_unmet (publish_subscribe_clauses.clauses (required_publish_subscribe named types required) given))
-        (publish_subscribe_verdict types required named)
-        (λ agreed. same_publish_subscribe_verdict types required name named agreed)
+        (publish_subscribe_judge types required name named) (λ agreed. refl)
         publish_subscribe.open_error refusal.PublishSubscribeOpen (opened_fits named) lists listed roomier same same_made result opened does
         numbers)
     opens_as (options.Event named) lists listed roomier same same_made result (opened, does, numbers) =
-        followed_by (options.Event named) pattern.Event _ _ _ _ (λ after came. by_true _ _ _ made_node came)
-        (opened_so pattern.Event
-        (λ given. first_unmet (event_clauses.clauses (required_event named required) given))
-        (event_verdict required named)
-        (λ agreed. same_event_verdict types required name named agreed)
+        followed_by (options.Event named) pattern.Event _ _ _ _
+        (λ after came. event_step (factory_reply (Some result)) after named (by_true _ _ _ made_node came))
+        (opened_so pattern.Event (λ given. first_unmet (event_clauses.clauses (required_event named required) given))
+        (event_judge types required name named) (λ agreed. refl)
         event.open_error refusal.EventOpen (λ fresh last goes is. absurd (is_event is)) lists listed roomier same same_made result opened
         does numbers)
     opens_as (options.RequestResponse named) lists listed roomier same same_made result (opened, does, numbers) =
-        followed_by (options.RequestResponse named) pattern.RequestResponse _ _ _ _ (λ after came. by_true _ _ _ made_node came)
+        followed_by (options.RequestResponse named) pattern.RequestResponse _ _ _ _
+        (λ after came. request_response_step (factory_reply (Some result)) after named (by_true _ _ _ made_node came))
         (opened_so pattern.RequestResponse
         (λ given. first_unmet (request_response_clauses.clauses (required_request_response named types required) given))
-        (request_response_verdict types required named)
-        (λ agreed. same_request_response_verdict types required name named agreed)
+        (request_response_judge types required name named) (λ agreed. refl)
         request_response.open_error refusal.RequestResponseOpen (λ fresh last goes is. absurd (is_request_response is)) lists listed roomier
         same same_made result opened does numbers)
+
+    -- the refusal for want of memory
+    lacking_is : (named : ServiceOptions) → open_lacking named ≡ open_refusal named unopened.OutOfMemory
+    lacking_is (options.PublishSubscribe named) = refl
+    lacking_is (options.Event named) = refl
+    lacking_is (options.RequestResponse named) = refl
 
     lacks_as : (named : ServiceOptions) (lacking : AllocError) (roomier : FactoryTable) → SameNumbers old.factories.made roomier
         → new.made ≡ old.made → (result : Result ℕ Refusal)
         → IsRefusedWith (open_lacking named) roomier old.hub result new.factories.made new.hub
         → Followed named (factory_reply (Some result))
-    lacks_as (options.PublishSubscribe named) lacking roomier same same_made result does =
-        followed_by (options.PublishSubscribe named) pattern.PublishSubscribe
-        (Opens types pattern.PublishSubscribe steps (Own node) (publish_subscribe_verdict types required named))
-        (λ why. refusal.PublishSubscribeOpen (publish_subscribe.open_error why)) (λ is_new. unopened.OutOfMemory) _
-        (λ after came. by_true _ _ _ made_node came)
-        (lacking_answered payload user_header choices degrades decides reader_degrades names own pattern.PublishSubscribe name asked taken
-        naming
-        order node old new state stands
-        (Opens types pattern.PublishSubscribe steps (Own node) (publish_subscribe_verdict types required named))
-        (λ why. refusal.PublishSubscribeOpen (publish_subscribe.open_error why)) (λ is_new. unopened.OutOfMemory) roomier result same
-        same_made does)
-    lacks_as (options.Event named) lacking roomier same same_made result does =
-        followed_by (options.Event named) pattern.Event (Opens types pattern.Event steps (Own node) (event_verdict required named))
-        (λ why. refusal.EventOpen (event.open_error why)) (λ is_new. unopened.OutOfMemory) _
-        (λ after came. by_true _ _ _ made_node came)
-        (lacking_answered payload user_header choices degrades decides reader_degrades names own pattern.Event name asked taken naming
-        order node
-        old new state stands (Opens types pattern.Event steps (Own node) (event_verdict required named))
-        (λ why. refusal.EventOpen (event.open_error why)) (λ is_new. unopened.OutOfMemory) roomier result same same_made does)
-    lacks_as (options.RequestResponse named) lacking roomier same same_made result does =
-        followed_by (options.RequestResponse named) pattern.RequestResponse
-        (Opens types pattern.RequestResponse steps (Own node) (request_response_verdict types required named))
-        (λ why. refusal.RequestResponseOpen (request_response.open_error why)) (λ is_new. unopened.OutOfMemory) _
-        (λ after came. by_true _ _ _ made_node came)
-        (lacking_answered payload user_header choices degrades decides reader_degrades names own pattern.RequestResponse name asked taken
-        naming
-        order node old new state stands
-        (Opens types pattern.RequestResponse steps (Own node) (request_response_verdict types required named))
-        (λ why. refusal.RequestResponseOpen (request_response.open_error why)) (λ is_new. unopened.OutOfMemory) roomier result same
-        same_made does)
+    lacks_as named lacking roomier same same_made result does =
+        followed_by named (pattern_of named) (Opens types (pattern_of named) steps (Own node) (verdict types named required))
+        (open_refusal named) (λ is_new. unopened.OutOfMemory) _ (λ after came. by_true _ _ _ made_node came)
+        (lacking_answered payload user_header choices degrades decides reader_degrades names own (pattern_of named) name asked taken naming
+        order node old new state stands (Opens types (pattern_of named) steps (Own node) (verdict types named required))
+        (open_refusal named) (λ is_new. unopened.OutOfMemory) roomier result same same_made
+        (subst (λ (why : Refusal). IsRefusedWith why roomier old.hub result new.factories.made new.hub) (lacking_is named) does))
 
     prepared_so : (named : ServiceOptions) (prepared : Result (List (List TableStep)) AllocError) (roomier : FactoryTable)
         → new.made ≡ old.made → (result : Result ℕ Refusal)

@@ -27,6 +27,8 @@ use Rattle.iox_command.specs.NegotiateBase.EventErrors as event
 use Rattle.iox_command.specs.NegotiateBase.PublishSubscribeErrors as publish_subscribe
 use Rattle.iox_command.specs.NegotiateBase.RequestResponseErrors as request_response
 use Rattle.iox_command.specs.NegotiateBase.declared.failure.OpenOrCreateFailure.{OpenOrCreateFailure}
+use Rattle.iox_command.specs.NegotiateBase.declared.failure.OpenFailure.TheVariants as unopened
+use Rattle.iox_command.specs.NegotiateBase.declared.failure.OpenOrCreateFailure.TheVariants as neither
 use Rattle.iox_command.specs.Patterns.{pattern_of}
 use Rattle.iox_command.specs.NegotiateBase.DescribeBase.declared.type_detail.TypeVariant.{TypeVariant}
 use Rattle.iox_command.specs.declared.command.Command.TheVariants as command
@@ -34,7 +36,9 @@ use Rattle.iox_command.specs.declared.refusal.Refusal.{Refusal}
 use Rattle.iox_command.specs.declared.refusal.Refusal.TheVariants as refusal
 use Rattle.iox_command.specs.declared.reply.Reply.{Reply}
 use Rattle.iox_command.specs.declared.reply.Reply.TheVariants as reply
+use Rattle.iox_command.specs.declared.service.EventOptions.{EventOptions}
 use Rattle.iox_command.specs.declared.service.PublishSubscribeOptions.{PublishSubscribeOptions}
+use Rattle.iox_command.specs.declared.service.RequestResponseOptions.{RequestResponseOptions}
 use Rattle.iox_command.specs.declared.service.ServiceOptions.{ServiceOptions}
 use Rattle.iox_command.specs.declared.service.ServiceOptions.TheVariants as options
 use Rattle.iox_command.specs.declared.step.StepBefore.{StepBefore}
@@ -59,6 +63,7 @@ use Rattle.iox_hub_machine.proofs.FittingThen.{FitsHere, met_fits, new_fits}
 use Rattle.iox_hub_machine.proofs.Formed.{AreMade, formed_so, listed_so}
 use Rattle.iox_hub_machine.proofs.Openings.{agreed_there, by_true, is_event, is_request_response}
 use Rattle.iox_hub_machine.proofs.Skipping.{skipped_matches}
+use Rattle.iox_hub_machine.proofs.Verdicts.{event_judge, publish_subscribe_judge, request_response_judge}
 use Rattle.iox_hub_machine.proofs.Verdicts.{new_agreement, same_event_verdict, same_history, same_publish_subscribe_verdict}
 use Rattle.iox_hub_machine.proofs.Verdicts.{same_request_response_verdict, same_required_agreement}
 use Rattle.iox_hub_machine.specs.OpenLaws.{HasNumbersFor, OpeningOrCreatingMatches}
@@ -67,22 +72,27 @@ use Rattle.iox_hub_machine.specs.Services.{HubStandsFor, factory_as}
 use Rattle.iox_machine.specs.Choices.{Choices}
 use Rattle.iox_machine.proofs.Names.{phase-there}
 use Rattle.iox_machine.proofs.Opened.{either-meets-asked}
-use Rattle.iox_machine.specs.Agreement.{Agreement, event_verdict, publish_subscribe_verdict, request_response_verdict}
+use Rattle.iox_machine.specs.Agreement.{Agreement, verdict}
 use Rattle.iox_machine.specs.Asked.{settings_of}
-use Rattle.iox_machine.specs.Factories as told_of
-use Rattle.iox_machine.specs.Negotiation.{Call, OpensOrCreates}
+use Rattle.iox_machine.proofs.Shorthands as told_of
+use Rattle.iox_machine.specs.Factories.{Negotiates, OpensOrCreatesService}
+use Rattle.iox_machine.specs.Refusals.{either_refusal}
+use Rattle.iox_machine.specs.Negotiation.{Call}
 use Rattle.iox_machine.specs.OpeningLaws.{IsAgreedOn}
 use Rattle.iox_machine.specs.Phase.{Node, Own, Published}
 use Rattle.iox_machine.specs.Run as machine
-use Rattle.iox_machine.specs.State.{State}
+use Rattle.iox_machine.specs.State.{Factory, State}
 use Rattle.iox_negotiate.specs.Negotiation as built
 use Rattle.iox_negotiate.specs.declared.factory.Membership.{Membership}
 use Rattle.iox_negotiate_machine.proofs.OpenCalls.{open-or-create-matches}
 use Rattle.iox_negotiate_machine.specs.CallLaws.{HasNoRoomForHistory}
+use Rattle.iox_negotiate_machine.proofs.Told.{either-told, event-either-told, event_clause, publish-subscribe-either-told}
+use Rattle.iox_negotiate_machine.proofs.Told.{publish_subscribe_clause, request-response-either-told, request_response_clause}
 use Rattle.iox_negotiate_machine.specs.Laws.{HaveOwnHashes}
 use Rattle.iox_negotiate_machine.specs.Standing.{description_of}
 use Rattle.iox_negotiate_table.specs.Stepped.{Steps, SteppedSight}
 use Rattle.iox_negotiate_table.specs.declared.step.ForeignStep.{ForeignStep as TableStep}
+use Rattle.iox_machine.proofs.Shorthands.{OpensOrCreates}
 
 module _ {T U B D : Type 0} (payload user_header : Detail) (variant : TypeVariant) (choices : Choices T)
     (is_default_header : U → Type 0)
@@ -223,17 +233,61 @@ module _ {T U B D : Type 0} (payload user_header : Detail) (variant : TypeVarian
           stands = it.stands_then;
         }
 
+    -- the factory that the node gets
+    abbrev factory_in : MessagingPattern → Factory
+    factory_in kind = record { pattern = kind; name = name; node = node }
+
+    -- what comes of the call of a machine whose clauses are told so is a step of the machine
+    module _ (answer : Reply T) (after : State T) where
+      publish_subscribe_step : (named : PublishSubscribeOptions)
+          → Negotiates (OpensOrCreates types pattern.PublishSubscribe steps (Own node) (publish_subscribe_judge types required name named)
+          (new_agreement types required name (options.PublishSubscribe named)))
+          (λ why. refusal.PublishSubscribeOpenOrCreate (publish_subscribe.open_or_create_error why)) told_of.either_lacking
+          (factory_in pattern.PublishSubscribe) state answer after
+          → OpensOrCreatesService types steps (factory_in pattern.PublishSubscribe) (options.PublishSubscribe named) required state answer
+          after
+      publish_subscribe_step named =
+          either-told types steps (factory_in pattern.PublishSubscribe) (options.PublishSubscribe named) required publish_subscribe_clause
+          (publish_subscribe_judge types required name named) (λ agreed. same_publish_subscribe_verdict types required name named agreed)
+          state answer after
+          (λ why. refusal.PublishSubscribeOpenOrCreate (publish_subscribe.open_or_create_error why)) (publish-subscribe-either-told named)
+
+      event_step : (named : EventOptions)
+          → Negotiates (OpensOrCreates types pattern.Event steps (Own node) (event_judge types required name named)
+          (new_agreement types required name (options.Event named)))
+          (λ why. refusal.EventOpenOrCreate (event.open_or_create_error why)) told_of.either_lacking
+          (factory_in pattern.Event) state answer after
+          → OpensOrCreatesService types steps (factory_in pattern.Event) (options.Event named) required state answer after
+      event_step named =
+          either-told types steps (factory_in pattern.Event) (options.Event named) required event_clause
+          (event_judge types required name named) (λ agreed. same_event_verdict types required name named agreed)
+          state answer after
+          (λ why. refusal.EventOpenOrCreate (event.open_or_create_error why)) (event-either-told named)
+
+      request_response_step : (named : RequestResponseOptions)
+          → Negotiates (OpensOrCreates types pattern.RequestResponse steps (Own node) (request_response_judge types required name named)
+          (new_agreement types required name (options.RequestResponse named)))
+          (λ why. refusal.RequestResponseOpenOrCreate (request_response.open_or_create_error why)) told_of.either_lacking
+          (factory_in pattern.RequestResponse) state answer after
+          → OpensOrCreatesService types steps (factory_in pattern.RequestResponse) (options.RequestResponse named) required state answer
+          after
+      request_response_step named =
+          either-told types steps (factory_in pattern.RequestResponse) (options.RequestResponse named) required request_response_clause
+          (request_response_judge types required name named) (λ agreed. same_request_response_verdict types required name named agreed)
+          state answer after
+          (λ why. refusal.RequestResponseOpenOrCreate (request_response.open_or_create_error why)) (request-response-either-told named)
+
     -- what is opened is as it was asked for, and what is created is so
     either_fits : (named : PublishSubscribeOptions) (fresh : Bool) (last : Call)
-        → OpensOrCreates types pattern.PublishSubscribe steps (Own node) (publish_subscribe_verdict types required named)
+        → OpensOrCreates types pattern.PublishSubscribe steps (Own node) (publish_subscribe_judge types required name named)
         (new_agreement types required name (options.PublishSubscribe named))
         (record { phase = state.phases pattern.PublishSubscribe name; accesses = 0 }) (Some (Ok fresh)) last
         → pattern.PublishSubscribe ≡ pattern.PublishSubscribe → (life : ℕ) (agreed : Agreement) (nodes : List (Node × ℕ))
         → last.phase ≡ Published life agreed nodes → FitsHere payload user_header agreed.settings
     either_fits named fresh last goes is life agreed nodes phase_is =
         ⊎_elim (λ met. met_fits payload user_header variant required named agreed
-        (agreed_there (λ one. publish_subscribe_verdict types required named one ≡ Ok tt) last.phase life agreed nodes phase_is
-        (subst (IsAgreedOn (λ one. publish_subscribe_verdict types required named one ≡ Ok tt))
+        (agreed_there (λ one. verdict types (options.PublishSubscribe named) required one ≡ Ok tt) last.phase life agreed nodes phase_is
+        (subst (IsAgreedOn (λ one. verdict types (options.PublishSubscribe named) required one ≡ Ok tt))
         (phase-there pattern.PublishSubscribe name last.phase state) met)))
         (λ new_one. subst (λ (one : Agreement). FitsHere payload user_header one.settings)
         (same_agreed new_one.0 life
@@ -242,7 +296,8 @@ module _ {T U B D : Type 0} (payload user_header : Detail) (variant : TypeVarian
         (new_fits payload user_header variant named))
         ((either-meets-asked choices types old.hub.expired_connection_buffer node name (options.PublishSubscribe named) required steps
         state (reply.FactoryMade (state.made.factories + 1)) then
-        (by_true _ _ _ made_node (inr (Ok fresh, last, goes, inl (refl, refl))))).0 (state.made.factories + 1) refl)
+        (publish_subscribe_step (reply.FactoryMade (state.made.factories + 1)) then named
+        (by_true _ _ _ made_node (inr (Ok fresh, last, goes, inl (refl, refl)))))).0 (state.made.factories + 1) refl)
       where
         then : State T
         then = with_factory_in payload user_header choices degrades decides reader_degrades names own pattern.PublishSubscribe name asked
@@ -258,75 +313,52 @@ module _ {T U B D : Type 0} (payload user_header : Detail) (variant : TypeVarian
         → EitherAs named payload user_header types node name required lists roomier old.hub result new.factories.made new.hub
         → Followed named (factory_reply (Some result))
     either_as (options.PublishSubscribe named) lists listed roomier same same_made result (opened, does, numbers) =
-        followed_by (options.PublishSubscribe named) pattern.PublishSubscribe _ _ _ _ (λ after came. by_true _ _ _ made_node came)
+        followed_by (options.PublishSubscribe named) pattern.PublishSubscribe _ _ _ _
+        (λ after came. publish_subscribe_step (factory_reply (Some result)) after named (by_true _ _ _ made_node came))
         (either_so (options.PublishSubscribe named)
         (λ given. first_unmet (publish_subscribe_clauses.clauses (required_publish_subscribe named types required) given))
-        (publish_subscribe_verdict types required named)
-        (λ agreed. same_publish_subscribe_verdict types required name named agreed)
+        (publish_subscribe_judge types required name named) (λ agreed. refl)
         publish_subscribe.open_or_create_error refusal.PublishSubscribeOpenOrCreate (either_fits named) lists listed roomier same
         same_made result opened does
         numbers)
     either_as (options.Event named) lists listed roomier same same_made result (opened, does, numbers) =
-        followed_by (options.Event named) pattern.Event _ _ _ _ (λ after came. by_true _ _ _ made_node came)
+        followed_by (options.Event named) pattern.Event _ _ _ _
+        (λ after came. event_step (factory_reply (Some result)) after named (by_true _ _ _ made_node came))
         (either_so (options.Event named)
         (λ given. first_unmet (event_clauses.clauses (required_event named required) given))
-        (event_verdict required named)
-        (λ agreed. same_event_verdict types required name named agreed)
+        (event_judge types required name named) (λ agreed. refl)
         event.open_or_create_error refusal.EventOpenOrCreate (λ fresh last goes is. absurd (is_event is)) lists listed roomier same
         same_made result opened
         does numbers)
     either_as (options.RequestResponse named) lists listed roomier same same_made result (opened, does, numbers) =
-        followed_by (options.RequestResponse named) pattern.RequestResponse _ _ _ _ (λ after came. by_true _ _ _ made_node came)
+        followed_by (options.RequestResponse named) pattern.RequestResponse _ _ _ _
+        (λ after came. request_response_step (factory_reply (Some result)) after named (by_true _ _ _ made_node came))
         (either_so (options.RequestResponse named)
         (λ given. first_unmet (request_response_clauses.clauses (required_request_response named types required) given))
-        (request_response_verdict types required named)
-        (λ agreed. same_request_response_verdict types required name named agreed)
+        (request_response_judge types required name named) (λ agreed. refl)
         request_response.open_or_create_error refusal.RequestResponseOpenOrCreate (λ fresh last goes is. absurd (is_request_response is))
         lists listed roomier
         same same_made result opened does numbers)
+
+    -- the refusal for want of memory
+    lacking_is : (named : ServiceOptions) → either_lacking named ≡ either_refusal named (neither.Open unopened.OutOfMemory)
+    lacking_is (options.PublishSubscribe named) = refl
+    lacking_is (options.Event named) = refl
+    lacking_is (options.RequestResponse named) = refl
 
     lacks_as : (named : ServiceOptions) (lacking : AllocError) (roomier : FactoryTable) → SameNumbers old.factories.made roomier
         → new.made ≡ old.made → (result : Result ℕ Refusal)
         → IsRefusedWith (either_lacking named) roomier old.hub result new.factories.made new.hub
         → Followed named (factory_reply (Some result))
-    lacks_as (options.PublishSubscribe named) lacking roomier same same_made result does =
-        followed_by (options.PublishSubscribe named) pattern.PublishSubscribe
-        (OpensOrCreates types pattern.PublishSubscribe steps (Own node) (publish_subscribe_verdict types required named)
-        (new_agreement types required name (options.PublishSubscribe named)))
-        (λ why. refusal.PublishSubscribeOpenOrCreate (publish_subscribe.open_or_create_error why)) told_of.either_lacking _
-        (λ after came. by_true _ _ _ made_node came)
-        (lacking_answered payload user_header choices degrades decides reader_degrades names own pattern.PublishSubscribe name asked taken
-        naming
+    lacks_as named lacking roomier same same_made result does =
+        followed_by named (pattern_of named)
+        (OpensOrCreates types (pattern_of named) steps (Own node) (verdict types named required) (new_agreement types required name named))
+        (either_refusal named) told_of.either_lacking _ (λ after came. by_true _ _ _ made_node came)
+        (lacking_answered payload user_header choices degrades decides reader_degrades names own (pattern_of named) name asked taken naming
         order node old new state stands
-        (OpensOrCreates types pattern.PublishSubscribe steps (Own node) (publish_subscribe_verdict types required named)
-        (new_agreement types required name (options.PublishSubscribe named)))
-        (λ why. refusal.PublishSubscribeOpenOrCreate (publish_subscribe.open_or_create_error why)) told_of.either_lacking roomier result
-        same
-        same_made does)
-    lacks_as (options.Event named) lacking roomier same same_made result does =
-        followed_by (options.Event named) pattern.Event
-        (OpensOrCreates types pattern.Event steps (Own node) (event_verdict required named)
-        (new_agreement types required name (options.Event named)))
-        (λ why. refusal.EventOpenOrCreate (event.open_or_create_error why)) told_of.either_lacking _
-        (λ after came. by_true _ _ _ made_node came)
-        (lacking_answered payload user_header choices degrades decides reader_degrades names own pattern.Event name asked taken naming
-        order node
-        old new state stands (OpensOrCreates types pattern.Event steps (Own node) (event_verdict required named)
-        (new_agreement types required name (options.Event named)))
-        (λ why. refusal.EventOpenOrCreate (event.open_or_create_error why)) told_of.either_lacking roomier result same same_made does)
-    lacks_as (options.RequestResponse named) lacking roomier same same_made result does =
-        followed_by (options.RequestResponse named) pattern.RequestResponse
-        (OpensOrCreates types pattern.RequestResponse steps (Own node) (request_response_verdict types required named)
-        (new_agreement types required name (options.RequestResponse named)))
-        (λ why. refusal.RequestResponseOpenOrCreate (request_response.open_or_create_error why)) told_of.either_lacking _
-        (λ after came. by_true _ _ _ made_node came)
-        (lacking_answered payload user_header choices degrades decides reader_degrades names own pattern.RequestResponse name asked taken
-        naming
-        order node old new state stands
-        (OpensOrCreates types pattern.RequestResponse steps (Own node) (request_response_verdict types required named)
-        (new_agreement types required name (options.RequestResponse named)))
-        (λ why. refusal.RequestResponseOpenOrCreate (request_response.open_or_create_error why)) told_of.either_lacking roomier result same
-        same_made does)
+        (OpensOrCreates types (pattern_of named) steps (Own node) (verdict types named required) (new_agreement types required name named))
+        (either_refusal named) told_of.either_lacking roomier result same same_made
+        (subst (λ (why : Refusal). IsRefusedWith why roomier old.hub result new.factories.made new.hub) (lacking_is named) does))
 
     prepared_so : (named : ServiceOptions) (prepared : Result (List (List TableStep)) AllocError) (roomier : FactoryTable)
         → new.made ≡ old.made → (result : Result ℕ Refusal)

@@ -48,11 +48,12 @@ use Rattle.iox_machine.proofs.Shorthands.{RefusesNode, factory_of}
 use Rattle.iox_machine.specs.Choices.{Choices}
 use Rattle.iox_machine.specs.Agreement.{unfit}
 use Rattle.iox_machine.specs.Asked.{settings_of}
-use Rattle.iox_machine.specs.Factories.{OpensOrCreatesService, OpensService, create_refusal}
+use Rattle.iox_machine.specs.Factories.{OpensOrCreatesService, OpensService}
 use Rattle.iox_machine.specs.Run as machine
 use Rattle.iox_machine.specs.State.{State}
 use Rattle.iox_machine.specs.Table.{at}
 use Rattle.iox_negotiate.specs.declared.factory.Membership.{Membership}
+use Rattle.iox_machine.specs.Refusals.{create_refusal}
 
 -- what isn't skipped
 made_something : {T X : Type 0} (made : Result ℕ Refusal) → ◌≡◌ {A = Reply T} reply.Skipped (factory_reply (Some made)) → X

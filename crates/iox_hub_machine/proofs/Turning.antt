@@ -3,7 +3,7 @@ use Rattle.std.proofs.Common.{◌≡◌, ◌+◌, ◌++◌, ℕ, Bool, true, fal
 use Rattle.std.proofs.Common.{subst, inl, inr, ◌∙◌}
 use Rattle.std.specs.Option.{option_map_or}
 use Rattle.std.specs.Prelude.{◌==◌, nat_lt, is_some, fold, filter, slice_get, MatchBool, drop, zip}
-use Rattle.iox_command.specs.DomainValues.Sequences.{is_used_up, next_sequence}
+use Rattle.iox_command.specs.DomainValues.Sequences.{next_sequence}
 use Rattle.iox_command.specs.DomainValues.declared.backpressure.BackpressureDecision.{BackpressureDecision}
 use Rattle.iox_command.specs.DomainValues.declared.backpressure.BackpressureDecision.TheVariants.{Retry, DiscardData, DiscardDataAndFail}
 use Rattle.iox_command.specs.DomainValues.declared.connection_failure.ConnectionFailure.{ConnectionFailure}
@@ -15,7 +15,7 @@ use Rattle.iox_command.specs.declared.reply.Reply.{Reply}
 use Rattle.iox_domain_machine.proofs.AloneDid.{by_bool, by_option}
 use Rattle.iox_domain_machine.proofs.Found.{at_changed}
 use Rattle.iox_hub_machine.proofs.Deciding.{DecidesAlike, deciding, same_ports, publisher_alike}
-use Rattle.iox_machine.specs.Lending.{Lends, LendsLonger, loan_refusal}
+use Rattle.iox_machine.specs.Lending.{Lends, loan_refusal}
 use Rattle.iox_machine.specs.Mailbox.{Mailbox, newest, put}
 use Rattle.iox_machine.specs.Message.{Message, Loan}
 use Rattle.iox_machine.specs.PortList.{those}
@@ -24,7 +24,7 @@ use Rattle.iox_machine.specs.PublisherUpdate.{Follows, UpdatesFirst, ended, welc
 use Rattle.iox_machine.specs.Sending.{GoesOn, Begins, Sends}
 use Rattle.iox_machine.specs.RunLaws.{numbered, sent_as, is_written}
 use Rattle.iox_machine.specs.Service.{Service, Publisher, Send, mailbox, with_mailbox}
-use Rattle.iox_machine.proofs.Shorthands.{with_publisher, IsSkipped, IsRefused}
+use Rattle.iox_machine.proofs.Shorthands.{with_publisher, IsSkipped, IsRefused, LendsLonger, is_used_up}
 use Rattle.iox_machine.specs.Table.{at, contains, removed}
 use Rattle.iox_machine.specs.Choices.{Choices}
 use Rattle.iox_machine.proofs.Delivering.{Outcomes, by-outcome, deliver, first_of, goes-on-so, offered}

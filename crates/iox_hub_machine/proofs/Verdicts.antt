@@ -1,5 +1,5 @@
 -- What an opener asks of a service in a hub is what it asks in a machine.
-use Rattle.std.proofs.Common.{◌≡◌, ℕ, List, Option, refl, ap, ◌∙◌}
+use Rattle.std.proofs.Common.{◌≡◌, ℕ, List, Option, Result, refl, ap, ◌∙◌}
 use Rattle.std.specs.Option.{option_map}
 use Rattle.iox_command.specs.NegotiateBase.DescribeBase.Attributes.{Required}
 use Rattle.iox_command.specs.NegotiateBase.DescribeBase.declared.message_type.MessageTypeDetails.{MessageTypeDetails}
@@ -12,7 +12,10 @@ use Rattle.iox_command.specs.NegotiateBase.DescribeVerdict.EventClauses as event
 use Rattle.iox_command.specs.NegotiateBase.DescribeVerdict.PublishSubscribeClauses as publish_subscribe_clauses
 use Rattle.iox_command.specs.NegotiateBase.DescribeVerdict.RequestResponseClauses as request_response_clauses
 use Rattle.iox_command.specs.NegotiateBase.DescribeVerdict.Verdict.{first_unmet}
+use Rattle.iox_command.specs.NegotiateBase.DescribeVerdict.declared.requirement.event.ClauseError.{ClauseError as EventClause}
 use Rattle.iox_command.specs.NegotiateBase.DescribeVerdict.declared.requirement.event.Requirement.{Requirement}
+use Rattle.iox_command.specs.NegotiateBase.DescribeVerdict.declared.requirement.publish_subscribe.ClauseError.{ClauseError as PublishSubscribeClause}
+use Rattle.iox_command.specs.NegotiateBase.DescribeVerdict.declared.requirement.request_response.ClauseError.{ClauseError as RequestResponseClause}
 use Rattle.iox_command.specs.Patterns.{pattern_of}
 use Rattle.iox_command.specs.declared.service.EventOptions.{EventOptions}
 use Rattle.iox_command.specs.declared.service.NumberOrOff.{NumberOrOff}
@@ -25,9 +28,11 @@ use Rattle.iox_hub_commands.specs.Asked as commands
 use Rattle.iox_hub_commands.specs.Asking.{IsHistoryTooLong, hash_of, required_agreement, required_event, required_publish_subscribe}
 use Rattle.iox_hub_commands.specs.Asking.{required_request_response, required_settings}
 use Rattle.iox_hub_machine.proofs.SameSteps.{same_set}
-use Rattle.iox_machine.specs.Agreement.{Agreement, event_verdict, publish_subscribe_verdict, request_response_verdict}
+use Rattle.iox_machine.specs.Agreement.{Agreement, verdict}
 use Rattle.iox_machine.specs.Asked as machine
 use Rattle.iox_negotiate_machine.proofs.Saying.{event-verdict, publish-subscribe-verdict, request-response-verdict, set_to, settings-are}
+use Rattle.iox_negotiate_machine.proofs.Saying.{told_by}
+use Rattle.iox_negotiate_machine.proofs.Told.{event_clause, publish_subscribe_clause, request_response_clause}
 use Rattle.iox_negotiate_machine.specs.CallLaws.{HasNoRoomForHistory}
 use Rattle.iox_negotiate_machine.specs.Standing.{description_of}
 
@@ -46,22 +51,34 @@ event_by named attributes by = record {
 }
 
 module _ (types : MessageTypeDetails) (attributes : Required) (name : List ℕ) where
+  -- what is asked of the description of what is agreed on, by pattern
+  abbrev pub publish_subscribe_judge : PublishSubscribeOptions → Agreement → Result (Unit {0}) PublishSubscribeClause
+  publish_subscribe_judge named agreed = first_unmet (publish_subscribe_clauses.clauses
+      (required_publish_subscribe named types attributes) (description_of pattern.PublishSubscribe name agreed))
+
+  abbrev pub event_judge : EventOptions → Agreement → Result (Unit {0}) EventClause
+  event_judge named agreed = first_unmet (event_clauses.clauses
+      (required_event named attributes) (description_of pattern.Event name agreed))
+
+  abbrev pub request_response_judge : RequestResponseOptions → Agreement → Result (Unit {0}) RequestResponseClause
+  request_response_judge named agreed = first_unmet (request_response_clauses.clauses
+      (required_request_response named types attributes) (description_of pattern.RequestResponse name agreed))
+
   pub same_publish_subscribe_verdict : (named : PublishSubscribeOptions) (agreed : Agreement)
-      → first_unmet (publish_subscribe_clauses.clauses (required_publish_subscribe named types attributes)
-      (description_of pattern.PublishSubscribe name agreed)) ≡ publish_subscribe_verdict types attributes named agreed
+      → told_by publish_subscribe_clause (publish_subscribe_judge named agreed)
+      ≡ verdict types (options.PublishSubscribe named) attributes agreed
   same_publish_subscribe_verdict named agreed = publish-subscribe-verdict types attributes named agreed
 
   pub same_event_verdict : (named : EventOptions) (agreed : Agreement)
-      → first_unmet (event_clauses.clauses (required_event named attributes) (description_of pattern.Event name agreed))
-      ≡ event_verdict attributes named agreed
+      → told_by event_clause (event_judge named agreed) ≡ verdict types (options.Event named) attributes agreed
   same_event_verdict named agreed =
-      ap (λ (by : NumberOrOff → Option ℕ). first_unmet (event_clauses.clauses_of (event_by named attributes by)
-      agreed.attributes agreed.settings)) (same_everywhere commands.set_to set_to same_set)
+      ap (λ (by : NumberOrOff → Option ℕ). told_by event_clause (first_unmet (event_clauses.clauses_of (event_by named attributes by)
+      agreed.attributes agreed.settings))) (same_everywhere commands.set_to set_to same_set)
       ∙ event-verdict types attributes named agreed
 
   pub same_request_response_verdict : (named : RequestResponseOptions) (agreed : Agreement)
-      → first_unmet (request_response_clauses.clauses (required_request_response named types attributes)
-      (description_of pattern.RequestResponse name agreed)) ≡ request_response_verdict types attributes named agreed
+      → told_by request_response_clause (request_response_judge named agreed)
+      ≡ verdict types (options.RequestResponse named) attributes agreed
   same_request_response_verdict named agreed = request-response-verdict types attributes named agreed
 
   same_required_settings : (named : ServiceOptions) → required_settings named types attributes ≡ machine.settings_of types named

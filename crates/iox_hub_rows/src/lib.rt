@@ -8,3 +8,5 @@
 
 #[cfg(test)]
 mod handled;
+#[cfg(test)]
+mod recorded;

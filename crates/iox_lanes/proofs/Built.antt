@@ -1,9 +1,11 @@
 -- Lanes that are built of a domain, from what each part of the building says.
-use Rattle.std.proofs.Common.{ℕ, ◌≡◌, ◌<◌, ◌^◌, List, length, sym, ap, subst, ◌∙◌, Option}
+use Rattle.std.proofs.Common.{ℕ, ◌≡◌, ◌<◌, ◌≤◌, ◌^◌, List, length, sym, ap, subst, ◌∙◌, arith, Option}
 use Rattle.std.proofs.lemmas.List.{length-replicate}
+use Rattle.std.proofs.lemmas.Nat.{column_fits}
 use Rattle.iox_domain.specs.DomainValues.declared.handlers.Handlers.{Handlers}
 use Rattle.iox_domain.specs.declared.domain.Domain.{Domain}
-use Rattle.iox_lanes_machine.specs.LanesBase.Numbers.{words_of}
+use Rattle.iox_lanes_machine.specs.LanesBase.Numbers.{slot_words, words_of}
+use Rattle.iox_lanes_machine.specs.LanesBase.declared.words.sizes.TableSizes.{TableSizes}
 use Rattle.iox_lanes_machine.specs.Made.{start, table_sizes}
 use Rattle.iox_lanes_machine.specs.World.{World}
 use Rattle.iox_lanes_machine.specs.declared.sizes.LaneSizes.{LaneSizes}
@@ -13,7 +15,7 @@ use Rattle.iox_lanes.specs.Finding.{WasFound}
 use Rattle.iox_lanes.specs.Laid.{publishers_behind}
 use Rattle.iox_lanes.specs.Ordered.{readers_behind}
 use Rattle.iox_lanes.specs.Sized.{AreAgreed}
-use Rattle.iox_lanes.proofs.Sizing.{sized_by}
+use Rattle.iox_lanes.proofs.Sizing.{sized_by, table_is}
 
 -- lanes that were made have as many words as their sizes say
 pub words_counted : (sizes : LaneSizes) (m : World) (words : List ℕ) (count : ℕ) → m ≡ start sizes → words ≡ m.table.words
@@ -46,3 +48,18 @@ are_built payload_words header_words payload_count header_count domain publisher
           (publishing ∙ ap (λ w. publishers_behind payload_words header_words payload_count header_count domain publishers subscribers w
           (length publishers)) (made ∙ ap start (sym by.1)));
     }
+
+-- there are fewer slots than words
+slots_below : (sizes : TableSizes) → sizes.slots ≤ words_of sizes
+slots_below sizes = omega (arith, column_fits sizes.slots 0 sizes.slots (slot_words sizes) (omega arith) (omega arith))
+
+-- so there are fewer slots than memory has room for words
+pub few_slots : {T U X Y D : Type 0} {F : X → Type 0} {G : Y → Type 0} (payload_words : T → List ℕ) (header_words : Option ℕ × U → List ℕ)
+    (payload_count header_count : ℕ) (domain : Domain T U (Handlers X Y F G) D) (publishers subscribers : List ℕ) (lanes : World)
+    → AreBuilt payload_words header_words payload_count header_count domain publishers subscribers lanes
+    → lanes.table.sizes.slots < 2 ^ 64
+few_slots payload_words header_words payload_count header_count domain publishers subscribers lanes built =
+    let below : (table_sizes (built.sized).sizes).slots ≤ words_of (table_sizes (built.sized).sizes) =
+    slots_below (table_sizes (built.sized).sizes) in
+    let same = ap (λ (t : TableSizes). t.slots) (table_is (built.sized).sizes lanes (built.sized).found) in
+    omega (arith, below, built.small, same)

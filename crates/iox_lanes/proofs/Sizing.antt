@@ -15,7 +15,7 @@ use Rattle.iox_lanes_machine.specs.QueuesSteps.declared.schedule.Stepped.TheVari
 use Rattle.iox_lanes_machine.specs.Findings.{with_found, AreFound}
 use Rattle.iox_lanes_machine.specs.Fixed.{FixedSlots, StaysFixed, fixed_slots}
 use Rattle.iox_lanes_machine.specs.Kept.{IsKept}
-use Rattle.iox_lanes_machine.specs.Made.{publisher_at, subscriber_at, start}
+use Rattle.iox_lanes_machine.specs.Made.{publisher_at, subscriber_at, start, table_sizes}
 use Rattle.iox_lanes_machine.specs.Paces.{own_steps}
 use Rattle.iox_lanes_machine.specs.TakenIn.{IsTakenIn}
 use Rattle.iox_lanes_machine.specs.WholeReads.{CameTo}
@@ -89,6 +89,11 @@ came_on sizes begun schedule made m w runs =
       made = made;
       runs = runs;
     }
+
+-- their table has the sizes that they were made of
+pub table_is : (sizes : LaneSizes) (m : World) → WasFound sizes m → m.table.sizes ≡ table_sizes sizes
+unfolding came_on
+table_is sizes m w = (came_kept m (came_on sizes m [] 0 m w (refl, refl))).1.table
 
 -- lanes that were made of agreed sizes are as large as agreed
 pub are_sized : (agreed : ServiceSizes) (publishers subscribers payload header : ℕ) (sizes : LaneSizes) (m : World)

@@ -1,5 +1,6 @@
 -- Of a domain that nothing keeps from becoming lanes each listed publisher has a connection to each listed subscriber, which goes on.
-use Rattle.std.proofs.Common.{ℕ, zero, suc, ◌≡◌, ◌+◌, ◌*◌, ◌<◌, ◌==◌, ◌++◌, ◌||◌, Bool, true, false, not, List, [], ◌∷◌, length, get_or}
+use Rattle.std.proofs.Common.{ℕ, zero, suc, ◌≡◌, ◌+◌, ◌*◌, ◌<◌, ◌==◌, ◌++◌, ◌&&◌, ◌||◌, Bool, true, false, not, List, [], ◌∷◌}
+use Rattle.std.proofs.Common.{length, get_or}
 use Rattle.std.proofs.Common.{slice_get, is_some, unwrap_or, option_map, Option, Some, None, refl, sym, ap, ◌∙◌, subst, arith, zero-add}
 use Rattle.std.proofs.lemmas.Bool.{cond-true, cond-false, eqb-true}
 use Rattle.std.proofs.lemmas.List.{length-append, length-map}
@@ -28,7 +29,8 @@ use Rattle.iox_lanes_opening.specs.Deciding.{has_handlers, is_retrying}
 use Rattle.iox_lanes_opening.specs.Lingering.{has_left_over, is_lingering, is_listed_subscriber, publisher_lingers, subscriber_lingers}
 use Rattle.iox_lanes_opening.specs.Listed.{holds_at, is_member, of_each_listed}
 use Rattle.iox_lanes_opening.specs.Refusals.{first_reason, has_growing, is_blocked}
-use Rattle.iox_lanes_opening.specs.UpToDate.{is_connected, is_current_port, is_current_publisher, is_current_subscriber, is_joined_if}
+use Rattle.iox_lanes_opening.specs.UpToDate.{has_stray_tie, is_connected, is_current_port, is_current_publisher, is_current_subscriber}
+use Rattle.iox_lanes_opening.specs.UpToDate.{is_joined_if}
 use Rattle.iox_lanes_opening.specs.UpToDate.{is_read_by, is_reader, is_up_to_date, reads_from, shares}
 use Rattle.iox_lanes.specs.Holding.{numbers_of, port_if, reader_if}
 use Rattle.iox_lanes_opening.specs.Restored.{place_of}
@@ -40,7 +42,7 @@ use Rattle.iox_lanes.proofs.Presence.{both, is_current, neither, no_reason, not_
 use Rattle.iox_lanes.proofs.Rows.{next_row}
 
 -- what holds of each port that is listed holds of the one at a place
-each_at : {V : Type 0} (holds : ℕ → V → Bool) (first at : ℕ) (places : List (Option (Member V))) (member : Member V)
+pub each_at : {V : Type 0} (holds : ℕ → V → Bool) (first at : ℕ) (places : List (Option (Member V))) (member : Member V)
     → of_each_listed holds first places ≡ true
     → get_or places at None ≡ Some member → holds (first + at) member.value ≡ true
 each_at holds first at [] member all there = absurd (cc there)
@@ -156,9 +158,12 @@ module _ {T U X Y Z : Type 0} {F : X → Type 0} {G : Y → Type 0} {H : Z → T
       let current = both (of_each_listed (is_current_publisher ports) 0 ports.publisher_list.places)
       (of_each_listed (λ place entry. is_current_subscriber ports entry) 0 ports.subscriber_list.places) (is_current domain none) in
       let (place, follows) = listed_current ports 0 ports.publisher_list.places at number current.0 listed in
-      let connected = both (port.seen == ports.subscriber_list.changes)
-      (of_each_listed (is_connected place number port ports.subscribers) 0 ports.subscriber_list.places)
+      let follows_all = both ((port.seen == ports.subscriber_list.changes)
+      && of_each_listed (is_connected place number port ports.subscribers) 0 ports.subscriber_list.places)
+      (not (has_stray_tie ports.subscriber_list port))
       (subst (λ (p : Option (PublisherPort T U)). is_current_port ports place number p ≡ true) found follows) in
+      let connected = both (port.seen == ports.subscriber_list.changes)
+      (of_each_listed (is_connected place number port ports.subscribers) 0 ports.subscriber_list.places) follows_all.0 in
       let (member, stands, same) = listed_there reader (get_or ports.subscriber_list.places subscriber.place None)
       (stands_listed reader subscriber read) in
       let joined = each_at (is_connected place number port ports.subscribers) 0 subscriber.place ports.subscriber_list.places member

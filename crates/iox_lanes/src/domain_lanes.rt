@@ -1,5 +1,5 @@
 //! Lanes with the domain that they came from.
-ghost use Rattle.std.specs.Prelude.{◌≡◌, length, IfOk, IfErr, OnOk, None};
+ghost use Rattle.std.specs.Prelude.{◌≡◌, ◌<◌, ◌^◌, length, IfOk, IfErr, OnOk, None};
 ghost use Rattle.iox_lanes_opening.specs.Middles.{middle_count, middle_words};
 ghost use Rattle.iox_lanes_opening.specs.Refusals.{first_reason};
 ghost use Rattle.iox_lanes_laws.specs.Numbered.{found_messages};
@@ -77,7 +77,7 @@ struct Recorded<T> {
 ///
 /// The lanes are such as `Lanes::new` makes them and what they found leaves, and nobody is inside a call: so each law of lanes
 /// holds of them. Their sizes are those that the service agreed on: its buffer, one message at least, its borrow limit and its
-/// history; they have as many loans and slots for each publisher as the one has that has most.
+/// history; they have as many loans and slots for each publisher as the one has that has most. There are fewer than 2^64 slots.
 ///
 /// They keep their messages. Those that wait or are remembered have the first numbers, publisher by publisher and slot by slot; each
 /// that is sent gets the next one.
@@ -105,6 +105,7 @@ pub fn into_lanes<T: Words, U: Words>(
     ensures exact { IfOk result (λ opened. WasFound (sizes_for T.WORDS (middle_count domain.state.ports.sizes.sequence_numbers U.WORDS)
         domain.state.ports opened.publishers.items
         (length opened.subscribers.items)) opened.lanes.lanes) }
+    ensures few { IfOk result (λ opened. opened.lanes.lanes.table.sizes.slots < 2 ^ 64) }
     ensures messages { IfOk result (λ opened. opened.lanes.messages ≡ found_messages opened.lanes.lanes) }
     ensures held { IfOk result (λ opened. AreAsHeld opened.lanes.lanes opened.lanes.messages
         × ArePast opened.lanes.lanes opened.lanes.messages) }
@@ -160,6 +161,7 @@ fn open<T: Words, U: Words>(alloc: Global, domain: &Domain<T, U>) -> Result<Reco
     ensures exact { IfOk result (λ opened. WasFound (sizes_for T.WORDS
         (middle_count domain.now.state.ports.sizes.sequence_numbers U.WORDS) domain.now.state.ports opened.publishers.items
         (length opened.subscribers.items)) opened.lanes.lanes) }
+    ensures few { IfOk result (λ opened. opened.lanes.lanes.table.sizes.slots < 2 ^ 64) }
     ensures messages { IfOk result (λ opened. opened.lanes.messages ≡ found_messages opened.lanes.lanes) }
     ensures held { IfOk result (λ opened. AreAsHeld opened.lanes.lanes opened.lanes.messages
         × ArePast opened.lanes.lanes opened.lanes.messages) }

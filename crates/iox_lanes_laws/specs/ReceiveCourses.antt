@@ -79,7 +79,8 @@ abbrev pub ReadsLoad : Type 0
 ReadsLoad = (routes : List Route) (borrowed answers : List ℕ) (most slot : ℕ) (extent : SlotExtent) → words_in extent < 2 ^ 64 - 1
     → subscriber_course routes borrowed most (read_at slot extent 0) answers ≡ read_course slot extent 0 (words_in extent) answers
 
--- they are the three of the header, then those of the user header, then those of the payload
+-- they are the first three of the header, then those of the user header, the number before them where messages have one, then those of
+-- the payload
 abbrev pub ReadsInOrder : Type 0
 ReadsInOrder = (extent : SlotExtent) (word : ℕ)
     → (word < 3 → word_at extent word ≡ Header word)

@@ -58,7 +58,8 @@ pub fn reads_load()
     ensures { ReadsLoad }
 {}
 
-/// The words of a slot are read in their order: three of the header, those of the user header, those of the payload.
+/// The words of a slot are read in their order: three of the header, those of the user header, those of the payload. The fourth of
+/// the header, which is there where messages are numbered, counts as the first of the user header here.
 pub fn reads_in_order()
     ensures { ReadsInOrder }
 {}

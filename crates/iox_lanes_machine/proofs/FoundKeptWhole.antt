@@ -223,7 +223,8 @@ newest_keeps m who slot (Some lane) e fit w h = subst Both (sym (ap (remembered_
 pub found_both : (m : World) (f : Found) → finds_now m f ≡ true → IsWithin m → IsFresh m → Both (with_found m f)
 found_both m (found.Waiting publisher place slot) fit w h
     = waits_keep m publisher place slot (slice_get m.publishers publisher) refl fit w h
-found_both m (found.GivenBack publisher place slot) fit w h = backs_keep m publisher place slot (slice_get m.publishers publisher) refl fit w h
+found_both m (found.GivenBack publisher place slot) fit w h
+    = backs_keep m publisher place slot (slice_get m.publishers publisher) refl fit w h
 found_both m (found.Newest publisher slot) fit w h = newest_keeps m publisher slot (slice_get m.publishers publisher) refl fit w h
 found_both m (found.Held slot word value) fit w h =
     held_fresh m slot word value (word_there m.table.sizes slot word

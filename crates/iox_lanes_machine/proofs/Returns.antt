@@ -1,5 +1,5 @@
 -- The ends of a ring of samples given back: a publisher that takes back there, and a subscriber that gives back.
-use Rattle.std.proofs.Common.{ℕ, ◌≡◌, ◌+◌, ◌<◌, ◌≤◌, ◌^◌, ◌==◌, ◌||◌, ◌⊎◌, Bool, true, false, if◌then◌else◌, nat_lt, List, slice_get}
+use Rattle.std.proofs.Common.{ℕ, ◌≡◌, ◌+◌, ◌<◌, ◌^◌, ◌==◌, ◌||◌, ◌⊎◌, Bool, true, false, if◌then◌else◌, nat_lt, List, slice_get}
 use Rattle.std.proofs.Common.{Option, Some, None, refl, sym, ap, subst, inl, inr, arith}
 use Rattle.std.proofs.lemmas.Bool.{eq-eqb}
 use Rattle.std.proofs.lemmas.Bool.Decides.{eqb_tells}
@@ -322,13 +322,13 @@ subscriber_off table here (subscribing.Released done) off h = tt
 pub record Back (cells moments : ℕ) (words : RingWords) (p : Push) (c : Pop) : Type 0 where
   pub list : List ℕ
   pub shape : Shape cells words list p c
-  pub few : words.write ≤ moments + 2 ^ 62
+  pub few : words.write < moments + 2 ^ 63
 
 later : (n : ℕ) → n < 2 ^ 63 → successor n ≡ n + 1
 later n h = omega arith
 
 pub pop_goes : (cells : ℕ) (table : TableWords) (moments connection : ℕ) (q : List ℕ) (p : Push) (c : Pop)
-    → IsSeat Completion table connection cells → moments < 2 ^ 63 → (back_ring table connection cells).write ≤ moments + 2 ^ 62
+    → IsSeat Completion table connection cells → moments < 2 ^ 63 → (back_ring table connection cells).write < moments + 2 ^ 63
     → Shape cells (back_ring table connection cells) q p c
     → Back cells (successor moments) (back_ring (after_shared table (on_ring connection Completion cells (refusing.pop_next c)))
     connection cells) p (refusing.pop_take c (shared_answer table (on_ring connection Completion cells (refusing.pop_next c))))
@@ -350,7 +350,7 @@ pop_goes cells table moments connection q p c st bound few s =
     }
 
 pub push_goes : (cells : ℕ) (table : TableWords) (moments connection : ℕ) (q : List ℕ) (p : Push) (c : Pop)
-    → IsSeat Completion table connection cells → moments < 2 ^ 63 → (back_ring table connection cells).write ≤ moments + 2 ^ 62
+    → IsSeat Completion table connection cells → moments < 2 ^ 63 → (back_ring table connection cells).write < moments + 2 ^ 63
     → Shape cells (back_ring table connection cells) q p c
     → Back cells (successor moments) (back_ring (after_shared table (on_ring connection Completion cells (refusing.push_next p)))
     connection cells) (refusing.push_take p (shared_answer table (on_ring connection Completion cells (refusing.push_next p)))) c

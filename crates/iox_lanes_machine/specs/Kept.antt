@@ -79,7 +79,7 @@ pub record IsKeptAt (table : TableWords) (moments connection : ℕ) (link : Link
   pub mailbox : FollowsMailbox link order moments
   pub shape : Shape link.kind link.limit (ring_in table connection (cells_of link.kind link.limit)) (waiting link order)
       (push_on connection link.kind sends) (pop_on connection link.kind receives)
-  pub few : (ring_in table connection (cells_of link.kind link.limit)).write ≤ moments + 2 ^ 62
+  pub few : (ring_in table connection (cells_of link.kind link.limit)).write < moments + 2 ^ 63
 
 -- so it is at each connection
 abbrev pub AreKept : World → Type 0

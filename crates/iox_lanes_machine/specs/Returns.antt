@@ -69,7 +69,7 @@ pub record IsReturning (cells : ℕ) (table : TableWords) (moments connection : 
     Type 0 where
   pub list : List ℕ
   pub shape : Shape cells (back_ring table connection cells) list (release_on connection receives) (reclaim_on connection sends)
-  pub few : (back_ring table connection cells).write ≤ moments + 2 ^ 62
+  pub few : (back_ring table connection cells).write < moments + 2 ^ 63
 
 -- so it is at each connection
 abbrev pub AreReturning : World → Type 0

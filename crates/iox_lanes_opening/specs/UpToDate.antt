@@ -1,5 +1,5 @@
 -- Whether each port follows the others as they are, and is connected to them.
-use Rattle.std.specs.Prelude.{ℕ, ◌==◌, ◌&&◌, Bool, false, not, List, get_or, Option, None, Some}
+use Rattle.std.specs.Prelude.{ℕ, ◌==◌, ◌&&◌, Bool, false, not, List, get_or, is_some, length, Option, None, Some}
 use Rattle.iox_domain.specs.DomainPorts.Publishers.{port_of}
 use Rattle.iox_domain.specs.DomainPorts.Subscribing.{attached_at}
 use Rattle.iox_domain.specs.DomainPorts.declared.attached.Attached.{Attached}
@@ -9,9 +9,11 @@ use Rattle.iox_domain.specs.DomainPorts.Ports.{is_live}
 use Rattle.iox_domain.specs.DomainPorts.declared.publisher_port.PublisherPort.{PublisherPort}
 use Rattle.iox_domain.specs.DomainPorts.declared.reader.Reader.{Reader}
 use Rattle.iox_domain.specs.DomainPorts.declared.subscriber_entry.SubscriberEntry.{SubscriberEntry}
+use Rattle.iox_domain.specs.Rolls.{RollState, is_listed}
 use Rattle.iox_domain.specs.Subscribers.{subscriber_of}
 use Rattle.iox_domain.specs.declared.ports.service_ports.ServicePorts.{ServicePorts}
 use Rattle.iox_lanes_opening.specs.Listed.{of_each_listed}
+use Rattle.iox_lanes_opening.specs.Soundness.{any_below}
 
 -- whether that is the subscriber of a number, and it reads there
 abbrev pub is_reader : ℕ → Option Reader → Bool
@@ -53,12 +55,21 @@ abbrev pub is_connected : {T U : Type 0} → ℕ → ℕ → PublisherPort T U �
 is_connected place number port subscribers other entry
     = is_joined_if place number port other entry.subscriber (subscriber_of entry.subscriber subscribers)
 
--- whether a publisher has followed the list of subscribers as it is, and shares a connection with each of them
+-- whether a publisher's messages for a place that lists nobody go to a connection
+abbrev pub is_stray : {T U : Type 0} → RollState SubscriberEntry → PublisherPort T U → ℕ → Bool
+is_stray list port place = is_some (get_or port.ties.items place None) && not (is_listed place list)
+
+-- whether so it is with some place
+abbrev pub has_stray_tie : {T U : Type 0} → RollState SubscriberEntry → PublisherPort T U → Bool
+has_stray_tie list port = any_below (is_stray list port) (length port.ties.items)
+
+-- whether a publisher has followed the list of subscribers as it is, shares a connection with each of them, and has none for anybody else
 abbrev pub is_current_port : {T U : Type 0} → ServicePorts T U → ℕ → ℕ → Option (PublisherPort T U) → Bool
 is_current_port ports place number None = false
 is_current_port ports place number (Some port) =
-    (port.seen == ports.subscriber_list.changes)
-    && of_each_listed (is_connected place number port ports.subscribers) 0 ports.subscriber_list.places
+    ((port.seen == ports.subscriber_list.changes)
+    && of_each_listed (is_connected place number port ports.subscribers) 0 ports.subscriber_list.places)
+    && not (has_stray_tie ports.subscriber_list port)
 
 -- the same of the publisher that is listed at a place
 abbrev pub is_current_publisher : {T U : Type 0} → ServicePorts T U → ℕ → PublisherEntry → Bool
@@ -73,7 +84,8 @@ is_current_reader ports (Some port) = (port.seen == ports.publisher_list.changes
 abbrev pub is_current_subscriber : {T U : Type 0} → ServicePorts T U → SubscriberEntry → Bool
 is_current_subscriber ports entry = is_current_reader ports (subscriber_of entry.subscriber ports.subscribers)
 
--- Each listed port has followed the list of the others as it is, and each listed publisher shares a connection with each listed subscriber.
+-- Each listed port has followed the list of the others as it is. Each listed publisher shares a connection with each listed subscriber, and
+-- has none for a place that lists nobody.
 abbrev pub is_up_to_date : {T U : Type 0} → ServicePorts T U → Bool
 is_up_to_date ports = of_each_listed (is_current_publisher ports) 0 ports.publisher_list.places
     && of_each_listed (λ place entry. is_current_subscriber ports entry) 0 ports.subscriber_list.places

@@ -33,7 +33,8 @@ use Rattle.iox_lanes_parties.specs.PublisherKeeping.{BookState, loan_of, put_at,
 use Rattle.iox_lanes_parties.specs.Publishers.{words_of}
 use Rattle.iox_lanes_parties.specs.declared.publisher.slot_book.LoanMark.{LoanMark}
 use Rattle.iox_lanes_parties.specs.declared.publisher.slot_book.LoanMark.TheVariants as mark
-use Rattle.iox_lanes_parties.specs.Parties.{PublisherLaneState, is_out, is_written, index_of, head_of, kept_head, with_user_header, publisher_may}
+use Rattle.iox_lanes_parties.specs.Parties.{PublisherLaneState, is_out, is_written, index_of, head_of, kept_head, with_user_header}
+use Rattle.iox_lanes_parties.specs.Parties.{publisher_may}
 use Rattle.iox_lanes_parties.specs.Parties.{publisher_fits, publisher_begun, publisher_after}
 use Rattle.iox_lanes_parties.specs.Sequences.{number_after, with_number}
 use Rattle.iox_lanes_parties.specs.Within.{IsRoute, IsAt, IsPublishing, IsPublisher, PublishersStayWithin}

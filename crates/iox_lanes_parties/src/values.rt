@@ -11,7 +11,8 @@
 //! let write = Call::write_numbered(alloc, loan, &value, &user_header)?;
 //! let values = numbered_values_in::<u64, u8>(lane.words_read());
 //! ```
-ghost use Rattle.std.specs.Prelude.{◌≡◌, ◌+◌, ◌∷◌, ℕ, take, drop, length, true, false, IfOk, IfSome, None};
+ghost use Rattle.std.specs.Prelude.{◌≡◌, ◌+◌, ◌∷◌, ◌++◌, ℕ, take, drop, length, true, false, IfOk, IfSome, OnOk};
+ghost use Rattle.std.specs.Prelude.{None};
 ghost use Rattle.iox_lanes_parties.specs.Values.{AreNumberedValues, AreValues, HasWidths, IsWriteOf, is_as_wide};
 
 use crate::call::Call;
@@ -19,7 +20,7 @@ use iox_queues_base::Words;
 use std::alloc::{AllocError, Global};
 
 impl Call {
-    /// The write of a value and a user header into a loan. Fails only where an allocation fails.
+    /// The write of a value and a user header into a loan. Fails only where an allocation fails; nothing is left of it then.
     pub fn write<T: Words, U: Words>(
         alloc: Global,
         loan: u64,
@@ -36,7 +37,7 @@ impl Call {
     }
 
     /// The same where the service numbers its messages: a word for the number stands in front of the user header, which the send of the
-    /// loan fills. Fails only where an allocation fails.
+    /// loan fills. Fails only where an allocation fails; nothing is left of it then.
     pub fn write_numbered<T: Words, U: Words>(
         alloc: Global,
         loan: u64,
@@ -45,13 +46,12 @@ impl Call {
     ) -> Result<Call, AllocError>
         ensures { IfOk result (λ made. IsWriteOf loan (T.parts value.now) (0 ∷ U.parts user_header.now) made) }
     {
-        let mut middle = Vec::from_slice(alloc, &[0])?;
-        let words = words_of(alloc, user_header)?;
-        middle.extend_from_slice(&words)?;
+        let mut behind_number = Vec::from_slice(alloc, &[0])?;
+        add_words(&mut behind_number, user_header)?;
         Ok(Call::Write {
             loan,
             payload: words_of(alloc, value)?,
-            user_header: middle,
+            user_header: behind_number,
         })
     }
 
@@ -89,10 +89,18 @@ fn words_of<T: Words>(alloc: Global, value: &T) -> Result<Vec<u64>, AllocError>
     ensures { IfOk result (λ words. words.items ≡ T.parts value.now) }
 {
     let mut words = Vec::new(alloc);
-    for at in 0..T::WORDS {
-        words.push(value.word(at))?;
-    }
+    add_words(&mut words, value)?;
     Ok(words)
+}
+
+// The words of a value stand behind those of a list. Fails only where an allocation fails.
+fn add_words<T: Words>(list: &mut Vec<u64>, value: &T) -> Result<(), AllocError>
+    ensures { OnOk result (list.new.items ≡ list.old.items ++ T.parts value.now) }
+{
+    for at in 0..T::WORDS {
+        list.push(value.word(at))?;
+    }
+    Ok(())
 }
 
 // The words of a value in place of as many.

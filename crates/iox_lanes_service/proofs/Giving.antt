@@ -24,9 +24,10 @@ use Rattle.iox_lanes_service.specs.Standing.{LanesStandFor}
 use Rattle.iox_lanes_service.proofs.Beside.{both_hold}
 use Rattle.iox_lanes_service.proofs.Holding.{over_borrowed}
 use Rattle.iox_machine.specs.Choices.{Choices}
-use Rattle.iox_machine.specs.Mailbox.{Mailbox, has_data}
+use Rattle.iox_machine.specs.Mailbox.{Mailbox}
 use Rattle.iox_machine.specs.Receiving.{gives}
 use Rattle.iox_machine.specs.Service.{Service, mailbox}
+use Rattle.iox_machine.proofs.Shorthands.{has_data}
 
 -- what a subscriber borrows of a connection lies in its samples
 pub borrowed_below : (lane : SubscriberLaneState) (connection slot : ℕ) → borrows connection slot (Some lane) ≡ true

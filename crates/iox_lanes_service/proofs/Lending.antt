@@ -55,12 +55,12 @@ use Rattle.iox_lanes_service.proofs.Tables.{once_appended, entry_counted, named,
 use Rattle.iox_lanes_service.proofs.Used.{held_waits, held_borrowed, held_there, slot_there, own_is, own_apart}
 use Rattle.iox_lanes_service.proofs.Using.{lent_count, used_slots, used_numbers, used_is, used_there}
 use Rattle.iox_machine.specs.Choices.{Choices}
-use Rattle.iox_machine.specs.Lending.{how_many, in_use, is_static, loan_refusal, loans_of}
+use Rattle.iox_machine.specs.Lending.{how_many, in_use, loan_refusal, loans_of}
 use Rattle.iox_machine.specs.Message.{Loan}
 use Rattle.iox_machine.specs.Ports.{LendsLoan, publisher_in}
 use Rattle.iox_machine.specs.Run.{Step}
 use Rattle.iox_machine.specs.Service.{Publisher as Writer, Send, Service}
-use Rattle.iox_machine.proofs.Shorthands.{with_publisher, IsSkipped}
+use Rattle.iox_machine.proofs.Shorthands.{with_publisher, IsSkipped, is_static}
 use Rattle.iox_machine.specs.State.{State, counted}
 use Rattle.iox_machine.specs.Table.{at, contains}
 

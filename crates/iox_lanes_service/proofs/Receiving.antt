@@ -54,14 +54,14 @@ use Rattle.iox_lanes_service.proofs.Tables.{at_changed, at_changed_other}
 use Rattle.iox_lanes_service.proofs.Tables.{appended_entry, appended_slots, once_appended, one_same, map_same, named, one_entry}
 use Rattle.iox_lanes_service.proofs.Used.{held_waits, held_borrowed, borrowed_own, waits_own, own_apart}
 use Rattle.iox_machine.specs.Choices.{Choices}
-use Rattle.iox_machine.specs.Mailbox.{Mailbox, has_data}
+use Rattle.iox_machine.specs.Mailbox.{Mailbox}
 use Rattle.iox_machine.specs.Message.{Message, Sample}
 use Rattle.iox_machine.specs.PortList.{those}
 use Rattle.iox_machine.specs.Ports.{subscriber_in}
 use Rattle.iox_machine.specs.Run.{Step}
 use Rattle.iox_machine.specs.Receiving.{Receives, IsGiver, gives, has_samples, lasting}
 use Rattle.iox_machine.specs.Service.{Service, Subscriber as Reader, mailbox, with_mailbox}
-use Rattle.iox_machine.proofs.Shorthands.{with_subscriber}
+use Rattle.iox_machine.proofs.Shorthands.{with_subscriber, has_data}
 use Rattle.iox_machine.specs.State.{State, counted}
 use Rattle.iox_machine.specs.SubscriberUpdate.{UpdatesFirst}
 use Rattle.iox_machine.specs.Table.{at, contains}

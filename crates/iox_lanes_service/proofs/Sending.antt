@@ -9,7 +9,7 @@ use Rattle.std.proofs.lemmas.Bool.Decides.{eqb_tells}
 use Rattle.std.proofs.lemmas.List.{length-map, map-append, drop-map}
 use Rattle.std.proofs.lemmas.List.Sums.{sum_by-cons}
 use Rattle.iox_command.specs.DomainValues.Actions.{decision_of}
-use Rattle.iox_command.specs.DomainValues.Sequences.{is_used_up, next_sequence}
+use Rattle.iox_command.specs.DomainValues.Sequences.{next_sequence}
 use Rattle.iox_command.specs.DomainValues.declared.port_error.SendError.TheVariants as error
 use Rattle.iox_command.specs.NegotiateBase.DescribeBase.declared.message_type.MessageTypeDetails.{MessageTypeDetails}
 use Rattle.iox_command.specs.declared.refusal.Refusal.TheVariants as refusal
@@ -76,7 +76,7 @@ use Rattle.iox_machine.specs.Ports.{SendsLoan}
 use Rattle.iox_machine.specs.Sending.{Begins}
 use Rattle.iox_machine.specs.Sending as sending
 use Rattle.iox_machine.specs.Service.{Publisher as Writer, Send, Service}
-use Rattle.iox_machine.proofs.Shorthands.{with_publisher}
+use Rattle.iox_machine.proofs.Shorthands.{with_publisher, is_used_up}
 use Rattle.iox_machine.specs.Table.{at, removed, contains}
 
 mapped_at : {A B : Type 0} (f : A → B) (xs : List A) (index : ℕ) (y : B) → slice_get (map f xs) index ≡ Some y

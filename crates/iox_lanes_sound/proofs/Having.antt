@@ -49,7 +49,7 @@ use Rattle.iox_lanes_machine.proofs.Paces.{came_kept}
 use Rattle.iox_lanes_machine.proofs.RestingRings.{mail_is}
 use Rattle.iox_lanes_machine.specs.Fresh.{IsFresh}
 use Rattle.iox_lanes_machine.specs.Kept.{IsKept}
-use Rattle.iox_lanes_machine.specs.LanesBase.Table.{held_by}
+use Rattle.iox_lanes_machine.specs.LanesBase.Table.{TableWords, held_by}
 use Rattle.iox_lanes_machine.specs.LanesBase.declared.words.word.SharedWord.TheVariants.{Slot}
 use Rattle.iox_lanes_machine.specs.LanesBase.declared.words.word.SlotWord.TheVariants.{Payload}
 use Rattle.iox_lanes_machine.specs.LanesParties.Parties.{PublisherLaneState}
@@ -61,7 +61,7 @@ use Rattle.iox_lanes_machine.specs.Resting.{mail_at}
 use Rattle.iox_lanes_machine.specs.Rings.{waiting}
 use Rattle.iox_lanes_machine.specs.WholeReads.{CameTo}
 use Rattle.iox_lanes_machine.specs.World.{World}
-use Rattle.iox_lanes_opening.specs.Middles.{middle_words}
+use Rattle.iox_lanes_opening.specs.Middles.{middle_count, middle_words}
 use Rattle.iox_lanes_opening.specs.Deciding.{has_handlers, is_retrying}
 use Rattle.iox_lanes_opening.specs.Lingering.{is_lingering}
 use Rattle.iox_lanes_opening.specs.Refusals.{first_reason, has_growing, is_blocked}
@@ -87,7 +87,7 @@ listed_same f xs (suc n) fit same =
     ∙ sym (take_more xs n 0 (omega (arith, fit))) ∙ ap (λ k. take k xs) (sym more)
 
 -- where a number stands among those of a list, somebody of that number is listed
-listed_as : {V : Type 0} (number_of : V → ℕ) (places : List (Option (Member V))) (place number : ℕ)
+pub listed_as : {V : Type 0} (number_of : V → ℕ) (places : List (Option (Member V))) (place number : ℕ)
     → slice_get (numbers_of number_of places) place ≡ Some number
     → (own : ℕ) × (member : Member V) × (get_or places own None ≡ Some member) × (number_of member.value ≡ number)
 listed_as number_of [] place number is = absurd (cc is)
@@ -100,12 +100,12 @@ listed_as number_of (Some member ∷ rest) (suc place) number is =
     (suc later.0, later.1, later.2, later.3)
 
 -- the slots of publishers lie in rows, each publisher's before those of the ones behind it
-abbrev InRows : List PublisherLaneState → Type 0
+abbrev pub InRows : List PublisherLaneState → Type 0
 InRows lanes = (one other : ℕ) (lane behind : PublisherLaneState) → slice_get lanes one ≡ Some lane → slice_get lanes other ≡ Some behind
     → one < other → lane.port.book.first + length lane.port.book.loans ≤ behind.port.book.first
 
 -- so each slot goes by its own publisher's number
-name_is : (name : ℕ → ℕ → ℕ) (numbers : List ℕ) (lanes : List PublisherLaneState) (place number : ℕ) (lane : PublisherLaneState)
+pub name_is : (name : ℕ → ℕ → ℕ) (numbers : List ℕ) (lanes : List PublisherLaneState) (place number : ℕ) (lane : PublisherLaneState)
     → slice_get numbers place ≡ Some number → slice_get lanes place ≡ Some lane → InRows lanes → (slot : ℕ)
     → slot < length lane.port.book.loans → slot_name name numbers lanes (lane.port.book.first + slot) ≡ name number slot
 name_is name [] lanes place number lane found got rows slot below = absurd (cc found)
@@ -159,7 +159,7 @@ none_held (entry ∷ rest) all =
     (filter (λ (e : ℕ × Taken). (e.1.publisher == entry.1.publisher) && (e.1.index == entry.1.index)) rest))) both_same in
     absurd (cc (sym here ∙ all entry.1.publisher entry.1.index))
 
-beq_same : (a b : Bool) → beq a b ≡ true → a ≡ b
+pub beq_same : (a b : Bool) → beq a b ≡ true → a ≡ b
 beq_same true true h = refl
 beq_same true false h = absurd (cc h)
 beq_same false true h = absurd (cc h)
@@ -172,6 +172,65 @@ not_large last h = ltb-true last (2 ^ 63) (not_no (nat_lt last (2 ^ 63)) h)
 some_name : {V : Type 0} (name : ℕ → ℕ) (table : List (ℕ × V)) (number : ℕ) (value : V) → NamesPorts name table
     → at (name number) table ≡ Some value → name number ≢ 0
 some_name name table number value named there = (named.each (name number) (ap is_some there)).2
+
+-- what a lane and a link are of a domain
+pub lane_of : {T U : Type 0} (payload_words : T → List ℕ) (header_words : Option ℕ × U → List ℕ) (table : TableWords)
+    (port : Option (PublisherPort T U)) (lane : Option PublisherLaneState) → IsLaneIf payload_words header_words table port lane
+    → (one : PublisherPort T U) × (port ≡ Some one) × (other : PublisherLaneState) × (lane ≡ Some other)
+    × IsLaneOf payload_words header_words table one other
+lane_of payload_words header_words table None lane is = absurd is
+lane_of payload_words header_words table (Some one) None is = absurd is
+lane_of payload_words header_words table (Some one) (Some other) is = (one, refl, other, refl, is)
+
+pub link_of : {T U : Type 0} (payload_words : T → List ℕ) (header_words : Option ℕ × U → List ℕ) (table : TableWords) (overflow : Bool)
+    (publisher subscriber : ℕ) (port : Option (PublisherPort T U)) (reader : Option SubscriberPort) (lane : Option PublisherLaneState)
+    (index : Option ℕ) (link : Option LinkState)
+    → IsLinkIf payload_words header_words table overflow publisher subscriber port reader lane index link
+    → (a : PublisherPort T U) × (port ≡ Some a) × (b : SubscriberPort) × (reader ≡ Some b) × (c : PublisherLaneState) × (lane ≡ Some c)
+    × (i : ℕ) × (l : LinkState) × (link ≡ Some l)
+    × IsLinkOf payload_words header_words table overflow a b c.port.book.first i publisher subscriber l
+link_of payload_words header_words table overflow publisher subscriber None reader lane index link is = absurd is
+link_of payload_words header_words table overflow publisher subscriber (Some a) None lane index link is = absurd is
+link_of payload_words header_words table overflow publisher subscriber (Some a) (Some b) None index link is = absurd is
+link_of payload_words header_words table overflow publisher subscriber (Some a) (Some b) (Some c) None link is = absurd is
+link_of payload_words header_words table overflow publisher subscriber (Some a) (Some b) (Some c) (Some i) None is = absurd is
+link_of payload_words header_words table overflow publisher subscriber (Some a) (Some b) (Some c) (Some i) (Some l) is =
+    (a, refl, b, refl, c, refl, i, l, refl, is)
+
+-- a publisher numbers its messages as agreed, and its last number isn't too large
+pub well_numbered : {T U X Y Z : Type 0} {F : X → Type 0} {G : Y → Type 0} {H : Z → Type 0}
+    (domain : Domain T U (Handlers X Y F G) (DegradationHandler Z H)) → first_reason domain ≡ None → (number : ℕ) (port : PublisherPort T U)
+    → port_of number domain.state.ports.publishers ≡ Some port
+    → (is_misnumbered domain.state.ports.sizes port ≡ false) × (is_too_large port.last_sequence ≡ false)
+well_numbered {T} {U} domain none number port there =
+    let ports : ServicePorts T U = domain.state.ports in
+    let blocked = no_reason (is_blocked ports) _ _ none in
+    let current = no_reason (not (is_up_to_date ports)) _ _ blocked.1 in
+    let growing = no_reason (has_growing ports) _ _ current.1 in
+    let handled = no_reason (has_handlers domain) _ _ growing.1 in
+    let retrying = no_reason (is_retrying domain) _ _ handled.1 in
+    let lingering = no_reason (is_lingering ports) _ _ retrying.1 in
+    let sliced = no_reason (has_slices domain) _ _ lingering.1 in
+    let sound = no_reason (is_unsound ports) _ _ sliced.1 in
+    let large = no_reason (has_too_large ports) _ _ sound.1 in
+    let places = neither (not (are_placed ports)) (list_any (λ (entry : ℕ × PublisherPort T U). is_misfit ports.sizes entry.1)
+    ports.publishers || list_any (λ (entry : ℕ × SubscriberPort). attaches_twice entry.1) ports.subscribers) sound.0 in
+    let made = neither (list_any (λ (entry : ℕ × PublisherPort T U). is_misfit ports.sizes entry.1) ports.publishers)
+    (list_any (λ (entry : ℕ × SubscriberPort). attaches_twice entry.1) ports.subscribers) places.1 in
+    let misfit = none_under (λ (entry : ℕ × PublisherPort T U). is_misfit ports.sizes entry.1) (is_at (nat_cmp number)) ports.publishers
+    port made.0 there in
+    let far = none_under (λ (entry : ℕ × PublisherPort T U). is_too_large entry.1.last_sequence) (is_at (nat_cmp number))
+    ports.publishers port large.0 there in (
+      (neither (is_misnumbered ports.sizes port) (nat_lt 0 port.sender.uses.first
+          || (not (port.sender.uses.kept == ports.sizes.history_size) || (remembers_ill ports.sizes port
+          || list_any (waits_ill ports.sizes) port.sender.uses.connections))) misfit.1).0,
+      far.1,
+    )
+
+-- where messages have numbers, something lies between header and payload
+pub some_middle : (numbered : Bool) (count : ℕ) → numbered ≡ true → 0 < middle_count numbered count
+some_middle true count is = omega arith
+some_middle false count is = absurd (cc is)
 
 module _ {T U X Y Z : Type 0} {F : X → Type 0} {G : Y → Type 0} {H : Z → Type 0} (payload_words : T → List ℕ) (header_words : U → List ℕ)
     (value : List ℕ → T) (payload_count header_count : ℕ) (long : (x : T) → length (payload_words x) ≡ payload_count)
@@ -278,30 +337,6 @@ module _ {T U X Y Z : Type 0} {F : X → Type 0} {G : Y → Type 0} {H : Z → T
   named_own place lane below found slot within =
       name_is names.message senders m.publishers place (get_or senders place 0) lane (sender_at place below) found fresh.rows slot within
 
-  -- what a lane and a link are of the domain
-  lane_of : (port : Option (PublisherPort T U)) (lane : Option PublisherLaneState)
-      → IsLaneIf payload_words (middle_words numbered header_words) m.table port lane
-      → (one : PublisherPort T U) × (port ≡ Some one) × (other : PublisherLaneState) × (lane ≡ Some other)
-      × IsLaneOf payload_words (middle_words numbered header_words) m.table one other
-  lane_of None lane is = absurd is
-  lane_of (Some one) None is = absurd is
-  lane_of (Some one) (Some other) is = (one, refl, other, refl, is)
-
-  link_of : (publisher subscriber : ℕ) (port : Option (PublisherPort T U)) (reader : Option SubscriberPort)
-      (lane : Option PublisherLaneState) (index : Option ℕ) (link : Option LinkState)
-      → IsLinkIf payload_words (middle_words numbered header_words) m.table ports.sizes.enable_safe_overflow publisher subscriber port
-      reader lane index link
-      → (a : PublisherPort T U) × (port ≡ Some a) × (b : SubscriberPort) × (reader ≡ Some b) × (c : PublisherLaneState) × (lane ≡ Some c)
-      × (i : ℕ) × (l : LinkState) × (link ≡ Some l)
-      × IsLinkOf payload_words (middle_words numbered header_words) m.table ports.sizes.enable_safe_overflow a b c.port.book.first i
-      publisher subscriber l
-  link_of publisher subscriber None reader lane index link is = absurd is
-  link_of publisher subscriber (Some a) None lane index link is = absurd is
-  link_of publisher subscriber (Some a) (Some b) None index link is = absurd is
-  link_of publisher subscriber (Some a) (Some b) (Some c) None link is = absurd is
-  link_of publisher subscriber (Some a) (Some b) (Some c) (Some i) None is = absurd is
-  link_of publisher subscriber (Some a) (Some b) (Some c) (Some i) (Some l) is = (a, refl, b, refl, c, refl, i, l, refl, is)
-
   port_at : (place : ℕ) (one : PublisherPort T U) → place < length senders
       → port_if ports.publishers (slice_get senders place) ≡ Some one → port_of (get_or senders place 0) ports.publishers ≡ Some one
   port_at place one below is = ap (port_if ports.publishers) (sym (sender_at place below)) ∙ is
@@ -325,7 +360,8 @@ module _ {T U X Y Z : Type 0} {F : X → Type 0} {G : Y → Type 0} {H : Z → T
       → (publisher : Publisher T) × (at (own.publisher place) service.publishers ≡ Some publisher) × RemembersAs value own m lane publisher
   publisher_there place lane found =
       let below : place < length senders = omega (arith, slice_get_within m.publishers place lane found, h.publisher_count) in
-      let (port, is, other, got, of) = lane_of (port_if ports.publishers (slice_get senders place)) (slice_get m.publishers place)
+      let (port, is, other, got, of) = lane_of payload_words (middle_words numbered header_words) m.table
+      (port_if ports.publishers (slice_get senders place)) (slice_get m.publishers place)
       (h.sending place below) in
       let same : other ≡ lane = some_is other lane (sym got ∙ found) in
       let lane_is : IsLaneOf payload_words (middle_words numbered header_words) m.table port lane =
@@ -381,7 +417,8 @@ module _ {T U X Y Z : Type 0} {F : X → Type 0} {G : Y → Type 0} {H : Z → T
   mailbox_there publisher subscriber connection link sends reads where_is found =
       let number : ℕ = get_or senders publisher 0 in
       let reader : ℕ = get_or readers subscriber 0 in
-      let (a, port_is, b, reader_is, c, lane_got, i, l, link_got, of) = link_of publisher subscriber
+      let (a, port_is, b, reader_is, c, lane_got, i, l, link_got, of) = link_of payload_words (middle_words numbered header_words) m.table
+      ports.sizes.enable_safe_overflow publisher subscriber
       (port_if ports.publishers (slice_get senders publisher)) (reader_if ports.subscribers (slice_get readers subscriber))
       (slice_get m.publishers publisher) (slice_get indices (publisher * length readers + subscriber))
       (slice_get m.links (publisher * length readers + subscriber)) (h.linking publisher subscriber sends reads) in
@@ -441,7 +478,8 @@ module _ {T U X Y Z : Type 0} {F : X → Type 0} {G : Y → Type 0} {H : Z → T
   senders_apart one other first second same =
       let one_below : one < length senders = omega (arith, first, h.publisher_count) in
       let other_below : other < length senders = omega (arith, second, h.publisher_count) in
-      let (port, is, lane, got, of) = lane_of (port_if ports.publishers (slice_get senders one)) (slice_get m.publishers one)
+      let (port, is, lane, got, of) = lane_of payload_words (middle_words numbered header_words) m.table
+      (port_if ports.publishers (slice_get senders one)) (slice_get m.publishers one)
       (h.sending one one_below) in
       let (publisher, by_name, rest) = publisher_there one lane got in
       let number_same : get_or senders one 0 ≡ get_or senders other 0 = s.named_publishers.apart (get_or senders one 0)
@@ -483,39 +521,13 @@ module _ {T U X Y Z : Type 0} {F : X → Type 0} {G : Y → Type 0} {H : Z → T
   borrows_none number index (Some port) is = ap (map (λ (message : Message T U). message.slot)) ((rested domain number port none is).none
       index)
 
-  -- a publisher numbers its messages as agreed, and its last number isn't too large
-  well_numbered : (number : ℕ) (port : PublisherPort T U) → port_of number ports.publishers ≡ Some port
-      → (is_misnumbered ports.sizes port ≡ false) × (is_too_large port.last_sequence ≡ false)
-  well_numbered number port there =
-      let blocked = no_reason (is_blocked ports) _ _ none in
-      let current = no_reason (not (is_up_to_date ports)) _ _ blocked.1 in
-      let growing = no_reason (has_growing ports) _ _ current.1 in
-      let handled = no_reason (has_handlers domain) _ _ growing.1 in
-      let retrying = no_reason (is_retrying domain) _ _ handled.1 in
-      let lingering = no_reason (is_lingering ports) _ _ retrying.1 in
-      let sliced = no_reason (has_slices domain) _ _ lingering.1 in
-      let sound = no_reason (is_unsound ports) _ _ sliced.1 in
-      let large = no_reason (has_too_large ports) _ _ sound.1 in
-      let places = neither (not (are_placed ports)) (list_any (λ (entry : ℕ × PublisherPort T U). is_misfit ports.sizes entry.1)
-      ports.publishers || list_any (λ (entry : ℕ × SubscriberPort). attaches_twice entry.1) ports.subscribers) sound.0 in
-      let made = neither (list_any (λ (entry : ℕ × PublisherPort T U). is_misfit ports.sizes entry.1) ports.publishers)
-      (list_any (λ (entry : ℕ × SubscriberPort). attaches_twice entry.1) ports.subscribers) places.1 in
-      let misfit = none_under (λ (entry : ℕ × PublisherPort T U). is_misfit ports.sizes entry.1) (is_at (nat_cmp number)) ports.publishers
-      port made.0 there in
-      let far = none_under (λ (entry : ℕ × PublisherPort T U). is_too_large entry.1.last_sequence) (is_at (nat_cmp number))
-      ports.publishers port large.0 there in (
-        (neither (is_misnumbered ports.sizes port) (nat_lt 0 port.sender.uses.first
-            || (not (port.sender.uses.kept == ports.sizes.history_size) || (remembers_ill ports.sizes port
-            || list_any (waits_ill ports.sizes) port.sender.uses.connections))) misfit.1).0,
-        far.1,
-      )
-
   -- a lane gave the same number last as its publisher
   last_there : (place : ℕ) (lane : PublisherLaneState) → slice_get m.publishers place ≡ Some lane
       → (number : ℕ) × (port : PublisherPort T U) × (port_of number ports.publishers ≡ Some port) × (lane.last ≡ port.last_sequence)
   last_there place lane found =
       let below : place < length senders = omega (arith, slice_get_within m.publishers place lane found, h.publisher_count) in
-      let (port, is, other, got, of) = lane_of (port_if ports.publishers (slice_get senders place)) (slice_get m.publishers place)
+      let (port, is, other, got, of) = lane_of payload_words (middle_words numbered header_words) m.table
+      (port_if ports.publishers (slice_get senders place)) (slice_get m.publishers place)
       (h.sending place below) in
       let same : other ≡ lane = some_is other lane (sym got ∙ found) in
       (get_or senders place 0, port, port_at place port below is, ap (λ (l : PublisherLaneState). l.last) (sym same) ∙ of.last)
@@ -527,10 +539,10 @@ module _ {T U X Y Z : Type 0} {F : X → Type 0} {G : Y → Type 0} {H : Z → T
         let (number, port, there, last) = last_there place lane found in
         ap is_some last
         ∙ beq_same (is_some port.last_sequence) numbered (not_no (beq (is_some port.last_sequence) numbered)
-        (well_numbered number port there).0);
+        (well_numbered domain none number port there).0);
     low = λ place lane last found is.
         let (number, port, there, same) = last_there place lane found in
-        let small = not_large last (ap is_too_large (sym is ∙ same) ∙ (well_numbered number port there).1) in
+        let small = not_large last (ap is_too_large (sym is ∙ same) ∙ (well_numbered domain none number port there).1) in
         omega (arith, small);
   }
 

@@ -1,3 +1,9 @@
 -- The proofs of the laws on sound ports, and on what their lanes have.
 pub mod Sound
 mod Having
+mod Routes
+mod Current
+mod Joints
+mod Lanes
+mod Sequences
+mod Waiting

@@ -95,7 +95,7 @@ all_listed {V} holds first (place ∷ rest) h = ap₂ (λ (b c : Bool). b && c) 
         ap (λ (n : ℕ). holds n member.value) same ∙ h 0 member e
 
 -- how often a slot stands among more
-times_front : (slot : ℕ) (xs ys : List ℕ) → times slot (xs ++ ys) ≡ times slot xs + times slot ys
+pub times_front : (slot : ℕ) (xs ys : List ℕ) → times slot (xs ++ ys) ≡ times slot xs + times slot ys
 times_front slot xs ys = sum_by-append (λ other. cond (eqb slot other) 1 0) xs ys
 
 times_next : (slot x : ℕ) (xs : List ℕ) → times slot (x ∷ xs) ≡ cond (eqb slot x) 1 0 + times slot xs
@@ -105,7 +105,7 @@ here_once : (slot x : ℕ) (xs : List ℕ) → slot ≡ x → times slot (x ∷ 
 here_once slot x xs same
     = times_next slot x xs ∙ ap (λ (b : Bool). cond b 1 0 + times slot xs) (eq-eqb slot x same)
 
-times_some : (slot : ℕ) (xs : List ℕ) (at : ℕ) → slice_get xs at ≡ Some slot → 0 < times slot xs
+pub times_some : (slot : ℕ) (xs : List ℕ) (at : ℕ) → slice_get xs at ≡ Some slot → 0 < times slot xs
 times_some slot [] at is = absurd (cc is)
 times_some slot (x ∷ xs) zero is = omega (arith, here_once slot x xs (sym (some_is x slot is)))
 times_some slot (x ∷ xs) (suc at) is = omega (arith, times_next slot x xs, times_some slot xs at is)
@@ -121,7 +121,7 @@ times_two slot (x ∷ xs) (suc one) (suc other) before is too
     = omega (arith, times_next slot x xs, times_two slot xs one other (omega (arith, before)) is too)
 
 module _ {T U : Type 0} where
-  slot_at : (messages : List (Message T U)) (at : ℕ) (message : Message T U) → slice_get messages at ≡ Some message
+  pub slot_at : (messages : List (Message T U)) (at : ℕ) (message : Message T U) → slice_get messages at ≡ Some message
       → slice_get (map (λ (one : Message T U). one.slot) messages) at ≡ Some message.slot
   slot_at [] at message is = absurd (cc is)
   slot_at (m ∷ ms) zero message is = ap (λ (one : Message T U). Some one.slot) (some_is m message is)

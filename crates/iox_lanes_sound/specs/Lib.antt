@@ -1,3 +1,5 @@
 -- The definitions that the laws on sound ports, and on what their lanes have, cite.
 pub mod Standing
 pub mod Having
+pub mod Lanes
+pub mod Sequences

@@ -207,7 +207,7 @@ fn gather_subscribers(
 /// Ends all ports of a board as [`end`] does, where each port that the board knows by its number steps on the board's own words: so it
 /// is where no two boards have one number, whatever other boards' ports are handed in (`NotAllPorts`). Then what a subscriber has
 /// read of a sample that it has still is what its publisher knows of the slot, as long as the ports know that no write position
-/// came to 3 * 2^62.
+/// came to 2^64 - 1.
 pub fn end_together(
     board: Board,
     publishers: Vec<LanePublisher>,

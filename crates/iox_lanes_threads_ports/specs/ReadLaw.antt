@@ -18,7 +18,7 @@ use Rattle.iox_lanes_threads_rule.specs.declared.view.PortParty.{PortParty}
 use Rattle.iox_lanes_threads_ports.specs.Known.{KnowsRead, ListsRead}
 
 -- While a port's view lists all words of a slot, and knows them to be these, each of these is what the slot's word holds, and what
--- the port that stores it knows; as long as no write position came to 3 * 2^62.
+-- the port that stores it knows; as long as no write position stands at 2^64 - 1.
 abbrev pub ReadsStand : Type 0
 ReadsStand = (s : Service) (words : List ℕ) (ports : List Port) (at number : ℕ) (q p : Port) (extent : SlotExtent) (slot : ℕ)
     (lent : List ℕ)

@@ -25,7 +25,7 @@ pub fn subscribers_count()
 {}
 
 /// What a read lent of a sample is what the words of its slot hold, and what the publisher knows of them, as long as the subscriber's
-/// view lists them as loaded and knows them to be these, as it does right behind the read, and no write position came to 3 * 2^62.
+/// view lists them as loaded and knows them to be these, as it does right behind the read, and no write position came to 2^64 - 1.
 pub fn reads_stand()
     ensures { ReadsStand }
 {}

@@ -126,9 +126,12 @@ load_allowed slots id p after w is next =
       (p.service, done.1, load_backed p.service words ports p w after own.0 at is next own.1),
       (refl, done.0),
     ))
-    (λ n q told v there e. at_number p w v
-    (λ u. (single q ≡ single (learned (saw p u) (set p.known (number_of p.service.sizes w) n) (after n)))
-    × Told p.service p u n) is there e (ap single told.0, told.1))
+    (λ n q told. (
+      refl,
+      (λ v there e. at_number p w v
+          (λ u. (single q ≡ single (learned (saw p u) (set p.known (number_of p.service.sizes w) n) (after n)))
+          × Told p.service p u n) is there e (ap single told.0, told.1)),
+    ))
 
 pub store_allowed : (slots id : ℕ) (p : Port) (after : ℕ → PortParty) (w : SharedWord) (new : ℕ) → MayStore p.service p w new
     → MakesNext p.party (Store w new) after
@@ -150,7 +153,7 @@ store_allowed slots id p after w new may next =
       ),
       refl,
     ))
-    (λ n q told. ap single told)
+    (λ n q told. (refl, ap single told))
 
 same_either : (b : Bool) (x y : ℕ) → (if b then x else y) ≡ either b x y
 same_either true x y = refl
@@ -180,7 +183,7 @@ exchange_allowed slots id p after w old new may next =
       (p.service, both.0, both.1),
       (refl, small, done.0),
     ))
-    (λ n q told. (ap single told.0, told.1, (λ v there e. at_number p w v (λ u. held p.service p.known u ≤ n) is there e told.2)))
+    (λ n q told. (refl, ap single told.0, told.1, (λ v there e. at_number p w v (λ u. held p.service p.known u ≤ n) is there e told.2)))
 
 -- the same, as a seat and a number are handed in
 module _ (slots id words : ℕ) (sizes : TableSizes) (p : Port) (after : ℕ → PortParty) (me : Me ℕ View) (i : ℕ) (w : SharedWord)

@@ -1,5 +1,5 @@
 -- Lanes whose moments are taken anew hold together as before: it is the bound on positions that counts.
-use Rattle.std.proofs.Common.{ℕ, zero, suc, ◌≡◌, ◌+◌, ◌-◌, ◌*◌, ◌<◌, ◌^◌, List, [], ◌∷◌, map, slice_get, Some}
+use Rattle.std.proofs.Common.{ℕ, zero, suc, ◌≡◌, ◌+◌, ◌-◌, ◌<◌, ◌^◌, List, [], ◌∷◌, map, slice_get, Some}
 use Rattle.std.proofs.Common.{refl, ◌∙◌, ap, subst, arith}
 use Rattle.std.proofs.lemmas.List.{length-map}
 use Rattle.iox_lanes_machine.specs.QueuesSteps.Order.{Acts, after_acts, acts_of, Rises}
@@ -53,7 +53,7 @@ waiting_same : (link : LinkState) (order : List Placed) → waiting link order �
 waiting_same link order = ap (after_acts (overflows link.kind) link.limit link.found) (acts_same order)
 
 kept_anew : (table : TableWords) (moments connection : ℕ) (link : LinkState) (order : List Placed) (sends : PublisherCall)
-    (receives : SubscriberCall) → held_by table (sent_word connection Write) < 3 * 2 ^ 62
+    (receives : SubscriberCall) → held_by table (sent_word connection Write) < 2 ^ 64 - 1
     → IsKeptAt table moments connection link order sends receives
     → IsKeptAt table (2 ^ 63 - 1) connection link (map untimed order) sends receives
 kept_anew table moments connection link order sends receives early k = record {
@@ -70,7 +70,7 @@ module _ (m : World) (early : IsEarly m.table) (k : HoldTogether m) where
   rings_anew : AreKept (retimed m)
   rings_anew connection link order found got =
       let was = mapped_is (λ (o : List Placed). map untimed o) m.orders connection order got in
-      let near : held_by m.table (sent_word connection Write) < 3 * 2 ^ 62
+      let near : held_by m.table (sent_word connection Write) < 2 ^ 64 - 1
       = early connection Submission (k.within.links connection link found).connection_is in
       subst (λ (o : List Placed). IsKeptAt m.table (2 ^ 63 - 1) connection link o
       (publisher_stage (slice_get m.publishers link.publisher)) (subscriber_stage (slice_get m.subscribers link.subscriber))) was.2

@@ -80,18 +80,19 @@ stepped p (Exchange w old new) answer after
     = learned p (known_exchanged p.name p.known (number_of p.service.sizes w) old new answer) (after answer)
 stepped p Local answer after = p
 
--- what a load of the word of a number tells the seat of a port
+-- what a load of the word of a number tells a seat that had just this port before it: so the same load made once more tells nothing
 abbrev pub loaded : Port → (ℕ → PortParty) → Step ℕ → Me ℕ View → ℕ → Me ℕ View → Type 0
-loaded p after step before found me = (w : SharedWord) → IsWord p.service.sizes w → number_of p.service.sizes w ≡ step.word
-    → (me ≡ single (learned (saw p w) (set p.known step.word found) (after found))) × Told p.service p w found
+loaded p after step before found me = (before ≡ single p)
+    × ((w : SharedWord) → IsWord p.service.sizes w → number_of p.service.sizes w ≡ step.word
+    → (me ≡ single (learned (saw p w) (set p.known step.word found) (after found))) × Told p.service p w found)
 
--- what a store tells
+-- what a store tells such a seat
 abbrev pub stored : Port → (ℕ → PortParty) → Step ℕ → Me ℕ View → ℕ → Me ℕ View → Type 0
-stored p after step before found me = me ≡ single (learned p (set p.known step.word step.first) (after 0))
+stored p after step before found me = (before ≡ single p) × (me ≡ single (learned p (set p.known step.word step.first) (after 0)))
 
--- what an exchange tells
+-- what an exchange tells such a seat
 abbrev pub exchanged : Port → (ℕ → PortParty) → Step ℕ → Me ℕ View → ℕ → Me ℕ View → Type 0
 exchanged p after step before found me
-    = (me ≡ single (learned p (known_exchanged p.name p.known step.word step.first step.second found) (after found)))
+    = (before ≡ single p) × (me ≡ single (learned p (known_exchanged p.name p.known step.word step.first step.second found) (after found)))
     × (found < 2 ^ 64)
     × ((w : SharedWord) → IsWord p.service.sizes w → number_of p.service.sizes w ≡ step.word → held p.service p.known w ≤ found)

@@ -1,5 +1,5 @@
 -- What ports that came back to one seat have in common.
-use Rattle.std.specs.Prelude.{ℕ, ◌≡◌, ◌*◌, ◌<◌, ◌^◌, List, [], ◌++◌, slice_get, Some}
+use Rattle.std.specs.Prelude.{ℕ, ◌≡◌, ◌-◌, ◌<◌, ◌^◌, List, [], ◌++◌, slice_get, Some}
 use mathlib.Core.Option.{some}
 use lib.ListN.{get_elem?}
 use Rattle.atomic_table.specs.Table.{Me, Step}
@@ -21,14 +21,14 @@ both_views one other = record { from = 0; waiting = []; ports = one.ports ++ oth
 abbrev pub no_view : View
 no_view = record { from = 0; waiting = []; ports = [] }
 
--- each write position is stored by one of these ports, which knows that it has not come to 3 * 2^62
+-- each write position is stored by one of these ports, which knows that it does not stand at 2^64 - 1
 abbrev pub KnowEarly : Service → List Port → Type 0
 KnowEarly s ports = (connection : ℕ) (ring : ConnectionRing) → connection < s.sizes.connections
     → (at : ℕ) × (p : Port) × (get_elem? ports at ≡ some p) × Stores s p.name (Ring connection ring Write)
-    × (held s p.known (Ring connection ring Write) < 3 * 2 ^ 62)
+    × (held s p.known (Ring connection ring Write) < 2 ^ 64 - 1)
 
 -- What one of these ports has loaded of a sample that it has still is what another of them, which stores the word, knows: as long
--- as they know that no write position came to 3 * 2^62.
+-- as they know that no write position stands at 2^64 - 1.
 abbrev pub Agree : List Port → Type 0
 Agree ports = (at number place : ℕ) (q p : Port) (w : SharedWord) → get_elem? ports at ≡ some q → get_elem? ports number ≡ some p
     → KnowEarly q.service ports → slice_get q.seen place ≡ Some w → Stores q.service p.name w

@@ -1,5 +1,5 @@
 -- The lanes that stand behind the words and the ports of threads, and how a port comes to its next access.
-use Rattle.std.specs.Prelude.{ℕ, ◌≡◌, ◌*◌, ◌<◌, ◌^◌, true, List, map, slice_get, Some}
+use Rattle.std.specs.Prelude.{ℕ, ◌≡◌, ◌-◌, ◌<◌, ◌^◌, true, List, map, slice_get, Some}
 use Rattle.std.specs.List.{All}
 use mathlib.Core.Option.{some}
 use lib.ListN.{get_elem?}
@@ -79,10 +79,10 @@ MakesNext (party.Subscriber lane) access after = SubscriberActs (party.Subscribe
 abbrev pub as_table : Service → List ℕ → TableWords
 as_table s words = record { sizes = s.sizes; words = words }
 
--- no write position has come to 3 * 2^62
+-- no write position stands at 2^64 - 1, the largest number of a word
 abbrev pub IsEarly : TableWords → Type 0
 IsEarly table = (connection : ℕ) (ring : ConnectionRing) → connection < table.sizes.connections
-    → held_by table (Ring connection ring Write) < 3 * 2 ^ 62
+    → held_by table (Ring connection ring Write) < 2 ^ 64 - 1
 
 -- the publisher at a place of lanes is this one, whenever its call began
 abbrev pub HasPublisher : World → ℕ → PublisherLaneState → Type 0

@@ -21,7 +21,7 @@ pub fn exchanges_keep_the_rule()
 {}
 
 /// Lanes stand behind words and ports after each access that a port may make and makes next, as long as no write position comes to
-/// 3 * 2^62. So what `HoldTogether` says of lanes holds on threads between any two accesses: both rings of each connection hold what
+/// 2^64 - 1. So what `HoldTogether` says of lanes holds on threads between any two accesses: both rings of each connection hold what
 /// their ends know, and each connection has what its publisher's record says. Of calls that ended, and their answers, it says nothing.
 pub fn accesses_leave_lanes()
     ensures loads { LoadsLeaveLanes }
@@ -30,26 +30,26 @@ pub fn accesses_leave_lanes()
 {}
 
 /// No access that a port makes next stores a word of a slot while a port's view has that slot as a sample, as long as no write
-/// position comes to 3 * 2^62: a publisher stores words of a loan of its own, which none of its connections has.
+/// position comes to 2^64 - 1: a publisher stores words of a loan of its own, which none of its connections has.
 pub fn slot_stores_are_of_loans()
     ensures { SlotStoresAreOfLoans }
 {}
 
 /// What a subscriber's view lists as loaded (`seen`) of a sample that it has is what the words of its slot hold and what its
-/// publisher's view has, as long as no write position comes to 3 * 2^62. So a load of a listed word finds what the view knows of it.
+/// publisher's view has, as long as no write position comes to 2^64 - 1. So a load of a listed word finds what the view knows of it.
 pub fn seen_words_stand()
     ensures { SeenWordsStand }
 {}
 
 /// A connection has a slot by its publisher's view just if the slot stands there once, as long as no write position comes to
-/// 3 * 2^62: in a cell of the ring of messages between its positions, with the subscriber's view as a sample, or in a cell of the
+/// 2^64 - 1: in a cell of the ring of messages between its positions, with the subscriber's view as a sample, or in a cell of the
 /// ring of samples given back.
 pub fn references_are_counted()
     ensures { ReferencesAreCounted }
 {}
 
 /// No read position is beyond its write position, and no ring holds more than it has cells, as long as no write position comes to
-/// 3 * 2^62.
+/// 2^64 - 1.
 pub fn positions_are_near()
     ensures { PositionsAreNear }
 {}

@@ -16,7 +16,8 @@ use Rattle.iox_domain_values.specs.declared.degradation.DegradationAction.{Degra
 use Rattle.iox_domain_values.specs.declared.degradation.DegradationAction.TheVariants as degradation
 use Rattle.iox_line.specs.Words.{has_no_space}
 use Rattle.iox_line.specs.Numbers.{tag, IsNumber}
-use Rattle.iox_line.specs.Values.{strategy_word, allocation_word, handler_word, degradation_word}
+use Rattle.iox_line.specs.Values.{degradation_word}
+use Rattle.iox_line.proofs.Shorthands.{strategy_word, allocation_word, handler_word}
 use Rattle.iox_line.proofs.NumberLemmas.{decimal_no_space}
 use Rattle.iox_line.proofs.NoSpaceLemmas.{any_own, options_lack, number_lacks, text_lacks, pattern_no_space, named_words, named_so}
 use Rattle.iox_line.proofs.NoSpaceLemmas.{named_are_words}

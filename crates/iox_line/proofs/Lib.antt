@@ -22,5 +22,6 @@ pub mod ReadingLemmas
 pub mod LineLemmas
 pub mod PortLemmas
 pub mod PrintLemmas
+pub mod RefusalTextLemmas
 pub mod HasLineLemmas
 mod MemoryLemmas

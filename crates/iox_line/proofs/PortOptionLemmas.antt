@@ -15,7 +15,8 @@ use Rattle.iox_domain_values.specs.declared.degradation.DegradationAction.{Degra
 use Rattle.iox_domain_values.specs.declared.degradation.DegradationAction.TheVariants as degradation
 use Rattle.iox_line.specs.Numbers.{IsNumber, number_of}
 use Rattle.iox_line.specs.Options.{AnyOrder, find, named, count, one}
-use Rattle.iox_line.specs.Values.{strategy_word, allocation_word, handler_word, degradation_word, strategies, allocations, handlers}
+use Rattle.iox_line.specs.Values.{degradation_word, strategies, allocations, handlers}
+use Rattle.iox_line.proofs.Shorthands.{strategy_word, allocation_word, handler_word}
 use Rattle.iox_line.specs.Values.{degradations, strategy_of, allocation_of, handler_of, degradation_of}
 use Rattle.iox_line.proofs.NumberLemmas.{number_some, number_own}
 use Rattle.iox_line.proofs.ChoiceLemmas.{choice_some, named_some, named_own, IfThere}

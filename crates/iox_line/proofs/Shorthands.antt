@@ -4,6 +4,12 @@ use Rattle.std.specs.Prelude.{◌==◌, IfSome, flat_map, if◌then◌else◌}
 use Rattle.std.specs.List.{AllByRecursion, AllZip, join_with_byte}
 use Rattle.std.specs.Option.{option_map}
 use Rattle.std.specs.Str.{byte}
+use Rattle.iox_domain_values.specs.declared.backpressure_strategy.BackpressureStrategy.{BackpressureStrategy}
+use Rattle.iox_domain_values.specs.declared.backpressure_strategy.BackpressureStrategy.TheVariants as strategy
+use Rattle.iox_domain_values.specs.declared.data_segment.AllocationStrategy.{AllocationStrategy}
+use Rattle.iox_domain_values.specs.declared.data_segment.AllocationStrategy.TheVariants as allocation
+use Rattle.iox_domain_values.specs.declared.backpressure.BackpressureAction.{BackpressureAction}
+use Rattle.iox_domain_values.specs.declared.backpressure.BackpressureAction.TheVariants as handler
 use Rattle.iox_describe_base.specs.Attributes.{Required}
 use Rattle.iox_describe_base.specs.declared.attribute.Attribute.{Attribute}
 use Rattle.iox_command.specs.declared.port.PortNumber.{PortNumber}
@@ -19,9 +25,33 @@ use Rattle.iox_line.specs.Numbers.{IsNumber}
 use Rattle.iox_line.specs.Options.{option_words}
 use Rattle.iox_line.specs.Services.{IsNumberOrOff, number_or_off_word, switch_word}
 use Rattle.iox_line.specs.Steps.{WritesStep}
-use Rattle.iox_line.specs.Values.{strategy_word, allocation_word, handler_word, degradation_word}
+use Rattle.iox_line.specs.Values.{degradation_word}
 use Rattle.iox_line.specs.Visible.{IsVisibleText}
 use Rattle.iox_line.specs.Words.{lacks}
+
+-- how a strategy is written
+abbrev pub strategy_word : BackpressureStrategy → List ℕ
+strategy_word it = elim it [
+  | strategy.RetryUntilDelivered ↦ codes "retry"
+  | strategy.DiscardData ↦ codes "discard"
+]
+
+-- how an allocation strategy is written
+abbrev pub allocation_word : AllocationStrategy → List ℕ
+allocation_word it = elim it [
+  | allocation.Static ↦ codes "static"
+  | allocation.BestFit ↦ codes "best"
+  | allocation.PowerOfTwo ↦ codes "power"
+]
+
+-- how the answer of a handler is written
+abbrev pub handler_word : BackpressureAction → List ℕ
+handler_word it = elim it [
+  | handler.FollowBackpressureyStrategy ↦ codes "follow"
+  | handler.Retry ↦ codes "retry"
+  | handler.DiscardData ↦ codes "discard"
+  | handler.DiscardDataAndFail ↦ codes "fail"
+]
 
 -- the keys of a publisher's options
 abbrev pub publisher_keys : List (List ℕ)

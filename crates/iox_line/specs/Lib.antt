@@ -16,6 +16,7 @@ pub mod Verbs
 pub mod Spelling
 pub mod Reading
 pub mod Outcome
+pub mod RefusalText
 pub mod ReplyText
 pub use Rattle.iox_command.specs.DescribeBase as DescribeBase
 pub use Rattle.iox_domain_values.specs as DomainValues

@@ -1,9 +1,9 @@
 -- The bytes of each reply, without its newline.
-use Rattle.std.specs.Prelude.{ℕ, true, false, List, Option, None, Some, ◌++◌, flat_map, codes, decimal}
+use Rattle.std.specs.Prelude.{ℕ, true, false, List, None, Some, ◌++◌, flat_map, codes, decimal}
 use Rattle.std.specs.Vec.{vec_items}
-use Rattle.iox_command.specs.RefusalText.{refusal_text}
 use Rattle.iox_command.specs.declared.reply.Reply.{Reply}
 use Rattle.iox_command.specs.declared.reply.Reply.TheVariants as reply
+use Rattle.iox_line.specs.RefusalText.{refusal_text}
 
 -- what a reply says; values each stand after a space
 abbrev pub reply_text : Reply ℕ → List ℕ

@@ -7,13 +7,16 @@ use Rattle.iox_command.specs.declared.command.Command.{Command}
 use Rattle.iox_command.specs.declared.command.Command.TheVariants as command
 use Rattle.iox_command.specs.declared.port.PortNumber.TheVariants as port
 use Rattle.iox_command.specs.Patterns.{pattern_of}
+use Rattle.iox_domain_values.specs.declared.backpressure.BackpressureAction.TheVariants as handler
+use Rattle.iox_domain_values.specs.declared.backpressure_strategy.BackpressureStrategy.TheVariants as strategy
+use Rattle.iox_domain_values.specs.declared.data_segment.AllocationStrategy.TheVariants as allocation
 use Rattle.iox_line.specs.Words.{lacks}
 use Rattle.iox_line.specs.Numbers.{IsNumber}
 use Rattle.iox_line.specs.Options.{AnyOrder, option_words}
 use Rattle.iox_line.specs.Services.{pattern_word, ServiceFits, Names}
 use Rattle.iox_line.specs.Attributes.{pair_word, IsKey, IsPair, Requires}
 use Rattle.iox_line.specs.Steps.{StepFits, WritesStep, WritesLists, ListsFit}
-use Rattle.iox_line.specs.Values.{strategy_word, allocation_word, handler_word, degradation_word}
+use Rattle.iox_line.specs.Values.{degradation_word}
 use Rattle.iox_line.specs.Visible.{IsVisibleText}
 
 -- a command whose numbers have 64 bits, whose name has 1 to 255 visible bytes, which has at most eight pairs and at most eight keys, whose
@@ -95,9 +98,22 @@ Writes (command.Has subscriber) words = words ≡ codes "has" ∷ (codes "s" ++ 
 Writes (command.Publisher factory options) words = (chosen : List (List ℕ))
     × AnyOrder chosen (option_words
     (codes "loans=" ∷ codes "strategy=" ∷ codes "slots=" ∷ codes "slice=" ∷ codes "alloc=" ∷ codes "handler=" ∷ codes "degrade=" ∷ [])
-    (option_map decimal options.max_loaned_samples ∷ option_map strategy_word options.backpressure_strategy
+    (option_map decimal options.max_loaned_samples ∷ option_map (λ it. elim it [
+      | strategy.RetryUntilDelivered ↦ codes "retry"
+      | strategy.DiscardData ↦ codes "discard"
+    ]) options.backpressure_strategy
     ∷ option_map decimal options.preallocated_samples ∷ option_map decimal options.initial_max_slice_len
-    ∷ option_map allocation_word options.allocation_strategy ∷ option_map handler_word options.backpressure_handler
+    ∷ option_map (λ it. elim it [
+      | allocation.Static ↦ codes "static"
+      | allocation.BestFit ↦ codes "best"
+      | allocation.PowerOfTwo ↦ codes "power"
+    ]) options.allocation_strategy
+    ∷ option_map (λ it. elim it [
+      | handler.FollowBackpressureyStrategy ↦ codes "follow"
+      | handler.Retry ↦ codes "retry"
+      | handler.DiscardData ↦ codes "discard"
+      | handler.DiscardDataAndFail ↦ codes "fail"
+    ]) options.backpressure_handler
     ∷ option_map degradation_word options.degradation_handler ∷ []))
     × (words ≡ codes "publisher" ∷ (codes "f" ++ decimal factory) ∷ chosen)
 Writes (command.Subscriber factory options) words = (chosen : List (List ℕ))

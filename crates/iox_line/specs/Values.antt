@@ -10,24 +10,6 @@ use Rattle.iox_domain_values.specs.declared.degradation.DegradationAction.{Degra
 use Rattle.iox_domain_values.specs.declared.degradation.DegradationAction.TheVariants as degradation
 use Rattle.iox_line.specs.Words.{choice}
 
--- how a strategy is written
-abbrev pub strategy_word : BackpressureStrategy → List ℕ
-strategy_word strategy.RetryUntilDelivered = codes "retry"
-strategy_word strategy.DiscardData = codes "discard"
-
--- how an allocation strategy is written
-abbrev pub allocation_word : AllocationStrategy → List ℕ
-allocation_word allocation.Static = codes "static"
-allocation_word allocation.BestFit = codes "best"
-allocation_word allocation.PowerOfTwo = codes "power"
-
--- how the answer of a handler is written
-abbrev pub handler_word : BackpressureAction → List ℕ
-handler_word handler.FollowBackpressureyStrategy = codes "follow"
-handler_word handler.Retry = codes "retry"
-handler_word handler.DiscardData = codes "discard"
-handler_word handler.DiscardDataAndFail = codes "fail"
-
 -- how it is written what is done where a connection fails
 abbrev pub degradation_word : DegradationAction → List ℕ
 degradation_word degradation.Ignore = codes "ignore"

@@ -1,8 +1,9 @@
 //! From a reply to the bytes of its line.
 ghost use Rattle.std.specs.Prelude.{◌≡◌, ◌++◌, length, take, flat_map, codes, decimal, OnOk, OnErr};
+ghost use Rattle.iox_line.specs.RefusalText.{refusal_text};
 ghost use Rattle.iox_line.specs.ReplyText.{reply_text};
 
-use iox_command::Reply;
+use iox_command::{Refusal, Reply};
 use itoa::Buffer;
 use std::alloc::AllocError;
 
@@ -40,7 +41,7 @@ fn append_reply(reply: &Reply<u64>, out: &mut Vec<u8>) -> Result<(), AllocError>
         Reply::Has(true) => append(b"ok true", out),
         Reply::Has(false) => append(b"ok false", out),
         Reply::Skipped => append(b"skip", out),
-        Reply::Refused(refusal) => append_both(b"err ", refusal.text().as_bytes(), out),
+        Reply::Refused(refusal) => append_refusal(refusal, out),
     }
 }
 
@@ -83,6 +84,14 @@ fn append_values(values: &[u64], out: &mut Vec<u8>) -> Result<(), AllocError>
         append_made(b" ", value, out)?;
     }
     Ok(())
+}
+
+#[tactic(auto, using(crate::proofs::RefusalTextLemmas::written_as_displayed))]
+fn append_refusal(refusal: &Refusal, out: &mut Vec<u8>) -> Result<(), AllocError>
+    ensures ok { OnOk result (out.new.items ≡ out.old.items ++ (codes "err " ++ refusal_text refusal.now)) }
+    ensures err { OnErr result (take (length out.old.items) out.new.items ≡ out.old.items) }
+{
+    append_both(b"err ", refusal.text().as_bytes(), out)
 }
 
 fn append_sample(sample: u64, values: &[u64], out: &mut Vec<u8>) -> Result<(), AllocError>

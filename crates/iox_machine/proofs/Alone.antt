@@ -7,25 +7,26 @@ use Rattle.std.specs.Option.{option_map_or}
 use Rattle.std.specs.Prelude.{◌==◌, nat_lt, nat_le, is_some, find, filter, fold, MatchBool, MatchOption, MatchResult, bytes_eq}
 use Rattle.std.specs.Vec.{vec_items}
 use Rattle.iox_machine.proofs.Shorthands.{factory_of, left, with_subscriber, with_publisher, closed_by, IsRefused, IsSkipped}
+use Rattle.iox_machine.proofs.Shorthands.{either_lacking, Opens, OpensOrCreates, AtFree, AtBlocked}
 use Rattle.iox_machine.specs.Choices.{Choices}
 use Rattle.iox_machine.specs.AgreementLaws.{agreed_in}
-use Rattle.iox_machine.specs.Agreement.{Agreement, unfit, event_verdict, publish_subscribe_verdict, request_response_verdict}
+use Rattle.iox_machine.specs.Agreement.{Agreement, unfit, verdict}
 use Rattle.iox_machine.specs.Arriving.{PublisherArrives, SubscriberArrives, new_publisher, new_subscriber}
 use Rattle.iox_machine.specs.Closing.{Closes, is_used_by}
 use Rattle.iox_machine.specs.Asked.{settings_of}
-use Rattle.iox_machine.specs.Factories.{Acts, CreatesService, OpensService, OpensOrCreatesService, Negotiates, Enters, create_refusal}
-use Rattle.iox_machine.specs.Factories.{either_lacking}
+use Rattle.iox_machine.specs.Factories.{Acts, CreatesService, OpensService, OpensOrCreatesService, Negotiates, Enters}
 use Rattle.iox_machine.specs.IndependenceLaws.{is_factory_of, is_of, is_first, asks, concerns, IsLeft, IsAlone, ServicesAreAsIfAlone}
 use Rattle.iox_machine.specs.Message.{Loan, Sample}
 use Rattle.iox_machine.specs.RunLaws.{is_written}
-use Rattle.iox_machine.specs.Negotiation.{Call, Answer, Creates, Opens, OpensOrCreates}
+use Rattle.iox_machine.specs.Negotiation.{Call, Answer, Creates}
 use Rattle.iox_machine.specs.Phase.{Own, Phase, Absent, same_pattern, acted}
-use Rattle.iox_machine.specs.Ports.{AtFree, AtBlocked, publisher_in, subscriber_in, LendsLoan, Puts, SendsLoan, Writes, Releases}
+use Rattle.iox_machine.specs.Ports.{publisher_in, subscriber_in, LendsLoan, Puts, SendsLoan, Writes, Releases}
 use Rattle.iox_machine.specs.PublisherUpdate as publishing
 use Rattle.iox_machine.specs.Receiving.{Receives, has_samples}
 use Rattle.iox_machine.specs.Run.{Step, Runs, AtFactory}
 use Rattle.iox_machine.specs.Sending.{GoesOn}
 use Rattle.iox_machine.specs.Service.{Service, Publisher, Subscriber, Send}
+use Rattle.iox_machine.specs.Refusals.{open_refusal, either_refusal, create_refusal}
 use Rattle.iox_machine.specs.State.{State, Factory, AtOne, new_state, with_phase, is_service_of, counted, replaced}
 use Rattle.iox_machine.specs.SubscriberUpdate as subscribing
 use Rattle.iox_machine.specs.Table.{at, removed}
@@ -51,14 +52,10 @@ use Rattle.iox_command.specs.NegotiateBase.DescribeSettings.Agreement as describ
 use Rattle.iox_command.specs.NegotiateBase.declared.errors.close.CloseError.TheVariants.{StillInUse}
 use Rattle.iox_command.specs.NegotiateBase.DescribeBase.Attributes.{Required}
 use Rattle.iox_command.specs.NegotiateBase.DescribeBase.declared.attribute.Attribute.{Attribute}
-use Rattle.iox_command.specs.NegotiateBase.EventErrors as event
-use Rattle.iox_command.specs.NegotiateBase.PublishSubscribeErrors as publish_subscribe
-use Rattle.iox_command.specs.NegotiateBase.RequestResponseErrors as request_response
 use Rattle.iox_command.specs.NegotiateBase.declared.failure.CreateFailure.TheVariants as uncreated
 use Rattle.iox_command.specs.NegotiateBase.declared.failure.OpenFailure.TheVariants as unopened
 use Rattle.iox_command.specs.Patterns.{pattern_of}
 use Rattle.iox_command.specs.declared.service.ServiceOptions.{ServiceOptions}
-use Rattle.iox_command.specs.declared.service.ServiceOptions.TheVariants as options
 use Rattle.iox_command.specs.declared.step.ForeignStep.{ForeignStep}
 use Rattle.iox_command.specs.declared.step.StepBefore.{StepBefore}
 use Rattle.iox_command.specs.declared.command.Command.{Command}
@@ -398,17 +395,9 @@ module _ {T : Type 0} (pattern : MessagingPattern) (name : List ℕ) where
         → factory.pattern ≡ pattern → factory.name ≡ name → Patterned new
         → OpensService types steps factory named required old answer new
         → OpensService types steps factory named required (own_of old) answer (own_of new)
-    own-opens steps factory (options.PublishSubscribe named) required old answer new is same patterned h =
-        own-negotiates (Opens types factory.pattern steps (Own factory.node) (publish_subscribe_verdict types required named))
-        (λ failure. refusal.PublishSubscribeOpen (publish_subscribe.open_error failure)) (λ is_new. unopened.OutOfMemory) factory old answer
-        new is same patterned h
-    own-opens steps factory (options.Event named) required old answer new is same patterned h =
-        own-negotiates (Opens types factory.pattern steps (Own factory.node) (event_verdict required named))
-        (λ failure. refusal.EventOpen (event.open_error failure))
-        (λ is_new. unopened.OutOfMemory) factory old answer new is same patterned h
-    own-opens steps factory (options.RequestResponse named) required old answer new is same patterned h =
-        own-negotiates (Opens types factory.pattern steps (Own factory.node) (request_response_verdict types required named))
-        (λ failure. refusal.RequestResponseOpen (request_response.open_error failure)) (λ is_new. unopened.OutOfMemory) factory old answer
+    own-opens steps factory named required old answer new is same patterned h =
+        own-negotiates (Opens types factory.pattern steps (Own factory.node) (verdict types named required))
+        (open_refusal named) (λ is_new. unopened.OutOfMemory) factory old answer
         new is same patterned h
 
     own-either : (steps : List StepBefore) (factory : Factory) (named : ServiceOptions) (required : Required) (old : State T)
@@ -416,20 +405,10 @@ module _ {T : Type 0} (pattern : MessagingPattern) (name : List ℕ) where
         → factory.pattern ≡ pattern → factory.name ≡ name → Patterned new
         → OpensOrCreatesService types steps factory named required old answer new
         → OpensOrCreatesService types steps factory named required (own_of old) answer (own_of new)
-    own-either steps factory (options.PublishSubscribe named) required old answer new is same patterned h =
-        own-negotiates (OpensOrCreates types factory.pattern steps (Own factory.node) (publish_subscribe_verdict types required named)
-        (record { settings = settings_of types (options.PublishSubscribe named); attributes = required.pairs }))
-        (λ failure. refusal.PublishSubscribeOpenOrCreate (publish_subscribe.open_or_create_error failure)) either_lacking factory old answer
-        new is same patterned h
-    own-either steps factory (options.Event named) required old answer new is same patterned h =
-        own-negotiates (OpensOrCreates types factory.pattern steps (Own factory.node) (event_verdict required named)
-        (record { settings = settings_of types (options.Event named); attributes = required.pairs }))
-        (λ failure. refusal.EventOpenOrCreate
-        (event.open_or_create_error failure)) either_lacking factory old answer new is same patterned h
-    own-either steps factory (options.RequestResponse named) required old answer new is same patterned h =
-        own-negotiates (OpensOrCreates types factory.pattern steps (Own factory.node) (request_response_verdict types required named)
-        (record { settings = settings_of types (options.RequestResponse named); attributes = required.pairs }))
-        (λ failure. refusal.RequestResponseOpenOrCreate (request_response.open_or_create_error failure)) either_lacking factory old answer
+    own-either steps factory named required old answer new is same patterned h =
+        own-negotiates (OpensOrCreates types factory.pattern steps (Own factory.node) (verdict types named required)
+        (record { settings = settings_of types named; attributes = required.pairs }))
+        (either_refusal named) either_lacking factory old answer
         new is same patterned h
 
     own-acts : (one : MessagingPattern) (other : List ℕ) (steps : List ForeignStep) (old : State T) (answer : Reply T) (new : State T)

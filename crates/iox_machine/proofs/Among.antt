@@ -12,13 +12,13 @@ use Rattle.iox_machine.specs.Arriving.{PublisherArrives, SubscriberArrives, new_
 use Rattle.iox_machine.specs.Message.{Loan, Sample}
 use Rattle.iox_machine.specs.RunLaws.{is_written}
 use Rattle.iox_machine.specs.Named.{is_on_ports, has_named}
-use Rattle.iox_machine.specs.Ports.{AtFree, AtBlocked, publisher_in, subscriber_in, LendsLoan, Puts, SendsLoan, Writes, Releases}
+use Rattle.iox_machine.specs.Ports.{publisher_in, subscriber_in, LendsLoan, Puts, SendsLoan, Writes, Releases}
 use Rattle.iox_machine.specs.PublisherUpdate as publishing
 use Rattle.iox_machine.specs.Receiving.{Receives, has_samples}
 use Rattle.iox_machine.specs.Run.{Step, AtFactory}
 use Rattle.iox_machine.specs.Sending.{GoesOn}
 use Rattle.iox_machine.specs.Service.{Service, Publisher, Subscriber, Send}
-use Rattle.iox_machine.proofs.Shorthands.{with_publisher, with_subscriber, left, IsSkipped}
+use Rattle.iox_machine.proofs.Shorthands.{with_publisher, with_subscriber, left, IsSkipped, AtFree, AtBlocked}
 use Rattle.iox_machine.specs.State.{State, Factory, Made, AtOne, counted, replaced, is_service_of}
 use Rattle.iox_machine.specs.SubscriberUpdate as subscribing
 use Rattle.iox_machine.specs.Table.{at, removed}

@@ -3,14 +3,14 @@ use Rattle.std.proofs.Common.{◌≡◌, ◌⊎◌, ◌+◌, ℕ, zero, suc, Boo
 use Rattle.std.proofs.Common.{None, Some, Result, Ok, Err, refl, sym, subst, inl, inr}
 use Rattle.std.specs.List.{AllByRecursion}
 use Rattle.std.specs.Prelude.{◌==◌, nat_le, nat_lt, filter, fold, MatchResult}
-use Rattle.iox_machine.specs.Agreement.{Agreement, unfit, event_verdict, publish_subscribe_verdict, request_response_verdict}
+use Rattle.iox_machine.specs.Agreement.{Agreement, unfit, verdict}
 use Rattle.iox_machine.specs.Asked.{settings_of}
 use Rattle.iox_machine.specs.Factories.{Negotiates, Enters, CreatesService, OpensService, OpensOrCreatesService, with_open}
-use Rattle.iox_machine.specs.Factories.{create_refusal, either_lacking}
-use Rattle.iox_machine.specs.Negotiation.{Call, Answer, Fails, Rounds, Access, Locks, CreateLooks, Creates, OpensFound, OpenLooks, Opens}
-use Rattle.iox_machine.specs.Negotiation.{EitherLooks, OpensOrCreates, registered, opened, created}
+use Rattle.iox_machine.specs.Negotiation.{Call, Answer, Fails, Rounds, Access, Locks, CreateLooks, Creates, OpensFound, OpenLooks}
+use Rattle.iox_machine.specs.Negotiation.{EitherLooks, registered, created}
 use Rattle.iox_machine.specs.Phase.{Node, Own, Phase, Absent, BeingMade, Published, Emptied, is_in, entered, acted}
-use Rattle.iox_machine.proofs.Shorthands.{IsSkipped, IsRefused, closed_by}
+use Rattle.iox_machine.proofs.Shorthands.{IsSkipped, IsRefused, closed_by, either_lacking, Opens, OpensOrCreates, opened}
+use Rattle.iox_machine.specs.Refusals.{open_refusal, either_refusal, create_refusal}
 use Rattle.iox_machine.specs.State.{State, Factory, counted, with_phase}
 use Rattle.iox_machine.proofs.Cases.{by-bool, by-option, by-result}
 use Rattle.iox_machine.proofs.Lists.{all-filtered, all-taken}
@@ -20,9 +20,6 @@ use Rattle.iox_command.specs.NegotiateBase.DescribeBase.declared.attribute.Attri
 use Rattle.iox_command.specs.NegotiateBase.DescribeBase.declared.message_type.MessageTypeDetails.{MessageTypeDetails}
 use Rattle.iox_command.specs.NegotiateBase.DescribeBase.declared.pattern.MessagingPattern.{MessagingPattern}
 use Rattle.iox_command.specs.NegotiateBase.DescribeSettings.Agreement.{max_nodes_of}
-use Rattle.iox_command.specs.NegotiateBase.EventErrors as event
-use Rattle.iox_command.specs.NegotiateBase.PublishSubscribeErrors as publish_subscribe
-use Rattle.iox_command.specs.NegotiateBase.RequestResponseErrors as request_response
 use Rattle.iox_command.specs.NegotiateBase.declared.failure.CreateFailure.{CreateFailure}
 use Rattle.iox_command.specs.NegotiateBase.declared.failure.CreateFailure.TheVariants as uncreated
 use Rattle.iox_command.specs.NegotiateBase.declared.failure.OpenFailure.{OpenFailure}
@@ -30,11 +27,9 @@ use Rattle.iox_command.specs.NegotiateBase.declared.failure.OpenFailure.TheVaria
 use Rattle.iox_command.specs.NegotiateBase.declared.failure.OpenOrCreateFailure.{OpenOrCreateFailure}
 use Rattle.iox_command.specs.NegotiateBase.declared.failure.OpenOrCreateFailure.TheVariants as neither
 use Rattle.iox_command.specs.declared.refusal.Refusal.{Refusal}
-use Rattle.iox_command.specs.declared.refusal.Refusal.TheVariants as refusal
 use Rattle.iox_command.specs.declared.reply.Reply.{Reply}
 use Rattle.iox_command.specs.declared.reply.Reply.TheVariants as reply
 use Rattle.iox_command.specs.declared.service.ServiceOptions.{ServiceOptions}
-use Rattle.iox_command.specs.declared.service.ServiceOptions.TheVariants as options
 use Rattle.iox_command.specs.declared.step.ForeignStep.{ForeignStep}
 use Rattle.iox_command.specs.declared.step.StepBefore.{StepBefore}
 
@@ -352,39 +347,19 @@ module _ {T : Type 0} (types : MessageTypeDetails) (steps : List StepBefore) (fa
 
   pub open-settles : (named : ServiceOptions) (required : Required) → Entering
       → OpensService types steps factory named required old answer new → IsSettled
-  open-settles (options.PublishSubscribe named) required entering h =
-      settles (Opens types factory.pattern steps (Own factory.node) (publish_subscribe_verdict types required named))
-      (λ failure. refusal.PublishSubscribeOpen (publish_subscribe.open_error failure)) (λ is_new. unopened.OutOfMemory)
-      (opens-go types factory.pattern steps (Own factory.node) R Q acts (publish_subscribe_verdict types required named) entering) h
-  open-settles (options.Event named) required entering h =
-      settles (Opens types factory.pattern steps (Own factory.node) (event_verdict required named))
-      (λ failure. refusal.EventOpen (event.open_error failure)) (λ is_new. unopened.OutOfMemory)
-      (opens-go types factory.pattern steps (Own factory.node) R Q acts (event_verdict required named) entering) h
-  open-settles (options.RequestResponse named) required entering h =
-      settles (Opens types factory.pattern steps (Own factory.node) (request_response_verdict types required named))
-      (λ failure. refusal.RequestResponseOpen (request_response.open_error failure)) (λ is_new. unopened.OutOfMemory)
-      (opens-go types factory.pattern steps (Own factory.node) R Q acts (request_response_verdict types required named) entering) h
+  open-settles named required entering h =
+      settles (Opens types factory.pattern steps (Own factory.node) (verdict types named required))
+      (open_refusal named) (λ is_new. unopened.OutOfMemory)
+      (opens-go types factory.pattern steps (Own factory.node) R Q acts (verdict types named required) entering) h
 
   pub either-settles : (named : ServiceOptions) (required : Required) → Entering
       → ((lives : ℕ) → R (Absent lives) → R (Absent (lives + 1)))
       → ((lives : ℕ) → R (Absent lives)
       → Q (Published (lives + 1) (record { settings = settings_of types named; attributes = required.pairs }) ((Own factory.node, 1) ∷ [])))
       → OpensOrCreatesService types steps factory named required old answer new → IsSettled
-  either-settles (options.PublishSubscribe named) required entering lost won h =
-      settles (OpensOrCreates types factory.pattern steps (Own factory.node) (publish_subscribe_verdict types required named)
-      (record { settings = settings_of types (options.PublishSubscribe named); attributes = required.pairs }))
-      (λ failure. refusal.PublishSubscribeOpenOrCreate (publish_subscribe.open_or_create_error failure)) either_lacking
-      (opens-or-creates-go types factory.pattern steps (Own factory.node) R Q acts (publish_subscribe_verdict types required named) entering
-      (record { settings = settings_of types (options.PublishSubscribe named); attributes = required.pairs }) lost won) h
-  either-settles (options.Event named) required entering lost won h =
-      settles (OpensOrCreates types factory.pattern steps (Own factory.node) (event_verdict required named)
-      (record { settings = settings_of types (options.Event named); attributes = required.pairs }))
-      (λ failure. refusal.EventOpenOrCreate (event.open_or_create_error failure)) either_lacking
-      (opens-or-creates-go types factory.pattern steps (Own factory.node) R Q acts (event_verdict required named) entering
-      (record { settings = settings_of types (options.Event named); attributes = required.pairs }) lost won) h
-  either-settles (options.RequestResponse named) required entering lost won h =
-      settles (OpensOrCreates types factory.pattern steps (Own factory.node) (request_response_verdict types required named)
-      (record { settings = settings_of types (options.RequestResponse named); attributes = required.pairs }))
-      (λ failure. refusal.RequestResponseOpenOrCreate (request_response.open_or_create_error failure)) either_lacking
-      (opens-or-creates-go types factory.pattern steps (Own factory.node) R Q acts (request_response_verdict types required named) entering
-      (record { settings = settings_of types (options.RequestResponse named); attributes = required.pairs }) lost won) h
+  either-settles named required entering lost won h =
+      settles (OpensOrCreates types factory.pattern steps (Own factory.node) (verdict types named required)
+      (record { settings = settings_of types named; attributes = required.pairs }))
+      (either_refusal named) either_lacking
+      (opens-or-creates-go types factory.pattern steps (Own factory.node) R Q acts (verdict types named required) entering
+      (record { settings = settings_of types named; attributes = required.pairs }) lost won) h

@@ -8,7 +8,7 @@ use Rattle.iox_machine.specs.Choices.{Choices}
 use Rattle.iox_machine.specs.LossLaws.{IsDropped, IsPassedOver}
 use Rattle.iox_machine.specs.Message.{Loan, Message}
 use Rattle.iox_machine.specs.MessageLaws.{begun_by, first_in, next_message, received_by, sent_in, with_one}
-use Rattle.iox_machine.specs.Ports.{AtBlocked, AtFree, LendsLoan, Puts, SendsLoan, publisher_in, subscriber_in}
+use Rattle.iox_machine.specs.Ports.{LendsLoan, Puts, SendsLoan, publisher_in, subscriber_in}
 use Rattle.iox_machine.specs.RunLaws.{has_begun, sent_as, is_written, numbered}
 use Rattle.iox_machine.specs.Sending.{Sends}
 use Rattle.iox_machine.specs.SequenceLaws.{has_message, still_brought}
@@ -39,7 +39,7 @@ use Rattle.iox_command.specs.declared.command.Command.{Command}
 use Rattle.iox_command.specs.declared.command.Command.TheVariants as command
 use Rattle.iox_command.specs.declared.refusal.Refusal.{Refusal}
 use Rattle.iox_command.specs.declared.refusal.Refusal.TheVariants as refusal
-use Rattle.iox_machine.proofs.Shorthands.{IsSkipped, with_publisher}
+use Rattle.iox_machine.proofs.Shorthands.{IsSkipped, with_publisher, AtBlocked, AtFree}
 use Rattle.iox_command.specs.declared.reply.Reply.{Reply}
 
 module _ {T : Type 0} (p s : ℕ) where

@@ -10,8 +10,8 @@ use Rattle.iox_machine.specs.PublisherUpdate.{UpdateAnswers, UpdatesFirst}
 use Rattle.iox_machine.specs.Sending.{Begins, Delivers, GoesOn, MayDecide, Sends}
 use Rattle.iox_machine.specs.RunLaws.{numbered, has_begun}
 use Rattle.iox_machine.specs.Service.{Service, Publisher, Send, mailbox, with_mailbox}
-use Rattle.iox_machine.proofs.Shorthands.{with_publisher, IsRefused}
-use Rattle.iox_command.specs.DomainValues.Sequences.{is_used_up, next_sequence}
+use Rattle.iox_machine.proofs.Shorthands.{with_publisher, IsRefused, is_used_up}
+use Rattle.iox_command.specs.DomainValues.Sequences.{next_sequence}
 use Rattle.iox_command.specs.DomainValues.declared.backpressure.BackpressureDecision.{BackpressureDecision}
 use Rattle.iox_command.specs.DomainValues.declared.backpressure.BackpressureDecision.TheVariants.{Retry, DiscardData, DiscardDataAndFail}
 use Rattle.iox_command.specs.DomainValues.declared.connection_failure.ConnectionFailure.{ConnectionFailure}

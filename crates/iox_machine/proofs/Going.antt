@@ -7,35 +7,37 @@ use Rattle.std.specs.List.{AllByRecursion, list_any, list_all}
 use Rattle.std.specs.Prelude.{◌==◌, nat_lt, nat_le, is_some, filter, find, fold, slice_get, unwrap_or, zip, MatchBool, MatchOption}
 use Rattle.std.specs.Vec.{vec_items}
 use Rattle.iox_machine.proofs.Shorthands.{RefusesNode, factory_of, given_back, left, now_at, parting, registered, taken, with_subscriber}
+use Rattle.iox_machine.proofs.Shorthands.{either_lacking, has_data, Opens, OpensOrCreates, AtFree, AtBlocked, LendsLonger, gone_from}
+use Rattle.iox_machine.proofs.Shorthands.{is_used_up}
 use Rattle.iox_machine.specs.Choices.{Choices}
 use Rattle.iox_machine.proofs.AlwaysChosen.{answers-go, delivers-goes}
 use Rattle.iox_machine.proofs.Delivering.{Outcomes, keeping, sending}
 use Rattle.iox_machine.specs.PublisherUpdate.{UpdateAnswers}
-use Rattle.iox_machine.specs.Agreement.{unfit, event_verdict, publish_subscribe_verdict, request_response_verdict}
+use Rattle.iox_machine.specs.Agreement.{unfit, verdict}
 use Rattle.iox_machine.specs.Arriving.{PublisherArrives, SubscriberArrives, new_publisher, new_subscriber, worst_case}
 use Rattle.iox_machine.specs.Asked.{settings_of}
 use Rattle.iox_machine.specs.Closing.{Closes, is_used_by}
-use Rattle.iox_machine.specs.Factories.{Negotiates, Enters, CreatesService, OpensService, OpensOrCreatesService, create_refusal}
-use Rattle.iox_machine.specs.Factories.{either_lacking}
+use Rattle.iox_machine.specs.Factories.{Negotiates, Enters, CreatesService, OpensService, OpensOrCreatesService}
 use Rattle.iox_machine.specs.GoingLaws.{EachIsAnswered, AlwaysChoose}
-use Rattle.iox_machine.specs.Lending.{Lends, LendsLonger, loan_refusal}
-use Rattle.iox_machine.specs.Mailbox.{Mailbox, has_data}
+use Rattle.iox_machine.specs.Lending.{Lends, loan_refusal}
+use Rattle.iox_machine.specs.Mailbox.{Mailbox}
 use Rattle.iox_machine.specs.Message.{Message, Loan, Sample}
-use Rattle.iox_machine.specs.Negotiation.{Call, Answer, Creates, Opens, OpensOrCreates}
+use Rattle.iox_machine.specs.Negotiation.{Call, Answer, Creates}
 use Rattle.iox_machine.specs.Phase.{Own, acted, same_pattern}
 use Rattle.iox_machine.specs.PortList.{those, unless}
-use Rattle.iox_machine.specs.Ports.{AtFree, AtBlocked, publisher_in, subscriber_in, LendsLoan, Puts, SendsLoan, Writes, Releases}
+use Rattle.iox_machine.specs.Ports.{publisher_in, subscriber_in, LendsLoan, Puts, SendsLoan, Writes, Releases}
 use Rattle.iox_machine.specs.PublisherUpdate as publishing
-use Rattle.iox_machine.specs.Receiving.{Receives, Takes, IsGiver, gives, has_samples, lasting}
+use Rattle.iox_machine.specs.Receiving.{Receives, IsGiver, gives, has_samples, lasting, Takes}
 use Rattle.iox_machine.specs.Run.{Step, AtFactory}
 use Rattle.iox_machine.specs.RunLaws.{AllMessages, sent_as, is_written}
 use Rattle.iox_machine.specs.Sending.{GoesOn, Begins, Sends}
 use Rattle.iox_machine.specs.Service.{Service, Publisher, Subscriber, Send, mailbox, with_mailbox, connect}
 use Rattle.iox_machine.proofs.Shorthands.{with_publisher, IsSkipped, IsRefused, closed_by}
+use Rattle.iox_machine.specs.Refusals.{open_refusal, either_refusal, create_refusal}
 use Rattle.iox_machine.specs.State.{State, Factory, AtOne, is_service_of, counted, replaced, with_phase}
 use Rattle.std.specs.Prelude.{bytes_eq, MatchResult}
 use Rattle.iox_machine.specs.SubscriberUpdate as subscribing
-use Rattle.iox_machine.specs.SubscriberUpdate.{Parted, part, gone_from}
+use Rattle.iox_machine.specs.SubscriberUpdate.{Parted, part}
 use Rattle.iox_machine.specs.Table.{at, changed, contains, removed}
 use Rattle.iox_machine.proofs.Cases.{both-true}
 use Rattle.iox_machine.proofs.Lists.{all-at, first-of, fold-keeps}
@@ -52,9 +54,6 @@ use Rattle.iox_command.specs.DomainValues.declared.port_error.SendError.TheVaria
 use Rattle.iox_command.specs.NegotiateBase.DescribeBase.declared.message_type.MessageTypeDetails.{MessageTypeDetails}
 use Rattle.iox_command.specs.NegotiateBase.DescribeBase.Attributes.{Required}
 use Rattle.iox_command.specs.NegotiateBase.DescribeBase.declared.attribute.Attribute.{Attribute}
-use Rattle.iox_command.specs.NegotiateBase.EventErrors as event
-use Rattle.iox_command.specs.NegotiateBase.PublishSubscribeErrors as publish_subscribe
-use Rattle.iox_command.specs.NegotiateBase.RequestResponseErrors as request_response
 use Rattle.iox_command.specs.NegotiateBase.declared.errors.close.CloseError.TheVariants.{StillInUse}
 use Rattle.iox_command.specs.NegotiateBase.declared.failure.CreateFailure.TheVariants as uncreated
 use Rattle.iox_command.specs.NegotiateBase.declared.failure.OpenFailure.TheVariants as unopened
@@ -67,10 +66,8 @@ use Rattle.iox_command.specs.declared.refusal.Refusal.TheVariants as refusal
 use Rattle.iox_command.specs.declared.reply.Reply.{Reply}
 use Rattle.iox_command.specs.declared.reply.Reply.TheVariants as reply
 use Rattle.iox_command.specs.declared.service.ServiceOptions.{ServiceOptions}
-use Rattle.iox_command.specs.declared.service.ServiceOptions.TheVariants as options
 use Rattle.iox_command.specs.declared.step.StepBefore.{StepBefore}
 use Rattle.iox_command.specs.DomainValues.declared.degradation.DegradationAction.{DegradationAction}
-use Rattle.iox_command.specs.DomainValues.Sequences.{is_used_up}
 
 -- ---- cases
 
@@ -592,30 +589,16 @@ module _ {T : Type 0} (choices : Choices T) (always : AlwaysChoose choices) wher
 
     opening-goes : (steps : List StepBefore) (factory : Factory) (named : ServiceOptions) (required : Required) (old : State T)
         → Answered (OpensService types steps factory named required old)
-    opening-goes steps factory (options.PublishSubscribe named) required old =
-        negotiation-goes (Opens types factory.pattern steps (Own factory.node) (publish_subscribe_verdict types required named))
-        (λ failure. refusal.PublishSubscribeOpen (publish_subscribe.open_error failure)) (λ is_new. unopened.OutOfMemory) factory old
-    opening-goes steps factory (options.Event named) required old =
-        negotiation-goes (Opens types factory.pattern steps (Own factory.node) (event_verdict required named))
-        (λ failure. refusal.EventOpen (event.open_error failure)) (λ is_new. unopened.OutOfMemory) factory old
-    opening-goes steps factory (options.RequestResponse named) required old =
-        negotiation-goes (Opens types factory.pattern steps (Own factory.node) (request_response_verdict types required named))
-        (λ failure. refusal.RequestResponseOpen (request_response.open_error failure)) (λ is_new. unopened.OutOfMemory) factory old
+    opening-goes steps factory named required old =
+        negotiation-goes (Opens types factory.pattern steps (Own factory.node) (verdict types named required))
+        (open_refusal named) (λ is_new. unopened.OutOfMemory) factory old
 
     either-goes : (steps : List StepBefore) (factory : Factory) (named : ServiceOptions) (required : Required) (old : State T)
         → Answered (OpensOrCreatesService types steps factory named required old)
-    either-goes steps factory (options.PublishSubscribe named) required old =
-        negotiation-goes (OpensOrCreates types factory.pattern steps (Own factory.node) (publish_subscribe_verdict types required named)
-        (record { settings = settings_of types (options.PublishSubscribe named); attributes = required.pairs }))
-        (λ failure. refusal.PublishSubscribeOpenOrCreate (publish_subscribe.open_or_create_error failure)) either_lacking factory old
-    either-goes steps factory (options.Event named) required old =
-        negotiation-goes (OpensOrCreates types factory.pattern steps (Own factory.node) (event_verdict required named)
-        (record { settings = settings_of types (options.Event named); attributes = required.pairs }))
-        (λ failure. refusal.EventOpenOrCreate (event.open_or_create_error failure)) either_lacking factory old
-    either-goes steps factory (options.RequestResponse named) required old =
-        negotiation-goes (OpensOrCreates types factory.pattern steps (Own factory.node) (request_response_verdict types required named)
-        (record { settings = settings_of types (options.RequestResponse named); attributes = required.pairs }))
-        (λ failure. refusal.RequestResponseOpenOrCreate (request_response.open_or_create_error failure)) either_lacking factory old
+    either-goes steps factory named required old =
+        negotiation-goes (OpensOrCreates types factory.pattern steps (Own factory.node) (verdict types named required)
+        (record { settings = settings_of types named; attributes = required.pairs }))
+        (either_refusal named) either_lacking factory old
 
     -- What each command comes to.
     goes : (old : State T) → AllByRecursion (AllMessages (λ publisher message. Fits message)) old.services → (asked : Command T)

@@ -7,7 +7,7 @@ use Rattle.std.specs.List.{AllByRecursion, list_any}
 use Rattle.std.specs.Option.{option_map_or}
 use Rattle.std.specs.Prelude.{◌==◌, nat_lt, is_some, find, filter, fold, MatchOption, bytes_eq}
 use Rattle.std.specs.Vec.{vec_items}
-use Rattle.iox_machine.proofs.Shorthands.{factory_of, left, with_subscriber, with_publisher, IsRefused, IsSkipped}
+use Rattle.iox_machine.proofs.Shorthands.{factory_of, left, with_subscriber, with_publisher, IsRefused, IsSkipped, AtFree, AtBlocked}
 use Rattle.iox_machine.specs.Choices.{Choices}
 use Rattle.iox_machine.specs.Arriving.{PublisherArrives, SubscriberArrives, new_publisher, new_subscriber}
 use Rattle.iox_machine.specs.Closing.{is_used_by}
@@ -16,7 +16,7 @@ use Rattle.iox_machine.specs.Message.{Loan, Sample}
 use Rattle.iox_machine.specs.RunLaws.{is_written}
 use Rattle.iox_machine.specs.MessageLaws.{is_release_of, HeldIsRead}
 use Rattle.iox_machine.specs.Phase.{Phase, Absent, BeingMade, Published, Emptied, acted, same_pattern}
-use Rattle.iox_machine.specs.Ports.{AtFree, AtBlocked, publisher_in, subscriber_in, LendsLoan, Puts, SendsLoan, Writes, Releases}
+use Rattle.iox_machine.specs.Ports.{publisher_in, subscriber_in, LendsLoan, Puts, SendsLoan, Writes, Releases}
 use Rattle.iox_machine.specs.PublisherUpdate as publishing
 use Rattle.iox_machine.specs.Receiving.{Receives, has_samples, lasting}
 use Rattle.iox_machine.specs.Run.{Step, Runs, AtFactory}

@@ -16,7 +16,7 @@ use Rattle.iox_machine.specs.NumberLaws.{publisher_told, subscriber_told, loan_t
 use Rattle.iox_machine.specs.PortList.{those, unless}
 use Rattle.iox_machine.specs.Ports.{LendsLoan, Puts, SendsLoan, Writes, Releases}
 use Rattle.iox_machine.specs.PublisherUpdate as publishing
-use Rattle.iox_machine.specs.Receiving.{Receives, Takes, lasting, has_samples}
+use Rattle.iox_machine.specs.Receiving.{Receives, lasting, has_samples, Takes}
 use Rattle.iox_machine.specs.Sending.{GoesOn, Begins, Sends}
 use Rattle.iox_machine.specs.Service.{Service, Publisher, Subscriber, Send, mailbox, with_mailbox, connect}
 use Rattle.iox_machine.specs.State.{Made}

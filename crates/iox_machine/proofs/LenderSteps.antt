@@ -7,7 +7,8 @@ use Rattle.std.specs.List.{AllByRecursion, list_any}
 use Rattle.std.specs.Option.{option_map_or}
 use Rattle.std.specs.Prelude.{◌==◌, nat_lt, is_some, find, filter, fold, option_and_then, option_map, MatchOption, zip, bytes_eq}
 use Rattle.std.specs.Vec.{vec_items}
-use Rattle.iox_machine.proofs.Shorthands.{factory_of, left, registered, with_subscriber, with_publisher, IsRefused, IsSkipped}
+use Rattle.iox_machine.proofs.Shorthands.{factory_of, left, registered, with_subscriber, with_publisher, IsRefused, IsSkipped, AtFree}
+use Rattle.iox_machine.proofs.Shorthands.{AtBlocked}
 use Rattle.iox_machine.specs.Choices.{Choices}
 use Rattle.iox_machine.proofs.Delivering.{Outcomes, by-outcome}
 use Rattle.iox_machine.specs.Arriving.{PublisherArrives, SubscriberArrives, new_publisher, new_subscriber}
@@ -15,7 +16,7 @@ use Rattle.iox_machine.specs.Closing.{is_used_by}
 use Rattle.iox_machine.specs.Message.{Loan, Sample}
 use Rattle.iox_machine.specs.RunLaws.{is_written}
 use Rattle.iox_machine.specs.Phase.{acted, same_pattern}
-use Rattle.iox_machine.specs.Ports.{AtFree, AtBlocked, publisher_in, subscriber_in, LendsLoan, Puts, SendsLoan, Writes, Releases}
+use Rattle.iox_machine.specs.Ports.{publisher_in, subscriber_in, LendsLoan, Puts, SendsLoan, Writes, Releases}
 use Rattle.iox_machine.specs.PublisherUpdate as publishing
 use Rattle.iox_machine.specs.Receiving.{Receives, has_samples}
 use Rattle.iox_machine.specs.Run.{Step, Runs, AtFactory}

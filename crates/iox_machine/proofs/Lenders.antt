@@ -7,7 +7,7 @@ use Rattle.std.specs.Prelude.{◌==◌, nat_lt, is_some, filter, fold, slice_get
 use Rattle.iox_machine.specs.Choices.{Choices}
 use Rattle.iox_machine.proofs.Delivering.{Outcomes, by-outcome, first_of, offered, deliver, goes-on-so, keeping, at_once, by-send, sending}
 use Rattle.iox_machine.specs.Arriving.{PublisherArrives}
-use Rattle.iox_machine.specs.Lending.{Lends, LendsLonger, loan_refusal}
+use Rattle.iox_machine.specs.Lending.{Lends, loan_refusal}
 use Rattle.iox_machine.specs.Mailbox.{Mailbox, newest, put}
 use Rattle.iox_machine.specs.Message.{Loan, Message}
 use Rattle.iox_machine.specs.RunLaws.{is_written, sent_as}
@@ -16,7 +16,7 @@ use Rattle.iox_machine.specs.Ports.{LendsLoan, Puts, SendsLoan, Writes}
 use Rattle.iox_machine.specs.PublisherUpdate as publishing
 use Rattle.iox_machine.specs.Sending.{Begins, GoesOn, Sends}
 use Rattle.iox_machine.specs.Service.{Publisher, Send, Service, Subscriber, connect, mailbox, with_mailbox}
-use Rattle.iox_machine.proofs.Shorthands.{with_publisher, registered, IsSkipped, IsRefused}
+use Rattle.iox_machine.proofs.Shorthands.{with_publisher, registered, IsSkipped, IsRefused, LendsLonger}
 use Rattle.iox_machine.specs.State.{Factory}
 use Rattle.iox_machine.specs.Table.{at, changed, contains, removed}
 use Rattle.iox_machine.specs.UseLaws.{IsOpen}

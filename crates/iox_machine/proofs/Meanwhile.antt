@@ -3,14 +3,15 @@ use Rattle.std.proofs.Common.{◌≡◌, ◌⊎◌, ◌+◌, ℕ, zero, suc, Boo
 use Rattle.std.proofs.Common.{Some, Result, Ok, Err, refl, sym, ap, subst, inl, inr, arith, ◌∙◌, append-nil, true≢false}
 use Rattle.std.specs.Prelude.{◌==◌, nat_le, nat_lt, fold, MatchResult}
 use Rattle.iox_machine.specs.Choices.{Choices}
-use Rattle.iox_machine.specs.Agreement.{Agreement, unfit, event_verdict, publish_subscribe_verdict, request_response_verdict}
+use Rattle.iox_machine.specs.Agreement.{Agreement, unfit, verdict}
 use Rattle.iox_machine.specs.Asked.{settings_of}
-use Rattle.iox_machine.specs.Factories.{Negotiates, Enters, OpensService, OpensOrCreatesService, create_refusal, either_lacking}
-use Rattle.iox_machine.specs.Negotiation.{Call, Answer, Fails, Rounds, Access, Locks, CreateLooks, Creates, OpensFound, OpenLooks, Opens}
-use Rattle.iox_machine.specs.Negotiation.{EitherLooks, OpensOrCreates, registered, opened, created}
+use Rattle.iox_machine.specs.Factories.{Negotiates, Enters, OpensService, OpensOrCreatesService}
+use Rattle.iox_machine.specs.Negotiation.{Call, Answer, Fails, Rounds, Access, Locks, CreateLooks, Creates, OpensFound, OpenLooks}
+use Rattle.iox_machine.specs.Negotiation.{EitherLooks, registered, created}
 use Rattle.iox_machine.specs.Phase.{Own, Phase, Absent, BeingMade, Published, Emptied, is_in, entered, acted}
 use Rattle.iox_machine.specs.RefusalLaws.{IsAsBefore, IsLeftBySteps, RefusedCallsLeaveSteps, steps_at, steps_through}
-use Rattle.iox_machine.proofs.Shorthands.{IsSkipped, IsRefused, closed_by, factory_of}
+use Rattle.iox_machine.proofs.Shorthands.{IsSkipped, IsRefused, closed_by, factory_of, either_lacking, Opens, OpensOrCreates, opened}
+use Rattle.iox_machine.specs.Refusals.{open_refusal, either_refusal, create_refusal}
 use Rattle.iox_machine.specs.State.{State, Factory, new_state, with_phase}
 use Rattle.iox_machine.proofs.Cases.{by-bool, by-option, by-result}
 use Rattle.iox_machine.proofs.Unfit.{by-fitness}
@@ -20,9 +21,6 @@ use Rattle.iox_command.specs.NegotiateBase.DescribeBase.Attributes.{Required}
 use Rattle.iox_command.specs.NegotiateBase.DescribeBase.declared.message_type.MessageTypeDetails.{MessageTypeDetails}
 use Rattle.iox_command.specs.NegotiateBase.DescribeBase.declared.pattern.MessagingPattern.{MessagingPattern}
 use Rattle.iox_command.specs.NegotiateBase.DescribeSettings.Agreement.{max_nodes_of}
-use Rattle.iox_command.specs.NegotiateBase.EventErrors as event
-use Rattle.iox_command.specs.NegotiateBase.PublishSubscribeErrors as publish_subscribe
-use Rattle.iox_command.specs.NegotiateBase.RequestResponseErrors as request_response
 use Rattle.iox_command.specs.NegotiateBase.declared.failure.CreateFailure.{CreateFailure}
 use Rattle.iox_command.specs.NegotiateBase.declared.failure.CreateFailure.TheVariants as uncreated
 use Rattle.iox_command.specs.NegotiateBase.declared.failure.OpenFailure.{OpenFailure}
@@ -32,11 +30,9 @@ use Rattle.iox_command.specs.NegotiateBase.declared.failure.OpenOrCreateFailure.
 use Rattle.iox_command.specs.Patterns.{pattern_of}
 use Rattle.iox_command.specs.declared.command.Command.TheVariants as command
 use Rattle.iox_command.specs.declared.refusal.Refusal.{Refusal}
-use Rattle.iox_command.specs.declared.refusal.Refusal.TheVariants as refusal
 use Rattle.iox_command.specs.declared.reply.Reply.{Reply}
 use Rattle.iox_command.specs.declared.reply.Reply.TheVariants as reply
 use Rattle.iox_command.specs.declared.service.ServiceOptions.{ServiceOptions}
-use Rattle.iox_command.specs.declared.service.ServiceOptions.TheVariants as options
 use Rattle.iox_command.specs.declared.step.ForeignStep.{ForeignStep}
 use Rattle.iox_command.specs.declared.step.StepBefore.{StepBefore}
 
@@ -383,47 +379,22 @@ module _ {T : Type 0} (types : MessageTypeDetails) (steps : List StepBefore) (fa
 
   open-leaves : (named : ServiceOptions) (required : Required)
       → OpensService types steps factory named required old (reply.Refused why) new → IsLeftSo (new.phases factory.pattern factory.name)
-  open-leaves (options.PublishSubscribe named) required h =
-      settles (Opens types factory.pattern steps (Own factory.node) (publish_subscribe_verdict types required named))
-      (λ failure. refusal.PublishSubscribeOpen (publish_subscribe.open_error failure)) (λ is_new. unopened.OutOfMemory)
-      (λ answer after went. opens-go types factory.pattern steps factory.node start whole (publish_subscribe_verdict types required named)
-      (record { phase = start; accesses = 0 }) answer after refl went) h
-  open-leaves (options.Event named) required h =
-      settles (Opens types factory.pattern steps (Own factory.node) (event_verdict required named))
-      (λ failure. refusal.EventOpen (event.open_error failure)) (λ is_new. unopened.OutOfMemory)
-      (λ answer after went. opens-go types factory.pattern steps factory.node start whole (event_verdict required named)
-      (record { phase = start; accesses = 0 }) answer after refl went) h
-  open-leaves (options.RequestResponse named) required h =
-      settles (Opens types factory.pattern steps (Own factory.node) (request_response_verdict types required named))
-      (λ failure. refusal.RequestResponseOpen (request_response.open_error failure)) (λ is_new. unopened.OutOfMemory)
-      (λ answer after went. opens-go types factory.pattern steps factory.node start whole (request_response_verdict types required named)
+  open-leaves named required h =
+      settles (Opens types factory.pattern steps (Own factory.node) (verdict types named required))
+      (open_refusal named) (λ is_new. unopened.OutOfMemory)
+      (λ answer after went. opens-go types factory.pattern steps factory.node start whole (verdict types named required)
       (record { phase = start; accesses = 0 }) answer after refl went) h
 
   either-leaves : (named : ServiceOptions) (required : Required)
       → OpensOrCreatesService types steps factory named required old (reply.Refused why) new
       → IsLeftSo (new.phases factory.pattern factory.name)
-  either-leaves (options.PublishSubscribe named) required h =
-      settles (OpensOrCreates types factory.pattern steps (Own factory.node) (publish_subscribe_verdict types required named)
-      (record { settings = settings_of types (options.PublishSubscribe named); attributes = required.pairs }))
-      (λ failure. refusal.PublishSubscribeOpenOrCreate (publish_subscribe.open_or_create_error failure)) either_lacking
+  either-leaves named required h =
+      settles (OpensOrCreates types factory.pattern steps (Own factory.node) (verdict types named required)
+      (record { settings = settings_of types named; attributes = required.pairs }))
+      (either_refusal named) either_lacking
       (λ answer after went. opens-or-creates-go types factory.pattern steps factory.node start whole
-      (publish_subscribe_verdict types required named)
-      (record { settings = settings_of types (options.PublishSubscribe named); attributes = required.pairs })
-      (record { phase = start; accesses = 0 }) answer after refl went) h
-  either-leaves (options.Event named) required h =
-      settles (OpensOrCreates types factory.pattern steps (Own factory.node) (event_verdict required named)
-      (record { settings = settings_of types (options.Event named); attributes = required.pairs }))
-      (λ failure. refusal.EventOpenOrCreate (event.open_or_create_error failure)) either_lacking
-      (λ answer after went. opens-or-creates-go types factory.pattern steps factory.node start whole (event_verdict required named)
-      (record { settings = settings_of types (options.Event named); attributes = required.pairs })
-      (record { phase = start; accesses = 0 }) answer after refl went) h
-  either-leaves (options.RequestResponse named) required h =
-      settles (OpensOrCreates types factory.pattern steps (Own factory.node) (request_response_verdict types required named)
-      (record { settings = settings_of types (options.RequestResponse named); attributes = required.pairs }))
-      (λ failure. refusal.RequestResponseOpenOrCreate (request_response.open_or_create_error failure)) either_lacking
-      (λ answer after went. opens-or-creates-go types factory.pattern steps factory.node start whole
-      (request_response_verdict types required named)
-      (record { settings = settings_of types (options.RequestResponse named); attributes = required.pairs })
+      (verdict types named required)
+      (record { settings = settings_of types named; attributes = required.pairs })
       (record { phase = start; accesses = 0 }) answer after refl went) h
 
 at-same : {T : Type 0} (types : MessageTypeDetails) (old new : State T) (one pattern : MessagingPattern) (other name : List ℕ)

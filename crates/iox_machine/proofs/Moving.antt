@@ -3,15 +3,15 @@ use Rattle.std.proofs.Common.{◌≡◌, ◌⊎◌, ◌+◌, ℕ, Bool, true, fa
 use Rattle.std.proofs.Common.{ap, subst, inl, inr, ◌∙◌}
 use Rattle.std.specs.List.{AllByRecursion, list_any}
 use Rattle.std.specs.Prelude.{nat_le, is_some, find, filter, not, MatchBool, MatchOption, MatchResult, bytes_eq}
-use Rattle.iox_machine.specs.Agreement.{event_verdict, publish_subscribe_verdict, request_response_verdict}
+use Rattle.iox_machine.specs.Agreement.{verdict}
 use Rattle.iox_machine.specs.Asked.{settings_of}
 use Rattle.iox_machine.specs.Closing.{Closes, is_used_by}
 use Rattle.iox_machine.specs.Factories.{Negotiates, Enters, CreatesService, OpensService, OpensOrCreatesService, with_open}
-use Rattle.iox_machine.specs.Factories.{create_refusal, either_lacking}
-use Rattle.iox_machine.specs.Negotiation.{Call, Answer, Creates, Opens, OpensOrCreates}
+use Rattle.iox_machine.specs.Negotiation.{Call, Answer, Creates}
 use Rattle.iox_machine.specs.Phase.{Own, Phase, Absent, BeingMade, Published, Emptied, same_pattern}
-use Rattle.iox_machine.proofs.Shorthands.{IsSkipped, IsRefused, closed_by}
+use Rattle.iox_machine.proofs.Shorthands.{IsSkipped, IsRefused, closed_by, either_lacking, Opens, OpensOrCreates}
 use Rattle.iox_machine.specs.Service.{Service, new_service}
+use Rattle.iox_machine.specs.Refusals.{open_refusal, either_refusal, create_refusal}
 use Rattle.iox_machine.specs.State.{State, Factory, AtOne, replaced, counted, with_phase, is_service_of}
 use Rattle.iox_machine.specs.Table.{at, removed}
 use Rattle.iox_machine.proofs.Cases.{by-bool, by-option, same-some, never-some}
@@ -23,9 +23,6 @@ use Rattle.iox_command.specs.NegotiateBase.DescribeBase.declared.message_type.Me
 use Rattle.iox_command.specs.NegotiateBase.DescribeSettings.declared.static_config.Settings.{Settings}
 use Rattle.iox_command.specs.NegotiateBase.DescribeSettings.declared.static_config.Settings.TheVariants as settings
 use Rattle.iox_command.specs.NegotiateBase.DescribeSettings.declared.static_config.publish_subscribe.StaticConfig.{StaticConfig}
-use Rattle.iox_command.specs.NegotiateBase.EventErrors as event
-use Rattle.iox_command.specs.NegotiateBase.PublishSubscribeErrors as publish_subscribe
-use Rattle.iox_command.specs.NegotiateBase.RequestResponseErrors as request_response
 use Rattle.iox_command.specs.NegotiateBase.declared.failure.CreateFailure.TheVariants as uncreated
 use Rattle.iox_command.specs.NegotiateBase.declared.failure.OpenFailure.TheVariants as unopened
 use Rattle.iox_command.specs.NegotiateBase.declared.errors.close.CloseError.TheVariants.{StillInUse}
@@ -34,7 +31,6 @@ use Rattle.iox_command.specs.declared.refusal.Refusal.TheVariants as refusal
 use Rattle.iox_command.specs.declared.reply.Reply.{Reply}
 use Rattle.iox_command.specs.declared.reply.Reply.TheVariants as reply
 use Rattle.iox_command.specs.declared.service.ServiceOptions.{ServiceOptions}
-use Rattle.iox_command.specs.declared.service.ServiceOptions.TheVariants as options
 use Rattle.iox_command.specs.declared.step.StepBefore.{StepBefore}
 
 module _ {T : Type 0} where
@@ -208,35 +204,18 @@ module _ {T : Type 0} where
 
     pub opens : (named : ServiceOptions) (required : Required) → OpensService types steps factory named required old answer new
         → IsNegotiated factory old answer new
-    opens (options.PublishSubscribe named) required h =
-        negotiated (Opens types factory.pattern steps (Own factory.node) (publish_subscribe_verdict types required named))
-        (λ failure. refusal.PublishSubscribeOpen (publish_subscribe.open_error failure))
-        (λ is_new. unopened.OutOfMemory) factory old answer new h
-    opens (options.Event named) required h =
-        negotiated (Opens types factory.pattern steps (Own factory.node) (event_verdict required named))
-        (λ failure. refusal.EventOpen (event.open_error failure)) (λ is_new. unopened.OutOfMemory) factory old answer new h
-    opens (options.RequestResponse named) required h =
-        negotiated (Opens types factory.pattern steps (Own factory.node) (request_response_verdict types required named))
-        (λ failure. refusal.RequestResponseOpen (request_response.open_error failure))
+    opens named required h =
+        negotiated (Opens types factory.pattern steps (Own factory.node) (verdict types named required))
+        (open_refusal named)
         (λ is_new. unopened.OutOfMemory) factory old answer new h
 
     pub opens-or-creates : (named : ServiceOptions) (required : Required)
         → OpensOrCreatesService types steps factory named required old answer new
         → IsNegotiated factory old answer new
-    opens-or-creates (options.PublishSubscribe named) required h =
-        negotiated (OpensOrCreates types factory.pattern steps (Own factory.node) (publish_subscribe_verdict types required named)
-        (record { settings = settings_of types (options.PublishSubscribe named); attributes = required.pairs }))
-        (λ failure. refusal.PublishSubscribeOpenOrCreate
-        (publish_subscribe.open_or_create_error failure)) either_lacking factory old answer new h
-    opens-or-creates (options.Event named) required h =
-        negotiated (OpensOrCreates types factory.pattern steps (Own factory.node) (event_verdict required named)
-        (record { settings = settings_of types (options.Event named); attributes = required.pairs }))
-        (λ failure. refusal.EventOpenOrCreate (event.open_or_create_error failure)) either_lacking factory old answer new h
-    opens-or-creates (options.RequestResponse named) required h =
-        negotiated (OpensOrCreates types factory.pattern steps (Own factory.node) (request_response_verdict types required named)
-        (record { settings = settings_of types (options.RequestResponse named); attributes = required.pairs }))
-        (λ failure. refusal.RequestResponseOpenOrCreate
-        (request_response.open_or_create_error failure)) either_lacking factory old answer new h
+    opens-or-creates named required h =
+        negotiated (OpensOrCreates types factory.pattern steps (Own factory.node) (verdict types named required)
+        (record { settings = settings_of types named; attributes = required.pairs }))
+        (either_refusal named) either_lacking factory old answer new h
 
   -- ---- services that begin
 

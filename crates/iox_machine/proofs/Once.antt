@@ -5,7 +5,7 @@ use Rattle.std.specs.Global.{Vec}
 use Rattle.std.specs.List.{cons_option, list_any}
 use Rattle.std.specs.Prelude.{◌==◌, nat_lt, find, is_some, filter, filter_map, fold, option_map, take, MatchOption, bytes_eq}
 use Rattle.std.specs.Vec.{vec_items}
-use Rattle.iox_machine.proofs.Shorthands.{factory_of, left, with_subscriber, with_publisher, closed_by, IsSkipped}
+use Rattle.iox_machine.proofs.Shorthands.{factory_of, left, with_subscriber, with_publisher, closed_by, IsSkipped, AtFree, AtBlocked}
 use Rattle.iox_machine.specs.Choices.{Choices}
 use Rattle.iox_machine.specs.Arriving.{PublisherArrives, SubscriberArrives, new_publisher, new_subscriber}
 use Rattle.iox_machine.specs.Factories.{with_open}
@@ -14,7 +14,7 @@ use Rattle.iox_machine.specs.MessageLaws.{IsPartOf, begun_by, first_in, next_mes
 use Rattle.iox_machine.specs.NumberLaws.{loan_told, numbers_in, publisher_told}
 use Rattle.iox_machine.specs.OnceLaws.{MessagesGoOnce}
 use Rattle.iox_machine.specs.Phase.{acted, same_pattern}
-use Rattle.iox_machine.specs.Ports.{AtFree, AtBlocked, LendsLoan, Puts, Releases, SendsLoan, Writes, publisher_in, subscriber_in}
+use Rattle.iox_machine.specs.Ports.{LendsLoan, Puts, Releases, SendsLoan, Writes, publisher_in, subscriber_in}
 use Rattle.iox_machine.specs.PublisherUpdate as publishing
 use Rattle.iox_machine.specs.Receiving.{Receives, has_samples}
 use Rattle.iox_machine.specs.Run.{AtFactory, Runs, Step}

@@ -4,15 +4,16 @@ use Rattle.std.proofs.Common.{None, Some, Result, Ok, Err, arith, refl, sym, ap,
 use Rattle.std.proofs.lemmas.Bool.{eqb-true}
 use Rattle.std.specs.Prelude.{◌==◌, filter, fold, nat_le, nat_lt, unwrap_or, MatchResult}
 use Rattle.iox_machine.specs.Choices.{Choices}
-use Rattle.iox_machine.specs.Agreement.{Agreement, event_verdict, publish_subscribe_verdict, request_response_verdict, unfit}
+use Rattle.iox_machine.specs.Agreement.{Agreement, verdict, unfit}
 use Rattle.iox_machine.specs.AgreementLaws.{agreed_in, life_of}
 use Rattle.iox_machine.specs.Asked.{settings_of}
-use Rattle.iox_machine.specs.Factories.{Enters, Negotiates, either_lacking}
-use Rattle.iox_machine.specs.Negotiation.{Access, Answer, Call, EitherLooks, Fails, Locks, OpenLooks, Opens, OpensFound, OpensOrCreates}
-use Rattle.iox_machine.specs.Negotiation.{Rounds, created, opened, registered}
+use Rattle.iox_machine.specs.Factories.{Enters, Negotiates}
+use Rattle.iox_machine.specs.Negotiation.{Access, Answer, Call, EitherLooks, Fails, Locks, OpenLooks, OpensFound}
+use Rattle.iox_machine.specs.Negotiation.{Rounds, created, registered}
 use Rattle.iox_machine.specs.OpeningLaws.{EitherMeetsAsked, EitherNamesUnmet, IsAgreedOn, IsNewWith, NamesUnmet, OpenedMeetsAsked}
 use Rattle.iox_machine.specs.Phase.{Absent, BeingMade, Emptied, Node, Own, Phase, Published, acted, entered, is_in}
-use Rattle.iox_machine.proofs.Shorthands.{IsSkipped, IsRefused, factory_of}
+use Rattle.iox_machine.proofs.Shorthands.{IsSkipped, IsRefused, factory_of, either_lacking, Opens, OpensOrCreates, opened}
+use Rattle.iox_machine.specs.Refusals.{open_refusal, either_refusal}
 use Rattle.iox_machine.specs.State.{Factory, State, with_phase}
 use Rattle.iox_machine.proofs.Calls.{fold-all}
 use Rattle.iox_machine.proofs.Cases.{by-bool, by-option, by-result}
@@ -21,9 +22,6 @@ use Rattle.iox_machine.proofs.Phases.{Since, each-all, since-acted, since-itself
 use Rattle.iox_command.specs.NegotiateBase.DescribeBase.declared.message_type.MessageTypeDetails.{MessageTypeDetails}
 use Rattle.iox_command.specs.NegotiateBase.DescribeBase.declared.pattern.MessagingPattern.{MessagingPattern}
 use Rattle.iox_command.specs.NegotiateBase.DescribeSettings.Agreement.{max_nodes_of}
-use Rattle.iox_command.specs.NegotiateBase.EventErrors as event
-use Rattle.iox_command.specs.NegotiateBase.PublishSubscribeErrors as publish_subscribe
-use Rattle.iox_command.specs.NegotiateBase.RequestResponseErrors as request_response
 use Rattle.iox_command.specs.NegotiateBase.declared.failure.CreateFailure.{CreateFailure}
 use Rattle.iox_command.specs.NegotiateBase.declared.failure.CreateFailure.TheVariants as uncreated
 use Rattle.iox_command.specs.NegotiateBase.declared.failure.OpenFailure.{OpenFailure}
@@ -31,10 +29,8 @@ use Rattle.iox_command.specs.NegotiateBase.declared.failure.OpenFailure.TheVaria
 use Rattle.iox_command.specs.NegotiateBase.declared.failure.OpenOrCreateFailure.{OpenOrCreateFailure}
 use Rattle.iox_command.specs.NegotiateBase.declared.failure.OpenOrCreateFailure.TheVariants as neither
 use Rattle.iox_command.specs.declared.refusal.Refusal.{Refusal}
-use Rattle.iox_command.specs.declared.refusal.Refusal.TheVariants as refusal
 use Rattle.iox_command.specs.declared.reply.Reply.{Reply}
 use Rattle.iox_command.specs.declared.reply.Reply.TheVariants as reply
-use Rattle.iox_command.specs.declared.service.ServiceOptions.TheVariants as options
 use Rattle.iox_command.specs.declared.step.ForeignStep.{ForeignStep}
 use Rattle.iox_command.specs.declared.step.StepBefore.{StepBefore}
 
@@ -370,26 +366,12 @@ module _ {T : Type 0} where
         (record { phase = old.phases factory.pattern factory.name; accesses = 0 }) (Some (Err failure)) after (omega arith) went) h
 
 pub opened-meets-asked : {T : Type 0} (choices : Choices T) → OpenedMeetsAsked choices
-opened-meets-asked choices types buffer node name (options.PublishSubscribe named) required steps old answer new h =
-    opening-so types steps (factory_of node name (options.PublishSubscribe named)) (publish_subscribe_verdict types required named) old
-    answer new (λ failure. refusal.PublishSubscribeOpen (publish_subscribe.open_error failure)) h
-opened-meets-asked choices types buffer node name (options.Event named) required steps old answer new h =
-    opening-so types steps (factory_of node name (options.Event named)) (event_verdict required named) old answer new
-    (λ failure. refusal.EventOpen (event.open_error failure)) h
-opened-meets-asked choices types buffer node name (options.RequestResponse named) required steps old answer new h =
-    opening-so types steps (factory_of node name (options.RequestResponse named)) (request_response_verdict types required named) old
-    answer new (λ failure. refusal.RequestResponseOpen (request_response.open_error failure)) h
+opened-meets-asked choices types buffer node name named required steps old answer new h =
+    opening-so types steps (factory_of node name named) (verdict types named required) old
+    answer new (open_refusal named) h
 
 pub either-meets-asked : {T : Type 0} (choices : Choices T) → EitherMeetsAsked choices
-either-meets-asked choices types buffer node name (options.PublishSubscribe named) required steps old answer new h =
-    either-opening-so types steps (factory_of node name (options.PublishSubscribe named)) (publish_subscribe_verdict types required named)
-    old answer new (record { settings = settings_of types (options.PublishSubscribe named); attributes = required.pairs })
-    (λ failure. refusal.PublishSubscribeOpenOrCreate (publish_subscribe.open_or_create_error failure)) h
-either-meets-asked choices types buffer node name (options.Event named) required steps old answer new h =
-    either-opening-so types steps (factory_of node name (options.Event named)) (event_verdict required named) old answer new
-    (record { settings = settings_of types (options.Event named); attributes = required.pairs })
-    (λ failure. refusal.EventOpenOrCreate (event.open_or_create_error failure)) h
-either-meets-asked choices types buffer node name (options.RequestResponse named) required steps old answer new h =
-    either-opening-so types steps (factory_of node name (options.RequestResponse named)) (request_response_verdict types required named)
-    old answer new (record { settings = settings_of types (options.RequestResponse named); attributes = required.pairs })
-    (λ failure. refusal.RequestResponseOpenOrCreate (request_response.open_or_create_error failure)) h
+either-meets-asked choices types buffer node name named required steps old answer new h =
+    either-opening-so types steps (factory_of node name named) (verdict types named required)
+    old answer new (record { settings = settings_of types named; attributes = required.pairs })
+    (either_refusal named) h

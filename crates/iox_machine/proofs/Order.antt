@@ -10,7 +10,7 @@ use Rattle.std.specs.Prelude.{drop, zip}
 use Rattle.iox_machine.specs.Choices.{Choices}
 use Rattle.iox_machine.proofs.Delivering.{Outcomes, by-outcome, first_of, offered, deliver, goes-on-so, keeping, at_once, at-once-silent}
 use Rattle.iox_machine.proofs.Delivering.{by-send, sending}
-use Rattle.iox_machine.specs.Lending.{Lends, LendsLonger, loan_refusal}
+use Rattle.iox_machine.specs.Lending.{Lends, loan_refusal}
 use Rattle.iox_machine.specs.Mailbox.{Mailbox, newest, put}
 use Rattle.iox_machine.specs.Message.{Message}
 use Rattle.iox_machine.specs.MessageLaws.{IsPartOf, next_message}
@@ -21,7 +21,7 @@ use Rattle.iox_machine.specs.Sending.{GoesOn, Begins, Sends}
 use Rattle.iox_machine.specs.RunLaws.{numbered, has_begun}
 use Rattle.iox_machine.specs.SequenceLaws.{GoOnBehind, last_behind}
 use Rattle.iox_machine.specs.Service.{Service, Publisher, Subscriber, Send, mailbox, with_mailbox, connect}
-use Rattle.iox_machine.proofs.Shorthands.{with_publisher, IsRefused}
+use Rattle.iox_machine.proofs.Shorthands.{with_publisher, IsRefused, LendsLonger}
 use Rattle.iox_machine.specs.Table.{at, contains}
 use Rattle.iox_machine.proofs.Cases.{by-bool, by-option, same-some, never-some, chosen, both-true}
 use Rattle.iox_machine.proofs.Frames.{waiting_in, Softer, box-same, box-aside, soft-connect, by-follows, by-deliver}

@@ -11,9 +11,9 @@ use Rattle.iox_machine.specs.Message.{Loan, Message}
 use Rattle.iox_machine.specs.MessageLaws.{begun_by, first_in, sent_in}
 use Rattle.iox_machine.specs.Phase.{Phase, Absent, BeingMade, Published, Emptied, same_pattern}
 use Rattle.iox_machine.specs.PortList.{those}
-use Rattle.iox_machine.specs.Ports.{AtFree, AtBlocked, publisher_in, subscriber_in}
+use Rattle.iox_machine.specs.Ports.{publisher_in, subscriber_in}
 use Rattle.iox_machine.specs.PublisherUpdate as publishing
-use Rattle.iox_machine.proofs.Shorthands.{IsSkipped, IsRefused, registered}
+use Rattle.iox_machine.proofs.Shorthands.{IsSkipped, IsRefused, registered, AtFree, AtBlocked}
 use Rattle.iox_machine.specs.RunLaws.{has_begun}
 use Rattle.iox_machine.specs.Service.{Service, Publisher, Subscriber, Send, new_service}
 use Rattle.iox_machine.specs.State.{State, Made, Factory, AtOne, is_service_of, replaced, counted, with_phase}

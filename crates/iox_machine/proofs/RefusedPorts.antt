@@ -5,17 +5,17 @@ use Rattle.std.specs.Option.{option_map_or}
 use Rattle.std.specs.Prelude.{◌==◌, find, is_some, nat_lt, option_map, slice_get, MatchBool, MatchOption, zip}
 use Rattle.iox_machine.specs.Choices.{Choices}
 use Rattle.iox_machine.proofs.Delivering.{Outcomes, by-outcome, at_once, by-send}
-use Rattle.iox_machine.specs.Lending.{Lends, LendsLonger, loan_refusal}
+use Rattle.iox_machine.specs.Lending.{Lends, loan_refusal}
 use Rattle.iox_machine.specs.Message.{Loan, Message}
 use Rattle.iox_machine.specs.RunLaws.{is_written, sent_as}
 use Rattle.iox_machine.specs.PortList.{those}
-use Rattle.iox_machine.specs.Ports.{AtFree, Puts, SendsLoan, publisher_in, subscriber_in}
+use Rattle.iox_machine.specs.Ports.{Puts, SendsLoan, publisher_in, subscriber_in}
 use Rattle.iox_machine.specs.PublisherUpdate as publishing
 use Rattle.iox_machine.specs.Receiving.{Receives, has_samples, lasting}
 use Rattle.iox_machine.specs.RefusalLaws.{KeepsMessages, KeepsPorts, RefusedPortsLeave, loans_left, publisher_staying, subscriber_staying}
 use Rattle.iox_machine.specs.Sending.{Begins, Sends}
 use Rattle.iox_machine.specs.Service.{Publisher, Service, Subscriber}
-use Rattle.iox_machine.proofs.Shorthands.{with_publisher, with_subscriber, IsSkipped, IsRefused}
+use Rattle.iox_machine.proofs.Shorthands.{with_publisher, with_subscriber, IsSkipped, IsRefused, AtFree, LendsLonger}
 use Rattle.iox_machine.specs.State.{AtOne, State, replaced}
 use Rattle.iox_machine.specs.SubscriberUpdate as subscribing
 use Rattle.iox_machine.specs.Table.{at, changed, contains, removed}

@@ -4,9 +4,9 @@ use Rattle.std.specs.Prelude.{nat_lt, nat_le, is_some, slice_get, MatchBool, Mat
 use Rattle.std.specs.List.{list_all}
 use Rattle.iox_machine.specs.Choices.{Choices}
 use Rattle.iox_machine.specs.Arriving.{PublisherArrives, SubscriberArrives, new_publisher, new_subscriber, worst_case}
-use Rattle.iox_machine.specs.Ports.{AtFree, publisher_in, LendsLoan}
+use Rattle.iox_machine.specs.Ports.{publisher_in, LendsLoan}
 use Rattle.iox_machine.specs.PublisherUpdate as publishing
-use Rattle.iox_machine.proofs.Shorthands.{IsSkipped, IsRefused, registered}
+use Rattle.iox_machine.proofs.Shorthands.{IsSkipped, IsRefused, registered, AtFree}
 use Rattle.iox_machine.specs.Run.{Step, AtFactory}
 use Rattle.iox_machine.specs.RunLaws.{RefusedChangesNothing, is_refused_whole}
 use Rattle.iox_machine.specs.Service.{Service, Publisher, Subscriber}

@@ -8,7 +8,6 @@ use Rattle.iox_machine.specs.Choices.{Choices}
 use Rattle.iox_machine.specs.Arriving.{PublisherArrives, SubscriberArrives, new_publisher, new_subscriber}
 use Rattle.iox_machine.specs.Asked.{settings_of}
 use Rattle.iox_machine.specs.Agreement.{unfit}
-use Rattle.iox_machine.specs.Factories.{create_refusal}
 use Rattle.iox_machine.specs.Message.{Loan, Sample}
 use Rattle.iox_machine.specs.RunLaws.{is_written}
 use Rattle.iox_machine.specs.Negotiation.{Creates}
@@ -44,6 +43,7 @@ use Rattle.iox_command.specs.declared.refusal.HubError.TheVariants.{OutOfMemory}
 use Rattle.iox_command.specs.declared.refusal.Refusal.TheVariants as refusal
 use Rattle.iox_command.specs.declared.reply.Reply.{Reply}
 use Rattle.iox_command.specs.declared.reply.Reply.TheVariants as reply
+use Rattle.iox_machine.specs.Refusals.{create_refusal}
 
 module _ {T : Type 0} (by : Numberings) (types : MessageTypeDetails) (choices : Choices T) (buffer : ℕ) (made : Made) where
   -- What is told is the next number, by its other number.

@@ -6,7 +6,7 @@ use Rattle.std.specs.Option.{option_map_or}
 use Rattle.std.specs.Prelude.{◌==◌, nat_lt, nat_le, option_map, is_some, filter, fold, zip, slice_get}
 use Rattle.iox_machine.specs.Choices.{Choices}
 use Rattle.iox_machine.proofs.Delivering.{Outcomes, keeping, sending}
-use Rattle.iox_machine.specs.Lending.{loans_of, in_use, how_many, is_static, LendsLonger, loan_refusal, Lends}
+use Rattle.iox_machine.specs.Lending.{loans_of, in_use, how_many, loan_refusal, Lends}
 use Rattle.iox_machine.specs.Mailbox.{Mailbox, newest, put}
 use Rattle.iox_machine.specs.Message.{Message, Loan}
 use Rattle.iox_machine.specs.PortList.{those, unless}
@@ -14,7 +14,7 @@ use Rattle.iox_machine.specs.PublisherUpdate as publishing
 use Rattle.iox_machine.specs.PublisherUpdate.{failure_at, ended, welcome, UpdateAnswers}
 use Rattle.iox_machine.specs.Sending.{GoesOn, Begins, Sends, Delivers, MayDecide}
 use Rattle.iox_machine.specs.Service.{Service, Publisher, Subscriber, Send, mailbox, with_mailbox, connect}
-use Rattle.iox_machine.proofs.Shorthands.{with_publisher, IsRefused}
+use Rattle.iox_machine.proofs.Shorthands.{with_publisher, IsRefused, is_static, LendsLonger, is_used_up}
 use Rattle.iox_machine.specs.Table.{at, contains}
 use Rattle.iox_machine.proofs.Mapped.{cond-of, filter-by, all-by, get-by, flat_map-same, map-same, some-by, or-by}
 use Rattle.iox_machine.proofs.Mapped.{map-swap, zip-by, fold-by, over-bool, over-same, over-result}
@@ -38,7 +38,6 @@ use Rattle.iox_command.specs.declared.refusal.Refusal.{Refusal}
 use Rattle.iox_command.specs.declared.refusal.Refusal.TheVariants as refusal
 use Rattle.iox_command.specs.declared.reply.Reply.{Reply}
 use Rattle.iox_command.specs.declared.reply.Reply.TheVariants as reply
-use Rattle.iox_command.specs.DomainValues.Sequences.{is_used_up}
 
 -- ---- what an update answers
 

@@ -6,17 +6,18 @@ use Rattle.std.specs.List.{list_any}
 use Rattle.std.specs.Option.{option_map_or}
 use Rattle.std.specs.Prelude.{◌==◌, nat_le, option_map, option_and_then, is_some, find, filter, MatchBool, MatchOption, MatchResult}
 use Rattle.iox_machine.specs.Choices.{Choices}
-use Rattle.iox_machine.specs.Agreement.{event_verdict, publish_subscribe_verdict, request_response_verdict}
+use Rattle.iox_machine.specs.Agreement.{verdict}
 use Rattle.iox_machine.specs.Asked.{settings_of}
 use Rattle.iox_machine.specs.Closing.{Closes, is_used_by}
-use Rattle.iox_machine.specs.Factories.{Acts, OpensService, OpensOrCreatesService, Negotiates, Enters, with_open, either_lacking}
+use Rattle.iox_machine.specs.Factories.{Acts, OpensService, OpensOrCreatesService, Negotiates, Enters, with_open}
 use Rattle.iox_machine.specs.Message.{Loan, Sample}
-use Rattle.iox_machine.specs.Negotiation.{Call, Answer, Opens, OpensOrCreates}
+use Rattle.iox_machine.specs.Negotiation.{Call, Answer}
 use Rattle.iox_machine.specs.Phase.{Own, Phase, Absent, BeingMade, Published, Emptied, same_pattern, acted}
-use Rattle.iox_machine.specs.Ports.{AtFree, AtBlocked, publisher_in, subscriber_in}
-use Rattle.iox_machine.proofs.Shorthands.{IsSkipped, IsRefused, closed_by}
+use Rattle.iox_machine.specs.Ports.{publisher_in, subscriber_in}
+use Rattle.iox_machine.proofs.Shorthands.{IsSkipped, IsRefused, closed_by, either_lacking, Opens, OpensOrCreates, AtFree, AtBlocked}
 use Rattle.iox_machine.specs.Run.{AtFactory}
 use Rattle.iox_machine.specs.Service.{Service, Publisher, Subscriber, Send, new_service}
+use Rattle.iox_machine.specs.Refusals.{open_refusal, either_refusal}
 use Rattle.iox_machine.specs.State.{State, Factory, Made, AtOne, counted, is_service_of, replaced, with_phase}
 use Rattle.std.specs.Prelude.{bytes_eq}
 use Rattle.iox_machine.specs.Table.{at, removed}
@@ -31,9 +32,6 @@ use Rattle.iox_command.specs.NegotiateBase.DescribeBase.declared.pattern.Messagi
 use Rattle.iox_command.specs.NegotiateBase.DescribeSettings.declared.static_config.Settings.{Settings}
 use Rattle.iox_command.specs.NegotiateBase.DescribeSettings.declared.static_config.Settings.TheVariants as settings
 use Rattle.iox_command.specs.NegotiateBase.DescribeSettings.declared.static_config.publish_subscribe.StaticConfig.{StaticConfig}
-use Rattle.iox_command.specs.NegotiateBase.EventErrors as event
-use Rattle.iox_command.specs.NegotiateBase.PublishSubscribeErrors as publish_subscribe
-use Rattle.iox_command.specs.NegotiateBase.RequestResponseErrors as request_response
 use Rattle.iox_command.specs.NegotiateBase.declared.errors.close.CloseError.TheVariants.{StillInUse}
 use Rattle.iox_command.specs.NegotiateBase.declared.failure.OpenFailure.TheVariants as unopened
 use Rattle.iox_command.specs.declared.refusal.HubError.TheVariants.{OutOfMemory}
@@ -42,7 +40,6 @@ use Rattle.iox_command.specs.declared.refusal.Refusal.TheVariants as refusal
 use Rattle.iox_command.specs.declared.reply.Reply.{Reply}
 use Rattle.iox_command.specs.declared.reply.Reply.TheVariants as reply
 use Rattle.iox_command.specs.declared.service.ServiceOptions.{ServiceOptions}
-use Rattle.iox_command.specs.declared.service.ServiceOptions.TheVariants as options
 use Rattle.iox_command.specs.declared.step.ForeignStep.{ForeignStep}
 use Rattle.iox_command.specs.declared.step.StepBefore.{StepBefore}
 
@@ -351,16 +348,9 @@ module _ {T : Type 0} (by : Numberings) where
         → made.nodes ≡ old.made.nodes → IsNext made (other_reply by answer)
         → OpensService types steps factory named required old answer new
         → OpensService types steps factory named required (other_state made old) (other_reply by answer) (other_end made answer new)
-    opens-by types steps factory (options.PublishSubscribe named) required old answer new nodes next h =
-        negotiates-by (Opens types factory.pattern steps (Own factory.node) (publish_subscribe_verdict types required named))
-        (λ failure. refusal.PublishSubscribeOpen (publish_subscribe.open_error failure)) (λ is_new. unopened.OutOfMemory) factory old answer
-        new nodes next h
-    opens-by types steps factory (options.Event named) required old answer new nodes next h =
-        negotiates-by (Opens types factory.pattern steps (Own factory.node) (event_verdict required named))
-        (λ failure. refusal.EventOpen (event.open_error failure)) (λ is_new. unopened.OutOfMemory) factory old answer new nodes next h
-    opens-by types steps factory (options.RequestResponse named) required old answer new nodes next h =
-        negotiates-by (Opens types factory.pattern steps (Own factory.node) (request_response_verdict types required named))
-        (λ failure. refusal.RequestResponseOpen (request_response.open_error failure)) (λ is_new. unopened.OutOfMemory) factory old answer
+    opens-by types steps factory named required old answer new nodes next h =
+        negotiates-by (Opens types factory.pattern steps (Own factory.node) (verdict types named required))
+        (open_refusal named) (λ is_new. unopened.OutOfMemory) factory old answer
         new nodes next h
 
     pub either-by : (types : MessageTypeDetails) (steps : List StepBefore) (factory : Factory) (named : ServiceOptions)
@@ -369,19 +359,10 @@ module _ {T : Type 0} (by : Numberings) where
         → OpensOrCreatesService types steps factory named required old answer new
         → OpensOrCreatesService types steps factory named required (other_state made old) (other_reply by answer)
         (other_end made answer new)
-    either-by types steps factory (options.PublishSubscribe named) required old answer new nodes next h =
-        negotiates-by (OpensOrCreates types factory.pattern steps (Own factory.node) (publish_subscribe_verdict types required named)
-        (record { settings = settings_of types (options.PublishSubscribe named); attributes = required.pairs }))
-        (λ failure. refusal.PublishSubscribeOpenOrCreate (publish_subscribe.open_or_create_error failure)) either_lacking factory old answer
-        new nodes next h
-    either-by types steps factory (options.Event named) required old answer new nodes next h =
-        negotiates-by (OpensOrCreates types factory.pattern steps (Own factory.node) (event_verdict required named)
-        (record { settings = settings_of types (options.Event named); attributes = required.pairs }))
-        (λ failure. refusal.EventOpenOrCreate (event.open_or_create_error failure)) either_lacking factory old answer new nodes next h
-    either-by types steps factory (options.RequestResponse named) required old answer new nodes next h =
-        negotiates-by (OpensOrCreates types factory.pattern steps (Own factory.node) (request_response_verdict types required named)
-        (record { settings = settings_of types (options.RequestResponse named); attributes = required.pairs }))
-        (λ failure. refusal.RequestResponseOpenOrCreate (request_response.open_or_create_error failure)) either_lacking factory old answer
+    either-by types steps factory named required old answer new nodes next h =
+        negotiates-by (OpensOrCreates types factory.pattern steps (Own factory.node) (verdict types named required)
+        (record { settings = settings_of types named; attributes = required.pairs }))
+        (either_refusal named) either_lacking factory old answer
         new nodes next h
 
     pub acts-by : (types : MessageTypeDetails) (pattern : MessagingPattern) (name : List ℕ) (steps : List ForeignStep) (old : State T)

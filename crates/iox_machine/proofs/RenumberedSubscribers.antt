@@ -6,16 +6,16 @@ use Rattle.std.specs.Global.{Vec}
 use Rattle.std.specs.List.{list_any}
 use Rattle.std.specs.Option.{option_map_or}
 use Rattle.std.specs.Prelude.{◌==◌, nat_lt, is_some, find, filter, fold, zip, filter_map, slice_get}
-use Rattle.iox_machine.proofs.Shorthands.{now_at, parting, taken, with_subscriber, IsRefused}
+use Rattle.iox_machine.proofs.Shorthands.{now_at, parting, taken, with_subscriber, IsRefused, has_data, is_unborrowed, gone_from}
 use Rattle.iox_machine.specs.Choices.{Choices}
 use Rattle.iox_machine.proofs.Delivering.{Outcomes}
-use Rattle.iox_machine.specs.Mailbox.{Mailbox, has_data, is_idle}
+use Rattle.iox_machine.specs.Mailbox.{Mailbox, is_idle}
 use Rattle.iox_machine.specs.Message.{Sample}
 use Rattle.iox_machine.specs.PortList.{those, unless}
-use Rattle.iox_machine.specs.Receiving.{has_samples, gives, lasting, IsGiver, Takes, Receives}
+use Rattle.iox_machine.specs.Receiving.{has_samples, gives, lasting, IsGiver, Receives, Takes}
 use Rattle.iox_machine.specs.Service.{Service, Subscriber, mailbox, with_mailbox, connect}
 use Rattle.iox_machine.specs.SubscriberUpdate as subscribing
-use Rattle.iox_machine.specs.SubscriberUpdate.{gone_from, Parted, is_unborrowed, room_for, part}
+use Rattle.iox_machine.specs.SubscriberUpdate.{Parted, room_for, part}
 use Rattle.iox_machine.specs.Table.{contains}
 use Rattle.iox_machine.proofs.Mapped.{cond-of, find-by, filter-by, any-by, all-by, get-by, filter_map-by, some-by, or-by, map-swap}
 use Rattle.iox_machine.proofs.Mapped.{zip-by, fold-by, over-bool, over-option}

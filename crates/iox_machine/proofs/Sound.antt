@@ -8,17 +8,18 @@ use Rattle.std.specs.Global.{Vec}
 use Rattle.std.specs.Vec.{vec_items}
 use Rattle.std.specs.Prelude.{⊤, ◌==◌, nat_lt, nat_le, is_some, unwrap_or, option_map, option_and_then, filter, find, slice_get}
 use Rattle.std.specs.Prelude.{MatchBool, MatchOption, drop, zip}
-use Rattle.iox_machine.proofs.Shorthands.{given_back, registered, taken, with_subscriber, with_publisher, IsRefused, IsSkipped}
+use Rattle.iox_machine.proofs.Shorthands.{given_back, registered, taken, with_subscriber, with_publisher, IsRefused, IsSkipped, has_data}
+use Rattle.iox_machine.proofs.Shorthands.{LendsLonger}
 use Rattle.iox_machine.specs.Choices.{Choices}
 use Rattle.iox_machine.proofs.Delivering.{Outcomes, by-outcome, first_of, offered, deliver, goes-on-so, keeping, by-send, sending}
 use Rattle.iox_machine.specs.Arriving.{worst_case, PublisherArrives, SubscriberArrives}
-use Rattle.iox_machine.specs.Lending.{Lends, LendsLonger, loan_refusal}
-use Rattle.iox_machine.specs.Mailbox.{Mailbox, newest, put, has_data}
+use Rattle.iox_machine.specs.Lending.{Lends, loan_refusal}
+use Rattle.iox_machine.specs.Mailbox.{Mailbox, newest, put}
 use Rattle.iox_machine.specs.Message.{Message, Loan, Sample}
 use Rattle.iox_machine.specs.PortList.{those}
 use Rattle.iox_machine.specs.Ports.{publisher_in, subscriber_in, LendsLoan, Puts, SendsLoan, Writes, Releases}
 use Rattle.iox_machine.specs.PublisherUpdate as publishing
-use Rattle.iox_machine.specs.Receiving.{Receives, Takes, IsGiver, gives, lasting}
+use Rattle.iox_machine.specs.Receiving.{Receives, IsGiver, gives, lasting, Takes}
 use Rattle.iox_machine.specs.Sending.{GoesOn, Begins, Sends}
 use Rattle.iox_machine.specs.RunLaws.{numbered, sent_as, is_written}
 use Rattle.iox_machine.specs.Service.{Service, Publisher, Subscriber, Send, mailbox, with_mailbox, connect, new_service}

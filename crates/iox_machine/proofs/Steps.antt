@@ -5,12 +5,12 @@ use Rattle.std.specs.Global.{Vec}
 use Rattle.std.specs.List.{AllByRecursion}
 use Rattle.std.specs.Prelude.{⊤, ◌==◌, nat_lt, is_some, fold, take, slice_get, MatchOption}
 use Rattle.std.specs.Vec.{vec_items}
-use Rattle.iox_machine.proofs.Shorthands.{factory_of, left, with_subscriber, with_publisher, IsSkipped}
+use Rattle.iox_machine.proofs.Shorthands.{factory_of, left, with_subscriber, with_publisher, IsSkipped, AtFree, AtBlocked}
 use Rattle.iox_machine.specs.Choices.{Choices}
 use Rattle.iox_machine.specs.Arriving.{PublisherArrives, SubscriberArrives, new_publisher, new_subscriber}
 use Rattle.iox_machine.specs.Message.{Message, Loan, Sample}
 use Rattle.iox_machine.specs.Phase.{acted}
-use Rattle.iox_machine.specs.Ports.{AtFree, AtBlocked, publisher_in, subscriber_in, LendsLoan, Puts, SendsLoan, Writes, Releases}
+use Rattle.iox_machine.specs.Ports.{publisher_in, subscriber_in, LendsLoan, Puts, SendsLoan, Writes, Releases}
 use Rattle.iox_machine.specs.PublisherUpdate as publishing
 use Rattle.iox_machine.specs.Receiving.{Receives, has_samples}
 use Rattle.iox_machine.specs.Run.{Step, AtFactory}

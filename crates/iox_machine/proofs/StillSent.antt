@@ -5,7 +5,7 @@ use Rattle.std.proofs.lemmas.Bool.{eqb-true, eqb-false, cases_Bool, leb-true, le
 use Rattle.std.specs.Prelude.{◌==◌, nat_le, nat_lt, find, is_some, option_map, replicate, MatchBool}
 use Rattle.iox_machine.specs.Choices.{Choices}
 use Rattle.iox_machine.specs.Arriving.{PublisherArrives}
-use Rattle.iox_machine.specs.Lending.{Lends, LendsLonger, loan_refusal}
+use Rattle.iox_machine.specs.Lending.{Lends, loan_refusal}
 use Rattle.iox_machine.specs.Message.{Loan, Message}
 use Rattle.iox_machine.specs.MessageLaws.{next_message, sent_in}
 use Rattle.iox_machine.specs.NumberLaws.{numbers_in, publisher_told}
@@ -14,7 +14,7 @@ use Rattle.iox_machine.specs.PublisherUpdate as publishing
 use Rattle.iox_machine.specs.RunLaws.{has_begun, sent_as, numbered, is_written}
 use Rattle.iox_machine.specs.Sending.{Sends}
 use Rattle.iox_machine.specs.Service.{Publisher, Service}
-use Rattle.iox_machine.proofs.Shorthands.{with_publisher, registered, IsSkipped}
+use Rattle.iox_machine.proofs.Shorthands.{with_publisher, registered, IsSkipped, LendsLonger}
 use Rattle.iox_machine.specs.Table.{at, changed, removed}
 use Rattle.iox_machine.proofs.Cases.{by-bool, by-option, never-some, same-some}
 use Rattle.iox_machine.proofs.Counts.{of_told, one_if, times}

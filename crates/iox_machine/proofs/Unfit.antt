@@ -3,7 +3,7 @@ use Rattle.std.proofs.Common.{◌⊎◌, ◌&&◌, List, Option, None, Some, inl
 use Rattle.std.specs.Prelude.{nat_le, MatchOption}
 use Rattle.iox_machine.specs.Agreement.{unfit}
 use Rattle.iox_machine.specs.Asked.{settings_of}
-use Rattle.iox_machine.specs.Factories.{Negotiates, CreatesService, create_refusal}
+use Rattle.iox_machine.specs.Factories.{Negotiates, CreatesService}
 use Rattle.iox_machine.specs.Negotiation.{Creates}
 use Rattle.iox_machine.specs.Phase.{Own}
 use Rattle.iox_machine.proofs.Shorthands.{IsSkipped, IsRefused, RefusesNode}
@@ -17,6 +17,7 @@ use Rattle.iox_command.specs.declared.refusal.Refusal.{Refusal}
 use Rattle.iox_command.specs.declared.reply.Reply.{Reply}
 use Rattle.iox_command.specs.declared.service.ServiceOptions.{ServiceOptions}
 use Rattle.iox_command.specs.declared.step.StepBefore.{StepBefore}
+use Rattle.iox_machine.specs.Refusals.{create_refusal}
 
 -- what follows from both cases follows from a creation
 pub over-fitness : {A C : Type 0} {B D : CreateFailure → Type 0} (refused : Option CreateFailure) → (A → C)

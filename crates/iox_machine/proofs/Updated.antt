@@ -6,19 +6,19 @@ use Rattle.std.proofs.lemmas.List.{length-map}
 use Rattle.std.specs.List.{AllByRecursion, cons_option, list_all}
 use Rattle.std.specs.Option.{option_map_or}
 use Rattle.std.specs.Prelude.{◌==◌, nat_lt, max, is_some, option_map, option_and_then, filter, find, fold, zip, unwrap_or, MatchOption}
-use Rattle.iox_machine.proofs.Shorthands.{now_at, parting, with_subscriber, with_publisher, IsRefused, IsSkipped}
+use Rattle.iox_machine.proofs.Shorthands.{now_at, parting, with_subscriber, with_publisher, IsRefused, IsSkipped, AtFree, is_unborrowed}
 use Rattle.iox_machine.specs.Choices.{Choices}
 use Rattle.iox_machine.proofs.Delivering.{Outcomes, by-outcome}
 use Rattle.iox_machine.specs.PublisherUpdate.{UpdateAnswers}
 use Rattle.iox_machine.specs.Mailbox.{Mailbox, newest, is_idle}
 use Rattle.iox_machine.specs.Message.{Message}
 use Rattle.iox_machine.specs.PortList.{PortList, those, unless}
-use Rattle.iox_machine.specs.Ports.{AtFree, publisher_in, subscriber_in}
+use Rattle.iox_machine.specs.Ports.{publisher_in, subscriber_in}
 use Rattle.iox_machine.specs.PublisherUpdate as publishing
 use Rattle.iox_machine.specs.Service.{Service, Publisher, Subscriber, mailbox, with_mailbox, connect}
 use Rattle.iox_machine.specs.State.{State, AtOne, replaced}
 use Rattle.iox_machine.specs.SubscriberUpdate as subscribing
-use Rattle.iox_machine.specs.SubscriberUpdate.{Parted, is_unborrowed, part, room_for}
+use Rattle.iox_machine.specs.SubscriberUpdate.{Parted, part, room_for}
 use Rattle.iox_machine.specs.Table.{at, changed, contains}
 use Rattle.iox_machine.specs.UpdateLaws.{IsFollowed, IsFollowedOrStays, PublisherIsUpdated, SubscriberIsUpdated}
 use Rattle.iox_machine.proofs.Cases.{by-bool, by-option, same-some, never-some, chosen, both-true}

@@ -5,14 +5,15 @@ use Rattle.std.specs.Global.{Vec}
 use Rattle.std.specs.List.{list_all, list_any}
 use Rattle.std.specs.Prelude.{◌^◌, ◌==◌, nat_le, nat_lt, is_some, filter, find, fold, slice_get, take, MatchBool, MatchOption, bytes_eq}
 use Rattle.std.specs.Vec.{vec_items}
-use Rattle.iox_machine.proofs.Shorthands.{factory_of, left, registered, with_subscriber, with_publisher, IsRefused, IsSkipped}
+use Rattle.iox_machine.proofs.Shorthands.{factory_of, left, registered, with_subscriber, with_publisher, IsRefused, IsSkipped, AtFree}
+use Rattle.iox_machine.proofs.Shorthands.{AtBlocked}
 use Rattle.iox_machine.specs.Choices.{Choices}
 use Rattle.iox_machine.specs.Arriving.{PublisherArrives, SubscriberArrives, new_publisher, new_subscriber, worst_case}
 use Rattle.iox_machine.specs.Factories.{with_open}
 use Rattle.iox_machine.specs.Message.{Loan, Sample}
 use Rattle.iox_machine.specs.RunLaws.{is_written}
 use Rattle.iox_machine.specs.Phase.{Phase, acted, same_pattern}
-use Rattle.iox_machine.specs.Ports.{AtFree, AtBlocked, LendsLoan, Puts, Releases, SendsLoan, Writes, publisher_in, subscriber_in}
+use Rattle.iox_machine.specs.Ports.{LendsLoan, Puts, Releases, SendsLoan, Writes, publisher_in, subscriber_in}
 use Rattle.iox_machine.specs.PublisherUpdate as publishing
 use Rattle.iox_machine.specs.Receiving.{Receives, has_samples}
 use Rattle.iox_machine.specs.Run.{AtFactory, Step}

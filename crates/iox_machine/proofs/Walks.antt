@@ -2,10 +2,10 @@
 use Rattle.std.proofs.Common.{◌≡◌, ◌+◌, ℕ, Bool, true, false, cond, not, ◌&&◌, List, [], ◌∷◌, ◌++◌, Option, None, Some, refl, sym, ap}
 use Rattle.std.proofs.Common.{subst, inl, inr, ◌∙◌}
 use Rattle.std.specs.Prelude.{◌==◌, nat_lt, length, is_some, replicate, slice_get, MatchBool, drop, zip}
-use Rattle.iox_machine.proofs.Shorthands.{given_back, taken, with_subscriber, with_publisher, IsRefused, IsSkipped}
+use Rattle.iox_machine.proofs.Shorthands.{given_back, taken, with_subscriber, with_publisher, IsRefused, IsSkipped, LendsLonger}
 use Rattle.iox_machine.specs.Choices.{Choices}
 use Rattle.iox_machine.proofs.Delivering.{Outcomes, by-outcome, first_of, offered, deliver, goes-on-so, keeping, at_once, by-send, sending}
-use Rattle.iox_machine.specs.Lending.{Lends, LendsLonger, loan_refusal}
+use Rattle.iox_machine.specs.Lending.{Lends, loan_refusal}
 use Rattle.iox_machine.specs.Mailbox.{Mailbox, put}
 use Rattle.iox_machine.specs.Message.{Loan, Message, Sample}
 use Rattle.iox_machine.specs.RunLaws.{is_written, sent_as}

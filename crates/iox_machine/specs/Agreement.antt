@@ -3,26 +3,23 @@ use Rattle.std.specs.Prelude.{ℕ, ◌^◌, Bool, true, false, not, ◌&&◌, �
 use Rattle.std.specs.Prelude.{Result, Ok, Err, if◌then◌else◌}
 use Rattle.std.specs.List.{list_any, list_all}
 use Rattle.iox_command.specs.NegotiateBase.DescribeBase.Attributes.{Required}
-use Rattle.iox_command.specs.NegotiateBase.DescribeBase.Compatible.{is_compatible}
+use Rattle.iox_command.specs.NegotiateBase.DescribeBase.Compatible.{same_variant}
 use Rattle.iox_command.specs.NegotiateBase.DescribeBase.declared.attribute.Attribute.{Attribute}
 use Rattle.iox_command.specs.NegotiateBase.DescribeBase.declared.message_type.MessageTypeDetails.{MessageTypeDetails}
 use Rattle.iox_command.specs.NegotiateBase.DescribeSettings.declared.static_config.Settings.{Settings}
 use Rattle.iox_command.specs.NegotiateBase.DescribeSettings.declared.static_config.Settings.TheVariants as settings
-use Rattle.iox_command.specs.NegotiateBase.DescribeVerdict.declared.requirement.event.ClauseError.{ClauseError as EventClause}
-use Rattle.iox_command.specs.NegotiateBase.DescribeVerdict.declared.requirement.event.ClauseError.TheVariants as event
-use Rattle.iox_command.specs.NegotiateBase.DescribeVerdict.declared.requirement.publish_subscribe.ClauseError.{ClauseError as PublishSubscribeClause}
-use Rattle.iox_command.specs.NegotiateBase.DescribeVerdict.declared.requirement.publish_subscribe.ClauseError.TheVariants as
-    publish_subscribe
-use Rattle.iox_command.specs.NegotiateBase.DescribeVerdict.declared.requirement.request_response.ClauseError.{ClauseError as RequestResponseClause}
-use Rattle.iox_command.specs.NegotiateBase.DescribeVerdict.declared.requirement.request_response.ClauseError.TheVariants as request_response
+use Rattle.iox_command.specs.NegotiateBase.declared.errors.event.EventOpenError.TheVariants as event
+use Rattle.iox_command.specs.NegotiateBase.declared.errors.publish_subscribe.PublishSubscribeOpenError.TheVariants as publish_subscribe
+use Rattle.iox_command.specs.NegotiateBase.declared.errors.request_response.RequestResponseOpenError.TheVariants as request_response
 use Rattle.iox_command.specs.NegotiateBase.declared.failure.CreateFailure.{CreateFailure}
 use Rattle.iox_command.specs.NegotiateBase.declared.failure.CreateFailure.TheVariants.{InternalFailure}
 use Rattle.iox_command.specs.NegotiateBase.declared.failure.CreateFailure.TheVariants.{SubscriberBufferMustBeLargerThanHistorySize}
-use Rattle.iox_command.specs.declared.service.EventOptions.{EventOptions}
+use Rattle.iox_command.specs.declared.refusal.Refusal.{Refusal}
+use Rattle.iox_command.specs.declared.refusal.Refusal.TheVariants as refusal
 use Rattle.iox_command.specs.declared.service.NumberOrOff.{NumberOrOff}
 use Rattle.iox_command.specs.declared.service.NumberOrOff.TheVariants.{Number, Off}
-use Rattle.iox_command.specs.declared.service.PublishSubscribeOptions.{PublishSubscribeOptions}
-use Rattle.iox_command.specs.declared.service.RequestResponseOptions.{RequestResponseOptions}
+use Rattle.iox_command.specs.declared.service.ServiceOptions.{ServiceOptions}
+use Rattle.iox_command.specs.declared.service.ServiceOptions.TheVariants as options
 
 -- what the nodes of a service agree on: its settings, with its types, and its attributes
 pub record Agreement : Type 0 where
@@ -72,17 +69,33 @@ have_required required attributes =
     required.pairs
     && list_all (λ key. list_any (λ one. bytes_eq one.key key) attributes) required.keys
 
--- what clauses come to, each with whether it is met: that all are, or the first that isn't
-abbrev pub verdict_on : {E : Type 0} → List (Bool × E) → Result (Unit {0}) E
-verdict_on [] = Ok tt
-verdict_on (clause ∷ more) = if clause.0 then verdict_on more else Err clause.1
+-- Whether types that are asked for are those that are given: all is equal, but for the payload's alignment, of which at most the given one
+-- is asked.
+abbrev pub types_agree : MessageTypeDetails → MessageTypeDetails → Bool
+types_agree asked given =
+    (same_variant asked.header.variant given.header.variant
+    && (bytes_eq asked.header.name given.header.name
+    && ((asked.header.size == given.header.size) && (asked.header.alignment == given.header.alignment))))
+    && (same_variant asked.user_header.variant given.user_header.variant
+    && (bytes_eq asked.user_header.name given.user_header.name
+    && ((asked.user_header.size == given.user_header.size) && (asked.user_header.alignment == given.user_header.alignment))))
+    && same_variant asked.payload.variant given.payload.variant
+    && bytes_eq asked.payload.name given.payload.name
+    && (asked.payload.size == given.payload.size)
+    && nat_le asked.payload.alignment given.payload.alignment
 
--- whether a service meets what is asked of a publish-subscribe service, or the first clause that it doesn't meet; its pattern comes first
-abbrev pub publish_subscribe_verdict : MessageTypeDetails → Required → PublishSubscribeOptions → Agreement → Result
-    (Unit {0}) PublishSubscribeClause
-publish_subscribe_verdict types required named agreed =
+-- What clauses come to, each with whether it is met: that all are, or how it is told that the first isn't.
+abbrev pub verdict_on : {E : Type 0} → (E → Refusal) → List (Bool × E) → Result (Unit {0}) Refusal
+verdict_on told [] = Ok tt
+verdict_on told (clause ∷ more) = if clause.0 then verdict_on told more else Err (told clause.1)
+
+-- Whether a service meets what is asked of it, or for which clause it isn't opened: the first that it doesn't meet; its pattern comes
+-- first.
+abbrev pub verdict : MessageTypeDetails → ServiceOptions → Required → Agreement → Result (Unit {0}) Refusal
+verdict types (options.PublishSubscribe named) required agreed =
     elim agreed.settings [
-      | settings.PublishSubscribe c ↦ verdict_on ((is_compatible types c.types, publish_subscribe.IncompatibleTypes)
+      | settings.PublishSubscribe c ↦ verdict_on refusal.PublishSubscribeOpen (
+          (types_agree types c.types, publish_subscribe.IncompatibleTypes)
           ∷ (have_required required agreed.attributes, publish_subscribe.IncompatibleAttributes)
           ∷ (is_switched named.enable_safe_overflow c.enable_safe_overflow, publish_subscribe.IncompatibleOverflowBehavior)
           ∷ (is_switched named.sequence_numbers c.sequence_numbers, publish_subscribe.IncompatibleSequenceNumbers)
@@ -98,16 +111,14 @@ publish_subscribe_verdict types required named agreed =
             publish_subscribe.DoesNotSupportRequestedMinSubscriberBorrowedSamples,
           )
           ∷ (is_enough named.max_nodes c.max_nodes, publish_subscribe.DoesNotSupportRequestedAmountOfNodes) ∷ [])
-      | settings.Event c ↦ Err publish_subscribe.IncompatibleMessagingPattern
-      | settings.RequestResponse c ↦ Err publish_subscribe.IncompatibleMessagingPattern
+      | settings.Event c ↦ Err (refusal.PublishSubscribeOpen publish_subscribe.IncompatibleMessagingPattern)
+      | settings.RequestResponse c ↦ Err (refusal.PublishSubscribeOpen publish_subscribe.IncompatibleMessagingPattern)
     ]
-
--- so of what is asked of an event service
-abbrev pub event_verdict : Required → EventOptions → Agreement → Result (Unit {0}) EventClause
-event_verdict required named agreed =
+verdict types (options.Event named) required agreed =
     elim agreed.settings [
-      | settings.PublishSubscribe c ↦ Err event.IncompatibleMessagingPattern
-      | settings.Event c ↦ verdict_on ((have_required required agreed.attributes, event.IncompatibleAttributes)
+      | settings.PublishSubscribe c ↦ Err (refusal.EventOpen event.IncompatibleMessagingPattern)
+      | settings.Event c ↦ verdict_on refusal.EventOpen (
+          (have_required required agreed.attributes, event.IncompatibleAttributes)
           ∷ (is_as_named named.deadline c.deadline, event.IncompatibleDeadline)
           ∷ (is_enough named.max_notifiers c.max_notifiers, event.DoesNotSupportRequestedAmountOfNotifiers)
           ∷ (is_enough named.max_listeners c.max_listeners, event.DoesNotSupportRequestedAmountOfListeners)
@@ -116,18 +127,15 @@ event_verdict required named agreed =
           ∷ (is_as_named named.notifier_dropped_event c.notifier_dropped_event, event.IncompatibleNotifierDroppedEvent)
           ∷ (is_as_named named.notifier_dead_event c.notifier_dead_event, event.IncompatibleNotifierDeadEvent)
           ∷ (is_enough named.max_nodes c.max_nodes, event.DoesNotSupportRequestedAmountOfNodes) ∷ [])
-      | settings.RequestResponse c ↦ Err event.IncompatibleMessagingPattern
+      | settings.RequestResponse c ↦ Err (refusal.EventOpen event.IncompatibleMessagingPattern)
     ]
-
--- so of what is asked of a request-response service
-abbrev pub request_response_verdict : MessageTypeDetails → Required → RequestResponseOptions → Agreement → Result
-    (Unit {0}) RequestResponseClause
-request_response_verdict types required named agreed =
+verdict types (options.RequestResponse named) required agreed =
     elim agreed.settings [
-      | settings.PublishSubscribe c ↦ Err request_response.IncompatibleMessagingPattern
-      | settings.Event c ↦ Err request_response.IncompatibleMessagingPattern
-      | settings.RequestResponse c ↦ verdict_on ((is_compatible types c.request_types, request_response.IncompatibleRequestType)
-          ∷ (is_compatible types c.response_types, request_response.IncompatibleResponseType)
+      | settings.PublishSubscribe c ↦ Err (refusal.RequestResponseOpen request_response.IncompatibleMessagingPattern)
+      | settings.Event c ↦ Err (refusal.RequestResponseOpen request_response.IncompatibleMessagingPattern)
+      | settings.RequestResponse c ↦ verdict_on refusal.RequestResponseOpen (
+          (types_agree types c.request_types, request_response.IncompatibleRequestType)
+          ∷ (types_agree types c.response_types, request_response.IncompatibleResponseType)
           ∷ (have_required required agreed.attributes, request_response.IncompatibleAttributes)
           ∷ (
             is_switched named.enable_safe_overflow_for_requests c.enable_safe_overflow_for_requests,

@@ -2,7 +2,6 @@
 use Rattle.std.specs.Prelude.{ℕ, ◌+◌, ◌*◌, ◌^◌, ◌≡◌, ◌⊎◌, ◌||◌, true, false, nat_lt, nat_le, min, max, [], ◌∷◌, ◌++◌, replicate, set}
 use Rattle.std.specs.Prelude.{slice_get, None, Some, is_some, unwrap_or, MatchBool, if◌then◌else◌}
 use Rattle.std.specs.List.{list_all}
-use Rattle.iox_machine.specs.PortList.{relisted}
 use Rattle.iox_machine.specs.PublisherUpdate as publishing
 use Rattle.iox_machine.specs.Service.{Service, Publisher, Subscriber}
 use Rattle.iox_machine.specs.SubscriberUpdate as subscribing
@@ -76,7 +75,12 @@ module _ {T : Type 0} where
       ⊎ ((place : ℕ) × (slice_get old.publisher_list.places place ≡ Some None) × (after : Publisher T) × (mid : Service T)
       × publishing.Follows number publisher (record old { publishers = old.publishers ++ (number, publisher) ∷ [] }) after mid
       × (answer ≡ reply.PublisherMade number)
-      × (new ≡ record mid { publisher_list = relisted (set mid.publisher_list.places place (Some number)) mid.publisher_list }))))
+      × (new ≡ record mid {
+        publisher_list = record {
+          places = set mid.publisher_list.places place (Some number);
+          changes = mid.publisher_list.changes + 1;
+        };
+      }))))
 
   -- A subscriber comes: it follows the list of publishers, and registers at any free place. It is refused where more may wait for it than
   -- the service allows, then where no place is free, then for want of memory. A connection that fails doesn't keep it from coming.
@@ -90,4 +94,9 @@ module _ {T : Type 0} where
       ⊎ ((place : ℕ) × (slice_get old.subscriber_list.places place ≡ Some None) × (after : Subscriber) × (mid : Service T)
       × subscribing.Follows buffer number subscriber (record old { subscribers = old.subscribers ++ (number, subscriber) ∷ [] }) after mid
       × (answer ≡ reply.SubscriberMade number)
-      × (new ≡ record mid { subscriber_list = relisted (set mid.subscriber_list.places place (Some number)) mid.subscriber_list }))))
+      × (new ≡ record mid {
+        subscriber_list = record {
+          places = set mid.subscriber_list.places place (Some number);
+          changes = mid.subscriber_list.changes + 1;
+        };
+      }))))

@@ -1,7 +1,6 @@
 -- How a publisher lends.
-use Rattle.std.specs.Prelude.{ℕ, ◌+◌, ◌^◌, ◌<◌, ◌≡◌, ◌⊎◌, Bool, true, false, ◌&&◌, ◌==◌, nat_lt, nat_le, List, [], ◌∷◌, ◌++◌, length, map}
-use Rattle.std.specs.Prelude.{filter}
-use Rattle.std.specs.Prelude.{flat_map, Option, None, Some, MatchBool, MatchOption, if◌then◌else◌}
+use Rattle.std.specs.Prelude.{ℕ, ◌+◌, ◌^◌, ◌<◌, ◌≡◌, ◌⊎◌, true, false, ◌&&◌, ◌==◌, nat_lt, nat_le, List, [], ◌∷◌, ◌++◌, length, map}
+use Rattle.std.specs.Prelude.{filter, flat_map, Option, None, Some, MatchBool, MatchOption, if◌then◌else◌}
 use Rattle.std.specs.Int.{IsNextPowerOfTwo}
 use Rattle.iox_machine.specs.Message.{Loan}
 use Rattle.iox_machine.specs.Service.{Service, Publisher, mailbox}
@@ -15,12 +14,6 @@ use Rattle.iox_command.specs.DomainValues.declared.port_error.LoanError.TheVaria
 abbrev pub how_many : List ℕ → ℕ
 how_many [] = 0
 how_many (number ∷ more) = if contains more number then how_many more else 1 + how_many more
-
--- whether no loan may be longer than the first segment allows
-abbrev pub is_static : AllocationStrategy → Bool
-is_static BestFit = false
-is_static PowerOfTwo = false
-is_static Static = true
 
 -- For how many values a new segment has room, where a loan is longer than the current one allows: for just as many, or for the least power
 -- of two that is at least as many.
@@ -43,30 +36,26 @@ module _ {T : Type 0} (number : ℕ) where
       (publisher.history ++ flat_map (λ entry. (mailbox number entry.0 service).waiting ++
       (mailbox number entry.0 service).borrowed) service.subscribers)
 
-  -- A loan that is longer than the current segment allows opens a new one, if there are fewer than 255 and it has room for fewer than 2^32
-  -- values; or no memory is found.
-  abbrev pub LendsLonger : ℕ → Publisher T → Option LoanError → Publisher T → Type 0
-  LendsLonger values publisher refusal after =
-      ((refusal ≡ Some OutOfMemory) × (after ≡ publisher))
-      ⊎ ((room : ℕ) × (IsRoomFor publisher.allocation values room × (room < 2 ^ 32)) × (nat_lt publisher.segments 255 ≡ true)
-      × (refusal ≡ None)
-      × (after ≡ record publisher { room = room; segments = publisher.segments + 1; first = publisher.next; next = publisher.next + 1 }))
-
-  -- Why a loan of so many values is refused, but for want of memory: one that is too long, then where as many loans are out as may be,
-  -- then exactly where as many messages of the current segment are in use as it has slots.
+  -- Why a loan of so many values is refused, but for want of memory: one that is longer than a static segment allows, then where as many
+  -- loans are out as may be, then exactly where as many messages of the current segment are in use as it has slots.
   abbrev pub loan_refusal : ℕ → Publisher T → Service T → Option LoanError
   loan_refusal values publisher service =
-      if nat_lt publisher.room values && is_static publisher.allocation then Some ExceedsMaxLoanSize
+      if nat_lt publisher.room values && elim publisher.allocation [ Static ↦ true | BestFit ↦ false | PowerOfTwo ↦ false ]
+      then Some ExceedsMaxLoanSize
       else (if nat_le publisher.max_loaned_samples (length (loans_of service)) then Some ExceedsMaxLoans
       else (if nat_le values publisher.room && nat_le publisher.slots
       (how_many (filter (nat_le publisher.first) (in_use publisher service)))
       then Some OutOfMemory else None))
 
-  -- A publisher lends its next message, of so many values, unless that is refused.
+  -- A publisher lends its next message, of so many values, unless that is refused. Where it is longer than the current segment allows a new
+  -- one is opened, if there are fewer than 255 and it has room for fewer than 2^32 values; or no memory is found.
   abbrev pub Lends : ℕ → Publisher T → Service T → Option LoanError → Publisher T → Type 0
   Lends values publisher service refusal after =
       MatchOption (loan_refusal values publisher service)
       (MatchBool (nat_lt publisher.room values)
-      (LendsLonger values publisher refusal after)
+      (((refusal ≡ Some OutOfMemory) × (after ≡ publisher))
+      ⊎ ((room : ℕ) × (IsRoomFor publisher.allocation values room × (room < 2 ^ 32)) × (nat_lt publisher.segments 255 ≡ true)
+      × (refusal ≡ None)
+      × (after ≡ record publisher { room = room; segments = publisher.segments + 1; first = publisher.next; next = publisher.next + 1 })))
       ((refusal ≡ None) × (after ≡ record publisher { next = publisher.next + 1 })))
       (λ why. (refusal ≡ Some why) × (after ≡ publisher))

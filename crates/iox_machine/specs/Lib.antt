@@ -16,6 +16,7 @@ pub mod Asked
 pub mod Agreement
 pub mod Phase
 pub mod Negotiation
+pub mod Refusals
 pub mod State
 pub mod Factories
 pub mod Closing

@@ -14,13 +14,9 @@ abbrev pub newest : {X : Type 0} → ℕ → List X → List X
 newest count xs = drop (length xs - count) xs
 
 module _ {T : Type 0} where
-  -- whether some message waits
-  abbrev pub has_data : Mailbox T → Bool
-  has_data box = nat_lt 0 (length box.waiting)
-
   -- whether no message waits, and none is borrowed
   abbrev pub is_idle : Mailbox T → Bool
-  is_idle box = not (has_data box) && length box.borrowed == 0
+  is_idle box = not (nat_lt 0 (length box.waiting)) && length box.borrowed == 0
 
   -- A message is put behind those that wait. With safe overflow the oldest leaves if they are too many then; without it a full mailbox
   -- refuses.

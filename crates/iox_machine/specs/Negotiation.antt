@@ -1,5 +1,8 @@
 -- How a node of the hub creates a service, opens it, or does either.
-use Rattle.std.specs.Prelude.{ℕ, zero, suc, ◌+◌, ◌≡◌, ◌⊎◌, Bool, true, false, ◌||◌, ◌==◌, nat_lt, List, [], ◌∷◌, length, take, map, filter, fold, Option, None, Some, Result, Ok, Err, MatchOption, MatchResult, if◌then◌else◌}
+use Rattle.std.specs.Prelude.{ℕ, zero, suc, ◌+◌, ◌≡◌, ◌⊎◌, Bool, true, false, ◌||◌, ◌==◌, nat_lt, List, [], ◌∷◌, length, take, map, filter}
+use Rattle.std.specs.Prelude.{fold, Option, None, Some}
+use Rattle.std.specs.Prelude.{option_map, Result, Ok, Err, MatchOption, MatchResult, if◌then◌else◌}
+use Rattle.std.specs.Result.{result_map_both}
 use Rattle.iox_machine.specs.Agreement.{Agreement, unfit}
 use Rattle.iox_machine.specs.Phase.{Node, Phase, Absent, BeingMade, Published, Emptied, is_in, entered, acted}
 use Rattle.iox_command.specs.NegotiateBase.DescribeBase.declared.message_type.MessageTypeDetails.{MessageTypeDetails}
@@ -22,13 +25,7 @@ pub record Call : Type 0 where
 abbrev pub Answer : Type 0 → Type 0
 Answer F = Option (Result Bool F)
 
--- An opening is that of who opens or creates.
-abbrev pub opened : {V : Type 0} → Answer (OpenFailure V) → Answer (OpenOrCreateFailure V)
-opened None = None
-opened (Some (Ok new)) = Some (Ok new)
-opened (Some (Err failure)) = Some (Err (neither.Open failure))
-
--- So is a creation, but another's lock or service leads to the next round.
+-- A creation is that of who opens or creates, but another's lock or service leads to the next round.
 abbrev pub created : {V : Type 0} → Answer CreateFailure → Answer (OpenOrCreateFailure V)
 created None = None
 created (Some (Ok new)) = Some (Ok new)
@@ -106,10 +103,6 @@ module _ (types : MessageTypeDetails) (pattern : MessagingPattern) (steps : List
     OpenLooks (Published life agreed nodes) call answer after = OpensFound life agreed call answer after
     OpenLooks (Emptied life agreed by) call answer after = OpensFound life agreed call answer after
 
-    -- `open`: at most five rounds, each of them a look and what it leads to
-    abbrev pub Opens : Call → Answer (OpenFailure V) → Call → Type 0
-    Opens call answer after = Rounds (Access unopened.OutOfMemory OpenLooks) unopened.ServiceInCorruptedState 5 call answer after
-
     module _ (agreed : Agreement) where
       -- what the look of who opens or creates finds: where nothing stands it creates, if its settings can be
       abbrev pub EitherLooks : Phase → Call → Answer (OpenOrCreateFailure V) → Call → Type 0
@@ -117,9 +110,6 @@ module _ (types : MessageTypeDetails) (pattern : MessagingPattern) (steps : List
           MatchOption (unfit agreed.settings)
           ((made : Answer CreateFailure) × Access uncreated.OutOfMemory (Locks agreed) call made after × (answer ≡ created made))
           (λ failure. Fails (neither.Create failure) call answer after)
-      EitherLooks phase call answer after = (found : Answer (OpenFailure V)) × OpenLooks phase call found after × (answer ≡ opened found)
-
-      -- `open_or_create`: at most five such rounds
-      abbrev pub OpensOrCreates : Call → Answer (OpenOrCreateFailure V) → Call → Type 0
-      OpensOrCreates call answer after = Rounds
-          (Access (neither.Open unopened.OutOfMemory) EitherLooks) neither.SystemInFlux 5 call answer after
+      EitherLooks phase call answer after =
+          (found : Answer (OpenFailure V)) × OpenLooks phase call found after
+          × (answer ≡ option_map (result_map_both (λ is_new. is_new) neither.Open) found)

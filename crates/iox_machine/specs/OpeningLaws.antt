@@ -1,20 +1,15 @@
 -- Laws of what is opened: it is as it was asked for, or the refusal names what isn't.
 use Rattle.std.specs.Prelude.{ℕ, ◌≡◌, ◌<◌, ◌⊎◌, ⊤, Some, Result, Ok, Err, List, [], ◌∷◌}
 use Rattle.iox_machine.specs.Choices.{Choices}
-use Rattle.iox_machine.specs.Agreement.{Agreement, event_verdict, publish_subscribe_verdict, request_response_verdict}
+use Rattle.iox_machine.specs.Agreement.{Agreement, verdict}
 use Rattle.iox_machine.specs.AgreementLaws.{agreed_in, life_of}
 use Rattle.iox_machine.specs.Asked.{settings_of}
 use Rattle.iox_machine.specs.Phase.{Node, Own, Phase, Published}
+use Rattle.iox_machine.specs.Refusals.{open_refusal, either_refusal}
 use Rattle.iox_machine.specs.Run.{Step}
 use Rattle.iox_machine.specs.State.{State}
 use Rattle.iox_command.specs.NegotiateBase.DescribeBase.Attributes.{Required}
 use Rattle.iox_command.specs.NegotiateBase.DescribeBase.declared.message_type.MessageTypeDetails.{MessageTypeDetails}
-use Rattle.iox_command.specs.NegotiateBase.DescribeVerdict.declared.requirement.event.ClauseError.{ClauseError as EventClause}
-use Rattle.iox_command.specs.NegotiateBase.DescribeVerdict.declared.requirement.publish_subscribe.ClauseError.{ClauseError as PublishSubscribeClause}
-use Rattle.iox_command.specs.NegotiateBase.DescribeVerdict.declared.requirement.request_response.ClauseError.{ClauseError as RequestResponseClause}
-use Rattle.iox_command.specs.NegotiateBase.EventErrors as event
-use Rattle.iox_command.specs.NegotiateBase.PublishSubscribeErrors as publish_subscribe
-use Rattle.iox_command.specs.NegotiateBase.RequestResponseErrors as request_response
 use Rattle.iox_command.specs.NegotiateBase.declared.failure.OpenFailure.{OpenFailure}
 use Rattle.iox_command.specs.NegotiateBase.declared.failure.OpenFailure.TheVariants.{Clause}
 use Rattle.iox_command.specs.NegotiateBase.declared.failure.OpenOrCreateFailure.{OpenOrCreateFailure}
@@ -22,11 +17,9 @@ use Rattle.iox_command.specs.NegotiateBase.declared.failure.OpenOrCreateFailure.
 use Rattle.iox_command.specs.Patterns.{pattern_of}
 use Rattle.iox_command.specs.declared.command.Command.TheVariants as command
 use Rattle.iox_command.specs.declared.refusal.Refusal.{Refusal}
-use Rattle.iox_command.specs.declared.refusal.Refusal.TheVariants as refusal
 use Rattle.iox_command.specs.declared.reply.Reply.{Reply}
 use Rattle.iox_command.specs.declared.reply.Reply.TheVariants as reply
 use Rattle.iox_command.specs.declared.service.ServiceOptions.{ServiceOptions}
-use Rattle.iox_command.specs.declared.service.ServiceOptions.TheVariants as options
 use Rattle.iox_command.specs.declared.step.StepBefore.{StepBefore}
 
 -- What is agreed on in a phase is so.
@@ -47,38 +40,21 @@ abbrev pub EitherNamesUnmet : {V : Type 0} → (Agreement → Result (Unit {0}) 
 EitherNamesUnmet verdict (neither.Open failure) phase = NamesUnmet verdict failure phase
 EitherNamesUnmet verdict other phase = ⊤
 
-module _ (types : MessageTypeDetails) where
+module _ (types : MessageTypeDetails) (options : ServiceOptions) (required : Required) where
   -- An agreement meets each clause that is asked, and has what is required of attributes.
-  abbrev pub MeetsAsked : ServiceOptions → Required → Agreement → Type 0
-  MeetsAsked (options.PublishSubscribe named) required agreed = publish_subscribe_verdict types required named agreed ≡ Ok tt
-  MeetsAsked (options.Event named) required agreed = event_verdict required named agreed ≡ Ok tt
-  MeetsAsked (options.RequestResponse named) required agreed = request_response_verdict types required named agreed ≡ Ok tt
+  abbrev pub MeetsAsked : Agreement → Type 0
+  MeetsAsked agreed = verdict types options required agreed ≡ Ok tt
 
   -- A refusal tells why a service isn't opened: a clause is the first that isn't met.
-  abbrev pub TellsUnmet : ServiceOptions → Required → Refusal → Phase → Type 0
-  TellsUnmet (options.PublishSubscribe named) required why phase =
-      (failure : OpenFailure PublishSubscribeClause) × (why ≡ refusal.PublishSubscribeOpen (publish_subscribe.open_error failure))
-      × NamesUnmet (publish_subscribe_verdict types required named) failure phase
-  TellsUnmet (options.Event named) required why phase =
-      (failure : OpenFailure EventClause) × (why ≡ refusal.EventOpen (event.open_error failure))
-      × NamesUnmet (event_verdict required named) failure phase
-  TellsUnmet (options.RequestResponse named) required why phase =
-      (failure : OpenFailure RequestResponseClause) × (why ≡ refusal.RequestResponseOpen (request_response.open_error failure))
-      × NamesUnmet (request_response_verdict types required named) failure phase
+  abbrev pub TellsUnmet : Refusal → Phase → Type 0
+  TellsUnmet why phase =
+      (failure : OpenFailure Refusal) × (why ≡ open_refusal options failure) × NamesUnmet (verdict types options required) failure phase
 
   -- So a refusal tells why a service is neither opened nor created.
-  abbrev pub EitherTellsUnmet : ServiceOptions → Required → Refusal → Phase → Type 0
-  EitherTellsUnmet (options.PublishSubscribe named) required why phase =
-      (failure : OpenOrCreateFailure PublishSubscribeClause)
-      × (why ≡ refusal.PublishSubscribeOpenOrCreate (publish_subscribe.open_or_create_error failure))
-      × EitherNamesUnmet (publish_subscribe_verdict types required named) failure phase
-  EitherTellsUnmet (options.Event named) required why phase =
-      (failure : OpenOrCreateFailure EventClause) × (why ≡ refusal.EventOpenOrCreate (event.open_or_create_error failure))
-      × EitherNamesUnmet (event_verdict required named) failure phase
-  EitherTellsUnmet (options.RequestResponse named) required why phase =
-      (failure : OpenOrCreateFailure RequestResponseClause)
-      × (why ≡ refusal.RequestResponseOpenOrCreate (request_response.open_or_create_error failure))
-      × EitherNamesUnmet (request_response_verdict types required named) failure phase
+  abbrev pub EitherTellsUnmet : Refusal → Phase → Type 0
+  EitherTellsUnmet why phase =
+      (failure : OpenOrCreateFailure Refusal) × (why ≡ either_refusal options failure)
+      × EitherNamesUnmet (verdict types options required) failure phase
 
 module _ {T : Type 0} (choices : Choices T) where
   -- A service that is opened meets all that is asked. One that is refused for a clause is there, and that is the first clause that it

@@ -5,7 +5,7 @@ use Rattle.std.specs.Global.{Vec}
 use Rattle.std.specs.List.{list_any}
 use Rattle.std.specs.Vec.{vec_items}
 use Rattle.iox_machine.specs.Message.{Message}
-use Rattle.iox_machine.specs.Mailbox.{has_data, is_idle}
+use Rattle.iox_machine.specs.Mailbox.{is_idle}
 use Rattle.iox_machine.specs.PortList.{those}
 use Rattle.iox_machine.specs.Service.{Service, Subscriber, mailbox, with_mailbox}
 use Rattle.iox_machine.specs.Table.{changed, contains}
@@ -17,13 +17,13 @@ use Rattle.iox_command.specs.declared.reply.Reply.TheVariants as reply
 module _ {T : Type 0} (number : ℕ) where
   -- whether some connection of a subscriber has data, an expired one too
   abbrev pub has_samples : Subscriber → Service T → Bool
-  has_samples subscriber service = list_any (λ publisher. has_data (mailbox publisher number service))
+  has_samples subscriber service = list_any (λ publisher. nat_lt 0 (length (mailbox publisher number service).waiting))
       (those subscriber.connected ++ subscriber.expired)
 
   -- whether the connection of a publisher has data, and fewer messages are borrowed of it than may be
   abbrev pub gives : Service T → ℕ → Bool
   gives service publisher =
-      has_data (mailbox publisher number service)
+      nat_lt 0 (length (mailbox publisher number service).waiting)
       && nat_lt (length (mailbox publisher number service).borrowed) service.settings.subscriber_max_borrowed_samples
 
   -- the expired connections, without the idle ones that are met before the first that gives

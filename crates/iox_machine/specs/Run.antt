@@ -8,8 +8,8 @@ use Rattle.iox_machine.specs.Choices.{Choices}
 use Rattle.iox_machine.specs.Arriving.{PublisherArrives, SubscriberArrives, new_publisher, new_subscriber}
 use Rattle.iox_machine.specs.Closing.{Closes}
 use Rattle.iox_machine.specs.Factories.{Acts, CreatesService, OpensService, OpensOrCreatesService}
-use Rattle.iox_machine.specs.PortList.{unless, relisted}
-use Rattle.iox_machine.specs.Ports.{AtFree, AtBlocked, subscriber_in, LendsLoan, Puts, SendsLoan, Writes, Releases}
+use Rattle.iox_machine.specs.PortList.{unless}
+use Rattle.iox_machine.specs.Ports.{AtPublisher, subscriber_in, LendsLoan, Puts, SendsLoan, Writes, Releases}
 use Rattle.iox_machine.specs.PublisherUpdate as publishing
 use Rattle.iox_machine.specs.Receiving.{Receives, has_samples}
 use Rattle.iox_machine.specs.Sending.{GoesOn}
@@ -69,9 +69,11 @@ module _ {T : Type 0} (types : MessageTypeDetails) (choices : Choices T) (buffer
       (new_subscriber factory options service.settings) service) old answer new
   Step (command.Loan publisher length) old answer new =
       (value : T) × choices.is_default value
-      × AtFree publisher (LendsLoan (old.made.loans + 1) publisher length (Some value)) old answer new
-  Step (command.LoanUninit publisher length) old answer new = AtFree publisher
-      (LendsLoan (old.made.loans + 1) publisher length None) old answer new
+      × AtPublisher publisher (LendsLoan (old.made.loans + 1) publisher length (Some value))
+      (λ one send. OnlyAnswers reply.Skipped) old answer new
+  Step (command.LoanUninit publisher length) old answer new =
+      AtPublisher publisher (LendsLoan (old.made.loans + 1) publisher length None)
+      (λ one send. OnlyAnswers reply.Skipped) old answer new
   Step (command.Set loan place value) old answer new =
       AtOne (λ service. at loan service.loans)
       (λ one. Writes loan one (list_all is_some one.values && nat_lt place (length one.values))
@@ -84,12 +86,14 @@ module _ {T : Type 0} (types : MessageTypeDetails) (choices : Choices T) (buffer
       (λ one service answered after. (answered ≡ reply.Done) ×
       (after ≡ record service { loans = removed loan service.loans })) old answer new
   Step (command.Send loan) old answer new = AtOne (λ service. at loan service.loans) (SendsLoan choices loan) old answer new
-  Step (command.Put publisher values) old answer new = AtFree publisher (Puts choices publisher values) old answer new
+  Step (command.Put publisher values) old answer new =
+      AtPublisher publisher (Puts choices publisher values) (λ one send. OnlyAnswers reply.Skipped) old answer new
   Step (command.Retry publisher nanoseconds) old answer new =
-      AtBlocked publisher (λ one send. GoesOn choices publisher one
+      AtPublisher publisher (λ one. OnlyAnswers reply.Skipped)
+      (λ one send. GoesOn choices publisher one
       (record send { retries = send.retries + 1; elapsed = nanoseconds })) old answer new
   Step (command.GiveUp publisher) old answer new =
-      AtBlocked publisher
+      AtPublisher publisher (λ one. OnlyAnswers reply.Skipped)
       (λ one send service answered after. (answered ≡ reply.Delivered send.delivered) ×
       (after ≡ record service { publishers = changed publisher (record one { blocked = None }) service.publishers })) old answer new
   Step (command.Receive subscriber) old answer new =
@@ -105,27 +109,33 @@ module _ {T : Type 0} (types : MessageTypeDetails) (choices : Choices T) (buffer
       (λ one. OnlyAnswers (reply.Sequence one.message.sequence)) old answer new
   Step (command.Release sample) old answer new = AtOne (λ service. at sample service.samples) (Releases sample) old answer new
   Step (command.Update (port.Publisher number)) old answer new =
-      AtFree number
+      AtPublisher number
       (publishing.UpdatesFirst choices number refusal.Connection
-      (λ one. OnlyAnswers reply.Done)) old answer new
+      (λ one. OnlyAnswers reply.Done)) (λ one send. OnlyAnswers reply.Skipped) old answer new
   Step (command.Update (port.Subscriber number)) old answer new =
       AtOne (subscriber_in number)
       (subscribing.UpdatesFirst choices buffer number refusal.Connection
       (λ one. OnlyAnswers reply.Done)) old answer new
   Step (command.Leave (port.Publisher number)) old answer new =
-      AtFree number
+      AtPublisher number
       (λ one service answered after. (answered ≡ reply.Done)
       × (after ≡ record service {
         publishers = changed number (record one { stands = false }) service.publishers;
-        publisher_list = relisted (map (unless (number ∷ [])) service.publisher_list.places) service.publisher_list;
+        publisher_list = record {
+          places = map (unless (number ∷ [])) service.publisher_list.places;
+          changes = service.publisher_list.changes + 1;
+        };
       }))
-      old answer new
+      (λ one send. OnlyAnswers reply.Skipped) old answer new
   Step (command.Leave (port.Subscriber number)) old answer new =
       AtOne (subscriber_in number)
       (λ one service answered after. (answered ≡ reply.Done)
       × (after ≡ record service {
         subscribers = changed number (record one { stands = false }) service.subscribers;
-        subscriber_list = relisted (map (unless (number ∷ [])) service.subscriber_list.places) service.subscriber_list;
+        subscriber_list = record {
+          places = map (unless (number ∷ [])) service.subscriber_list.places;
+          changes = service.subscriber_list.changes + 1;
+        };
       }))
       old answer new
   Step (command.Has subscriber) old answer new =

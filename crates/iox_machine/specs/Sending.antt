@@ -1,5 +1,5 @@
 -- How a publisher sends.
-use Rattle.std.specs.Prelude.{ℕ, ◌+◌, ◌≡◌, ◌⊎◌, false, true, ◌&&◌, List, [], ◌∷◌, ◌++◌, slice_get, None, Some, is_some}
+use Rattle.std.specs.Prelude.{ℕ, ◌+◌, ◌-◌, ◌^◌, ◌≡◌, ◌⊎◌, false, true, ◌&&◌, ◌==◌, List, [], ◌∷◌, ◌++◌, slice_get, None, Some, is_some}
 use Rattle.std.specs.Prelude.{option_map, MatchBool, MatchOption, if◌then◌else◌}
 use Rattle.std.specs.Option.{option_map_or}
 use Rattle.iox_machine.specs.Message.{Message}
@@ -11,7 +11,6 @@ use Rattle.iox_machine.specs.Service.{Service, Publisher, Send, mailbox, with_ma
 use Rattle.iox_machine.specs.Table.{at, changed, contains}
 use Rattle.iox_machine.specs.Replies.{OnlyAnswers}
 use Rattle.iox_command.specs.DomainValues.Actions.{decision_of}
-use Rattle.iox_command.specs.DomainValues.Sequences.{is_used_up}
 use Rattle.iox_command.specs.DomainValues.declared.backpressure.BackpressureDecision.{BackpressureDecision}
 use Rattle.iox_command.specs.DomainValues.declared.backpressure.BackpressureDecision.TheVariants.{Retry, DiscardData, DiscardDataAndFail}
 use Rattle.iox_command.specs.DomainValues.declared.port_error.SendError.TheVariants as error
@@ -79,7 +78,7 @@ module _ {T : Type 0} (choices : Choices T) (number : ℕ) where
   abbrev pub Sends : Message T → Publisher T → Service T → Reply T → Service T → Type 0
   Sends message publisher old answer new =
       MatchBool publisher.stands
-      (MatchBool (is_used_up publisher.last_sequence)
+      (MatchBool (option_map_or (λ last. last == 2 ^ 64 - 1) publisher.last_sequence false)
       (OnlyAnswers (reply.Refused (refusal.Send error.InternalError)) old answer new)
       (UpdatesFirst choices number (λ failure. refusal.Send (error.ConnectionError failure)) (Begins message)
       publisher old answer new))

@@ -1,5 +1,5 @@
 -- How a subscriber brings its connections up to date.
-use Rattle.std.specs.Prelude.{ℕ, ◌≡◌, Bool, true, false, not, ◌&&◌, ◌==◌, nat_lt, max, List, [], ◌∷◌, ◌++◌, length, map, filter}
+use Rattle.std.specs.Prelude.{ℕ, ◌≡◌, true, false, not, ◌&&◌, ◌==◌, nat_lt, max, List, [], ◌∷◌, ◌++◌, length, map, filter}
 use Rattle.std.specs.Prelude.{filter_map, fold, zip, slice_get, Option, None, Some, is_some, Result, MatchBool, MatchResult, if◌then◌else◌}
 use Rattle.std.specs.List.{list_all, list_any}
 use Rattle.std.specs.Option.{option_map_or}
@@ -15,26 +15,19 @@ use Rattle.iox_command.specs.declared.refusal.Refusal.{Refusal}
 use Rattle.iox_command.specs.declared.reply.Reply.{Reply}
 use Rattle.iox_command.specs.declared.reply.Reply.TheVariants as reply
 
--- of who is connected at a place and who is listed there, the first, if it isn't listed there any longer
-abbrev pub gone_from : Option ℕ × Option ℕ → Option ℕ
-gone_from place = unless (those (place.1 ∷ [])) place.0
-
 -- The expired connections, the first one first, and those that stay at their places since no more may be expired.
 pub record Parted : Type 0 where
   pub expired : List ℕ
   pub staying : List ℕ
 
 module _ {T : Type 0} (buffer number : ℕ) where
-  -- whether nothing is borrowed of the connection of a publisher
-  abbrev pub is_unborrowed : Service T → ℕ → Bool
-  is_unborrowed service publisher = length (mailbox publisher number service).borrowed == 0
-
   -- which expired connection makes room for another: the first idle one, else, for one of which something is borrowed, the first
   -- unborrowed one
   abbrev pub room_for : ℕ → List ℕ → Service T → Option ℕ
   room_for publisher expired service = slice_get
       (filter (λ other. is_idle (mailbox other number service)) expired
-      ++ (if is_unborrowed service publisher then [] else filter (is_unborrowed service) expired)) 0
+      ++ (if length (mailbox publisher number service).borrowed == 0 then []
+      else filter (λ other. length (mailbox other number service).borrowed == 0) expired)) 0
 
   -- The connection of a publisher that left: an idle one ends, another expires. Where no more may be expired one of those makes room;
   -- where none does, it ends if nothing is borrowed of it, and else stays.
@@ -45,16 +38,18 @@ module _ {T : Type 0} (buffer number : ℕ) where
       then record parted { expired = parted.expired ++ publisher ∷ [] }
       else elim (room_for publisher parted.expired service) [
         | Some out ↦ record parted { expired = filter (λ other. not (other == out)) parted.expired ++ publisher ∷ [] }
-        | None ↦ if is_unborrowed service publisher then parted else record parted { staying = parted.staying ++ publisher ∷ [] }
+        | None ↦ if length (mailbox publisher number service).borrowed == 0 then parted
+            else record parted { staying = parted.staying ++ publisher ∷ [] }
       ])
 
-  -- A subscriber follows the list of publishers. Connections of publishers that left part first where another is listed now, then where
-  -- none is. Connected at a place is then who stays there, else who is listed there, unless it was refused. To some that are new no
-  -- connection may be made, for want of memory.
+  -- A subscriber follows the list of publishers. Connections of publishers that left part: of who is connected at a place and isn't listed
+  -- there any longer, first where another is listed now, then where none is. Connected at a place is then who stays there, else who is
+  -- listed there, unless it was refused. To some that are new no connection may be made, for want of memory.
   abbrev pub Follows : Subscriber → Service T → Subscriber → Service T → Type 0
   Follows subscriber old after new =
       let places = zip subscriber.connected old.publisher_list.places in
-      let parting = filter_map gone_from (filter (λ place. is_some place.1) places ++ filter (λ place. not (is_some place.1)) places) in
+      let gone = λ (place : Option ℕ × Option ℕ). unless (those (place.1 ∷ [])) place.0 in
+      let parting = filter_map gone (filter (λ place. is_some place.1) places ++ filter (λ place. not (is_some place.1)) places) in
       let parted = fold (part old) (record { expired = subscriber.expired; staying = [] }) parting in
       (refused : List ℕ)
       × (list_all (λ publisher. contains (those old.publisher_list.places) publisher && not
@@ -64,7 +59,7 @@ module _ {T : Type 0} (buffer number : ℕ) where
       places)
       × (after ≡ record subscriber {
         seen = old.publisher_list.changes;
-        again = list_any (λ place. is_some place.1 && is_some (gone_from place)) (zip connected old.publisher_list.places);
+        again = list_any (λ place. is_some place.1 && is_some (gone place)) (zip connected old.publisher_list.places);
         connected = connected;
         expired = parted.expired;
       })

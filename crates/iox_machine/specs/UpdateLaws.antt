@@ -11,9 +11,8 @@ use Rattle.iox_machine.specs.Ports.{publisher_in, subscriber_in}
 use Rattle.iox_machine.specs.PublisherUpdate.{UpdateAnswers}
 use Rattle.iox_machine.specs.RefusalLaws.{KeepsPorts}
 use Rattle.iox_machine.specs.Run.{Step}
-use Rattle.iox_machine.specs.Service.{Service, Publisher, Subscriber}
+use Rattle.iox_machine.specs.Service.{Service, Publisher, Subscriber, mailbox}
 use Rattle.iox_machine.specs.State.{State, replaced}
-use Rattle.iox_machine.specs.SubscriberUpdate.{is_unborrowed}
 use Rattle.iox_machine.specs.Table.{at, contains}
 use Rattle.iox_command.specs.NegotiateBase.DescribeBase.declared.message_type.MessageTypeDetails.{MessageTypeDetails}
 use Rattle.iox_command.specs.declared.command.Command.TheVariants as command
@@ -84,7 +83,7 @@ module _ {T : Type 0} (choices : Choices T) where
       × (one.seen ≡ service.publisher_list.changes)
       × ((new ≡ old)
       ⊎ (AllByRecursion (IsFollowedOrStays (λ publisher. is_some (service.mailboxes publisher number))
-      (is_unborrowed buffer number service))
+      (λ publisher. length (mailbox publisher number service).borrowed == 0))
       (zip service.publisher_list.places one.connected)
       × UpdateAnswers (choices.subscriber_acts number one.degradation) (zip service.publisher_list.places one.connected) (Ok tt)))
 

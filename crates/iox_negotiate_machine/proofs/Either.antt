@@ -8,6 +8,7 @@ use Rattle.iox_command.specs.NegotiateBase.DescribeBase.declared.message_type.Me
 use Rattle.iox_command.specs.NegotiateBase.DescribeBase.declared.pattern.MessagingPattern.{MessagingPattern}
 use Rattle.iox_command.specs.NegotiateBase.DescribeSettings.Agreement.{Agreement as Description, pattern_of}
 use Rattle.iox_command.specs.declared.step.StepBefore.{StepBefore}
+use Rattle.iox_machine.proofs.Shorthands as shorthands
 use Rattle.iox_machine.specs.Agreement.{Agreement, unfit}
 use Rattle.iox_machine.specs.Negotiation as machine
 use Rattle.iox_machine.specs.Negotiation.{Call, Answer}
@@ -91,7 +92,8 @@ module _ (types : MessageTypeDetails) (pattern : MessagingPattern) (name : List 
   -- ---- it is opened
 
   opened-answer : (answer : Option (Result Opened (OpenFailure V)))
-      → round_answer {F = OpenOrCreateFailure V} (opened_or_again answer) ≡ machine.opened {V = V} (round_answer {F = OpenFailure V} answer)
+      → round_answer {F = OpenOrCreateFailure V} (opened_or_again answer)
+      ≡ shorthands.opened {V = V} (round_answer {F = OpenFailure V} answer)
   opened-answer None = refl
   opened-answer (Some (Ok service)) = refl
   opened-answer (Some (Err why)) = refl
@@ -108,7 +110,7 @@ module _ (types : MessageTypeDetails) (pattern : MessagingPattern) (name : List 
   AsOpened phase call answer after =
       (found : Answer (OpenFailure V)) × Looks types pattern name own steps form old taken node V judge verdict judged phase call found
       after
-      × (answer ≡ machine.opened found)
+      × (answer ≡ shorthands.opened found)
 
   opens-as : (phase : Phase) (accesses left locks : ℕ) (sight : Shown) (came : Came) (rest : List Access) (start end : Steps)
       → (now : Under (1 + left) locks start (at_phase phase accesses)) → HasFewFactories node phase

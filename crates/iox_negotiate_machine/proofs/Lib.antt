@@ -1,6 +1,7 @@
 pub mod Beginning
 pub mod Seats
 pub mod Saying
+pub mod Told
 pub mod Limits
 pub mod Acting
 pub mod Acted

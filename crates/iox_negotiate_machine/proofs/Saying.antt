@@ -2,7 +2,8 @@
 use Rattle.std.proofs.Common.{◌≡◌, ℕ, Bool, true, false, cond, not, ◌&&◌, List, [], ◌∷◌, Option, None, Some, Result, Err, refl, ap}
 use Rattle.std.proofs.Common.{arith}
 use Rattle.std.proofs.Common.{◌∙◌}
-use Rattle.std.specs.Prelude.{is_none, max, option_map, unwrap_or}
+use Rattle.std.specs.Prelude.{is_none, map, max, option_map, unwrap_or}
+use Rattle.std.specs.Result.{result_map_both}
 use Rattle.std.specs.List.{find, list_all}
 use Rattle.iox_command.specs.NegotiateBase.DescribeBase.Attributes.{Required, has_key, has_pair, has_required, key_or}
 use Rattle.iox_command.specs.NegotiateBase.DescribeBase.Attributes.{unmet_lone_key}
@@ -18,6 +19,11 @@ use Rattle.iox_command.specs.NegotiateBase.DescribeSettings.declared.static_conf
 use Rattle.iox_command.specs.NegotiateBase.DescribeVerdict.EventClauses as event_clauses
 use Rattle.iox_command.specs.NegotiateBase.DescribeVerdict.PublishSubscribeClauses as publish_subscribe_clauses
 use Rattle.iox_command.specs.NegotiateBase.DescribeVerdict.RequestResponseClauses as request_response_clauses
+use Rattle.iox_command.specs.NegotiateBase.EventErrors as event_errors
+use Rattle.iox_command.specs.NegotiateBase.PublishSubscribeErrors as publish_subscribe_errors
+use Rattle.iox_command.specs.NegotiateBase.RequestResponseErrors as request_response_errors
+use Rattle.iox_command.specs.declared.refusal.Refusal.{Refusal}
+use Rattle.iox_command.specs.declared.refusal.Refusal.TheVariants as refusal
 use Rattle.iox_command.specs.NegotiateBase.DescribeVerdict.Verdict.{first_unmet, is_met, unmet_clause, verdict_at}
 use Rattle.iox_command.specs.NegotiateBase.DescribeVerdict.declared.requirement.event.Requirement.{Requirement as EventRequirement}
 use Rattle.iox_command.specs.NegotiateBase.DescribeVerdict.declared.requirement.publish_subscribe.Requirement.{Requirement as PublishSubscribeRequirement}
@@ -32,10 +38,9 @@ use Rattle.iox_command.specs.declared.service.ServiceOptions.TheVariants as opti
 use Rattle.iox_describe_verdict.proofs.EventAsked as event_asked
 use Rattle.iox_describe_verdict.proofs.PublishSubscribeAsked as publish_subscribe_asked
 use Rattle.iox_describe_verdict.proofs.RequestResponseAsked as request_response_asked
-use Rattle.iox_machine.specs.Agreement.{Agreement, event_verdict, have_required, is_as_named, is_enough, is_switched}
-use Rattle.iox_machine.specs.Agreement.{publish_subscribe_verdict}
-use Rattle.iox_machine.specs.Agreement.{request_response_verdict, verdict_on}
+use Rattle.iox_machine.specs.Agreement.{Agreement, have_required, is_as_named, is_enough, is_switched, verdict, verdict_on}
 use Rattle.iox_machine.specs.Asked.{number_unless_off, settings_of}
+use Rattle.iox_negotiate_machine.proofs.Told.{event_clause, publish_subscribe_clause, request_response_clause}
 
 -- what a setting that may be off is to be
 abbrev pub set_to : NumberOrOff → Option ℕ
@@ -183,14 +188,24 @@ have-required asked attributes =
 
 -- ---- all clauses
 
-verdict-is : {E : Type 0} (clauses : List (Bool × E)) → first_unmet clauses ≡ verdict_on clauses
+-- a verdict by clauses, as it is told
+abbrev pub told_by : {C : Type 0} → (C → Refusal) → Result (Unit {0}) C → Result (Unit {0}) Refusal
+told_by told met = result_map_both (λ it. it) told met
+
+-- clauses, with the errors that they are told as
+abbrev with_errors : {C E : Type 0} → (C → E) → List (Bool × C) → List (Bool × E)
+with_errors error clauses = map (λ clause. (clause.0, error clause.1)) clauses
+
+verdict-is : {C E : Type 0} (told : E → Refusal) (error : C → E) (clauses : List (Bool × C))
+    → told_by (λ unmet. told (error unmet)) (first_unmet clauses) ≡ verdict_on told (with_errors error clauses)
 unfolding unmet_clause
-verdict-is [] = refl
-verdict-is {E} (clause ∷ more) = here clause.0 (verdict-is more)
+verdict-is told error [] = refl
+verdict-is {C} told error (clause ∷ more) = here clause.0 (verdict-is told error more)
   where
-    here : (b : Bool) → first_unmet more ≡ verdict_on more
-        → verdict_at (cond (not b) (Some clause) (find (λ (other : Bool × E). not other.0) more))
-        ≡ cond b (verdict_on more) (Err clause.1)
+    here : (b : Bool) → told_by (λ unmet. told (error unmet)) (first_unmet more) ≡ verdict_on told (with_errors error more)
+        → told_by (λ unmet. told (error unmet))
+        (verdict_at (cond (not b) (Some clause) (find (λ (other : Bool × C). not other.0) more)))
+        ≡ cond b (verdict_on told (with_errors error more)) (Err (told (error clause.1)))
     here true rest = rest
     here false rest = refl
 
@@ -202,16 +217,20 @@ next first second error one other same rest =
 
 module _ (types : MessageTypeDetails) (attributes : Required) where
   pub publish-subscribe-verdict : (named : PublishSubscribeOptions) (agreed : Agreement)
-      → first_unmet (publish_subscribe_clauses.clauses_of (asked_publish_subscribe types attributes named) agreed.attributes
-      agreed.settings)
-      ≡ publish_subscribe_verdict types attributes named agreed
+      → told_by publish_subscribe_clause
+      (first_unmet (publish_subscribe_clauses.clauses_of (asked_publish_subscribe types attributes named) agreed.attributes
+      agreed.settings))
+      ≡ verdict types (options.PublishSubscribe named) attributes agreed
   publish-subscribe-verdict named agreed =
-      verdict-is (publish_subscribe_clauses.clauses_of (asked_publish_subscribe types attributes named) agreed.attributes agreed.settings)
+      verdict-is refusal.PublishSubscribeOpen publish_subscribe_errors.clause_error
+      (publish_subscribe_clauses.clauses_of (asked_publish_subscribe types attributes named) agreed.attributes agreed.settings)
       ∙ by agreed.settings
     where
       by : (s : Settings)
-          → verdict_on (publish_subscribe_clauses.clauses_of (asked_publish_subscribe types attributes named) agreed.attributes s)
-          ≡ publish_subscribe_verdict types attributes named (record { settings = s; attributes = agreed.attributes })
+          → verdict_on refusal.PublishSubscribeOpen
+          (with_errors publish_subscribe_errors.clause_error
+          (publish_subscribe_clauses.clauses_of (asked_publish_subscribe types attributes named) agreed.attributes s))
+          ≡ verdict types (options.PublishSubscribe named) attributes (record { settings = s; attributes = agreed.attributes })
       by (settings.Event c) = refl
       by (settings.RequestResponse c) = refl
       by (settings.PublishSubscribe c) =
@@ -227,14 +246,17 @@ module _ (types : MessageTypeDetails) (attributes : Required) where
           (next _ _ _ _ _ (met-number named.max_nodes c.max_nodes) refl)))))))))
 
   pub event-verdict : (named : EventOptions) (agreed : Agreement)
-      → first_unmet (event_clauses.clauses_of (asked_event attributes named) agreed.attributes agreed.settings)
-      ≡ event_verdict attributes named agreed
+      → told_by event_clause (first_unmet (event_clauses.clauses_of (asked_event attributes named) agreed.attributes agreed.settings))
+      ≡ verdict types (options.Event named) attributes agreed
   event-verdict named agreed =
-      verdict-is (event_clauses.clauses_of (asked_event attributes named) agreed.attributes agreed.settings)
+      verdict-is refusal.EventOpen event_errors.clause_error
+      (event_clauses.clauses_of (asked_event attributes named) agreed.attributes agreed.settings)
       ∙ by agreed.settings
     where
-      by : (s : Settings) → verdict_on (event_clauses.clauses_of (asked_event attributes named) agreed.attributes s)
-          ≡ event_verdict attributes named (record { settings = s; attributes = agreed.attributes })
+      by : (s : Settings) → verdict_on refusal.EventOpen
+          (with_errors event_errors.clause_error
+          (event_clauses.clauses_of (asked_event attributes named) agreed.attributes s))
+          ≡ verdict types (options.Event named) attributes (record { settings = s; attributes = agreed.attributes })
       by (settings.PublishSubscribe c) = refl
       by (settings.RequestResponse c) = refl
       by (settings.Event c) =
@@ -249,16 +271,19 @@ module _ (types : MessageTypeDetails) (attributes : Required) where
           (next _ _ _ _ _ (met-number named.max_nodes c.max_nodes) refl))))))))
 
   pub request-response-verdict : (named : RequestResponseOptions) (agreed : Agreement)
-      → first_unmet (request_response_clauses.clauses_of (asked_request_response types attributes named) agreed.attributes
-      agreed.settings)
-      ≡ request_response_verdict types attributes named agreed
+      → told_by request_response_clause
+      (first_unmet (request_response_clauses.clauses_of (asked_request_response types attributes named) agreed.attributes agreed.settings))
+      ≡ verdict types (options.RequestResponse named) attributes agreed
   request-response-verdict named agreed =
-      verdict-is (request_response_clauses.clauses_of (asked_request_response types attributes named) agreed.attributes agreed.settings)
+      verdict-is refusal.RequestResponseOpen request_response_errors.clause_error
+      (request_response_clauses.clauses_of (asked_request_response types attributes named) agreed.attributes agreed.settings)
       ∙ by agreed.settings
     where
       by : (s : Settings)
-          → verdict_on (request_response_clauses.clauses_of (asked_request_response types attributes named) agreed.attributes s)
-          ≡ request_response_verdict types attributes named (record { settings = s; attributes = agreed.attributes })
+          → verdict_on refusal.RequestResponseOpen
+          (with_errors request_response_errors.clause_error
+          (request_response_clauses.clauses_of (asked_request_response types attributes named) agreed.attributes s))
+          ≡ verdict types (options.RequestResponse named) attributes (record { settings = s; attributes = agreed.attributes })
       by (settings.PublishSubscribe c) = refl
       by (settings.Event c) = refl
       by (settings.RequestResponse c) =

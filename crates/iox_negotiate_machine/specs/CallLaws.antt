@@ -12,14 +12,16 @@ use Rattle.iox_command.specs.NegotiateBase.DescribeSettings.declared.static_conf
 use Rattle.iox_command.specs.NegotiateBase.DescribeSettings.declared.static_config.Settings.TheVariants as settings
 use Rattle.iox_command.specs.NegotiateBase.declared.failure.CreateFailure.{CreateFailure}
 use Rattle.iox_command.specs.NegotiateBase.declared.failure.OpenFailure.{OpenFailure}
+use Rattle.iox_command.specs.NegotiateBase.declared.failure.OpenFailure.TheVariants as unopened
 use Rattle.iox_command.specs.NegotiateBase.declared.failure.OpenOrCreateFailure.{OpenOrCreateFailure}
+use Rattle.iox_command.specs.NegotiateBase.declared.failure.OpenOrCreateFailure.TheVariants as neither
 use Rattle.iox_command.specs.NegotiateBase.declared.request.Opened.{Opened}
 use Rattle.iox_command.specs.Patterns.{pattern_of}
 use Rattle.iox_command.specs.declared.service.ServiceOptions.{ServiceOptions}
 use Rattle.iox_command.specs.declared.step.StepBefore.{StepBefore}
 use Rattle.iox_machine.specs.Agreement.{Agreement}
 use Rattle.iox_machine.specs.Asked.{settings_of}
-use Rattle.iox_machine.specs.Negotiation.{Call, Answer, Creates, Opens, OpensOrCreates}
+use Rattle.iox_machine.specs.Negotiation.{Call, Answer, Access, Rounds, Creates, OpenLooks, EitherLooks}
 use Rattle.iox_machine.specs.Phase.{Own, Phase, Published, is_in}
 use Rattle.iox_machine.specs.State.{State, with_phase}
 use Rattle.iox_negotiate.specs.Factory.{membership}
@@ -117,7 +119,10 @@ module _ (T V E : Type 0) where
       → ((agreed : Agreement) → judge (description_of pattern name agreed) ≡ verdict agreed)
       → built.Negotiates SteppedSight storage node error (λ made answer. rounds.Opens (service_hash_of pattern name) node judge made answer)
       (record { table = old; lists = lists }) result end
-      → CallMatches names pattern name taken storage node error state (Opens types pattern steps (Own node) verdict) result end.table
+      → CallMatches names pattern name taken storage node error state
+      (Rounds (Access types pattern steps (Own node) unopened.OutOfMemory (OpenLooks types pattern steps (Own node) verdict))
+      unopened.ServiceInCorruptedState 5)
+      result end.table
 
   -- So it is of a builder that opens a service, or creates it as options ask and with these attributes where none stands. There is a number
   -- left for its own lock, too.
@@ -135,6 +140,8 @@ module _ (T V E : Type 0) where
       (AreWithinLimits (settings_of types named)) (HasNoRoomForHistory (settings_of types named)) error
       (record { table = old; lists = lists }) result end
       → CallMatches names (pattern_of named) name taken storage node error state
-      (OpensOrCreates types (pattern_of named) steps (Own node) verdict
-      (record { settings = settings_of types named; attributes = attributes }))
+      (Rounds (Access types (pattern_of named) steps (Own node) (neither.Open unopened.OutOfMemory)
+      (EitherLooks types (pattern_of named) steps (Own node) verdict
+      (record { settings = settings_of types named; attributes = attributes })))
+      neither.SystemInFlux 5)
       result end.table

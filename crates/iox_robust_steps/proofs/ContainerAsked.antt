@@ -20,62 +20,70 @@ use Rattle.iox_robust_steps.specs.declared.container.MemberFinished.{MemberFinis
 use Rattle.iox_robust_steps.proofs.ContainerCalls.{begun_call, same_call}
 
 -- a call that is over is none afterwards
-over_idle : (n width saw : ℕ) (got : Option Answer) (answer : ℕ) (t : ContainerCall) → member_is_over t ≡ true
-    → member_take n width saw got t answer ≡ stage.Idle
-over_idle n width saw got answer stage.Idle h = refl
-over_idle n width saw got answer (stage.Enter number owner) h = absurd (cc)
-over_idle n width saw got answer (stage.Fill number owner index next) h = absurd (cc)
-over_idle n width saw got answer (stage.Show number owner index seen) h = absurd (cc)
-over_idle n width saw got answer (stage.Sink owner index mode) h = absurd (cc)
-over_idle n width saw got answer (stage.Hide owner index mode seen) h = absurd (cc)
-over_idle n width saw got answer (stage.Leave owner index mode) h = absurd (cc)
-over_idle n width saw got answer (stage.Drop owner index mode) h = absurd (cc)
-over_idle n width saw got answer (stage.Count c a) h = absurd (cc)
-over_idle n width saw got answer (stage.Raise c a seen) h = absurd (cc)
-over_idle n width saw got answer stage.Look h = absurd (cc)
-over_idle n width saw got answer (stage.Visit i) h = absurd (cc)
-over_idle n width saw got answer (stage.Gather i seen next) h = absurd (cc)
-over_idle n width saw got answer (stage.Done c a) h = refl
+over_idle : (n width saw : ℕ) (got : Option Answer) (finds : Bool) (answer : ℕ) (t : ContainerCall) → member_is_over t ≡ true
+    → member_take n width saw got finds t answer ≡ stage.Idle
+over_idle n width saw got finds answer stage.Idle h = refl
+over_idle n width saw got finds answer (stage.Enter number owner) h = absurd (cc)
+over_idle n width saw got finds answer (stage.Fill number owner index next) h = absurd (cc)
+over_idle n width saw got finds answer (stage.Show number owner index seen) h = absurd (cc)
+over_idle n width saw got finds answer (stage.Sink owner index mode) h = absurd (cc)
+over_idle n width saw got finds answer (stage.Hide owner index mode seen) h = absurd (cc)
+over_idle n width saw got finds answer (stage.Leave owner index mode) h = absurd (cc)
+over_idle n width saw got finds answer (stage.Drop owner index mode) h = absurd (cc)
+over_idle n width saw got finds answer (stage.Count c a) h = absurd (cc)
+over_idle n width saw got finds answer (stage.Raise c a seen) h = absurd (cc)
+over_idle n width saw got finds answer stage.Look h = absurd (cc)
+over_idle n width saw got finds answer (stage.Visit i) h = absurd (cc)
+over_idle n width saw got finds answer (stage.Gather i seen next) h = absurd (cc)
+over_idle n width saw got finds answer (stage.Search o j mode) h = absurd (cc)
+over_idle n width saw got finds answer (stage.Watch o j mode i) h = absurd (cc)
+over_idle n width saw got finds answer (stage.Ask o j mode i seen) h = absurd (cc)
+over_idle n width saw got finds answer (stage.Expel o j mode i seen) h = absurd (cc)
+over_idle n width saw got finds answer (stage.Clear o j mode i) h = absurd (cc)
+over_idle n width saw got finds answer (stage.Close o j mode) h = absurd (cc)
+over_idle n width saw got finds answer (stage.Done c a) h = refl
 
 module _ (n width : ℕ) (values : List (Vec ℕ)) where
   abbrev pub SoFar : ℕ → Option MemberCall → ContainerCall → List Event → Type 0
   SoFar party o t events = IsMemberAskedSoFar n width values party o t events
 
-  module _ (saw : ℕ) (got : Option Answer) (e : Event) (t : ContainerCall) (is : e.access ≡ member_next n width values t) where
-    abbrev next : ContainerCall
-    next = member_take n width saw got t e.answer
+  module _ (saw : ℕ) (got : Option Answer) (finds : Bool) (e : Event) (t : ContainerCall) (is : e.access ≡ member_next n width values t)
+    where
+      abbrev next : ContainerCall
+      next = member_take n width saw got finds t e.answer
 
-    goes_more : (events : List Event) (s : ContainerCall) → MemberGoes n width values s events t
-        → MemberGoes n width values s (events ++ e ∷ []) next
-    goes_more [] s h = (
-      is ∙ ap (λ (u : ContainerCall). member_next n width values u) h,
-      saw,
-      got,
-      ap (λ (u : ContainerCall). member_take n width saw got u e.answer) h,
-    )
-    goes_more (x ∷ events) s h = (h.0, h.1, h.2, goes_more events (member_take n width h.1 h.2 s x.answer) h.3)
+      goes_more : (events : List Event) (s : ContainerCall) → MemberGoes n width values s events t
+          → MemberGoes n width values s (events ++ e ∷ []) next
+      goes_more [] s h = (
+        is ∙ ap (λ (u : ContainerCall). member_next n width values u) h,
+        saw,
+        got,
+        finds,
+        ap (λ (u : ContainerCall). member_take n width saw got finds u e.answer) h,
+      )
+      goes_more (x ∷ events) s h = (h.0, h.1, h.2, h.3, goes_more events (member_take n width h.1 h.2 h.3 s x.answer) h.4)
 
-    asked_more : (party : ℕ) (c : MemberCall) (events : List Event) → IsMemberAsked n width values party c t events
-        → IsMemberAsked n width values party c next (events ++ e ∷ [])
-    asked_more party c events a = record {
-      between = a.between ++ e ∷ [];
-      whole = ap (λ (es : List Event). es ++ e ∷ []) a.whole;
-      goes = goes_more a.between (member_begun c) a.goes;
-    }
+      asked_more : (party : ℕ) (c : MemberCall) (events : List Event) → IsMemberAsked n width values party c t events
+          → IsMemberAsked n width values party c next (events ++ e ∷ [])
+      asked_more party c events a = record {
+        between = a.between ++ e ∷ [];
+        whole = ap (λ (es : List Event). es ++ e ∷ []) a.whole;
+        goes = goes_more a.between (member_begun c) a.goes;
+      }
 
-    pub member_asked_next : (party : ℕ) (events : List Event) → SoFar party (member_in_hand t) t events
-        → SoFar party (member_in_hand next) next (events ++ e ∷ [])
-    member_asked_next party events a = of (member_is_over t) refl
-      where
-        still : (o : Option MemberCall) → SoFar party o t events → SoFar party o next (events ++ e ∷ [])
-        still None h = tt
-        still (Some c) h = asked_more party c events h
+      pub member_asked_next : (party : ℕ) (events : List Event) → SoFar party (member_in_hand t) t events
+          → SoFar party (member_in_hand next) next (events ++ e ∷ [])
+      member_asked_next party events a = of (member_is_over t) refl
+        where
+          still : (o : Option MemberCall) → SoFar party o t events → SoFar party o next (events ++ e ∷ [])
+          still None h = tt
+          still (Some c) h = asked_more party c events h
 
-        of : (b : Bool) → member_is_over t ≡ b → SoFar party (member_in_hand next) next (events ++ e ∷ [])
-        of true over = subst (λ (u : ContainerCall). SoFar party (member_in_hand u) u (events ++ e ∷ []))
-            (sym (over_idle n width saw got e.answer t over)) tt
-        of false over = subst (λ (o : Option MemberCall). SoFar party o next (events ++ e ∷ []))
-            (sym (same_call n width saw got t e.answer over)) (still (member_in_hand t) a)
+          of : (b : Bool) → member_is_over t ≡ b → SoFar party (member_in_hand next) next (events ++ e ∷ [])
+          of true over = subst (λ (u : ContainerCall). SoFar party (member_in_hand u) u (events ++ e ∷ []))
+              (sym (over_idle n width saw got finds e.answer t over)) tt
+          of false over = subst (λ (o : Option MemberCall). SoFar party o next (events ++ e ∷ []))
+              (sym (same_call n width saw got finds t e.answer over)) (still (member_in_hand t) a)
 
   -- a call that begins
   pub member_asked_first : (party : ℕ) (c : MemberCall)
@@ -114,6 +122,12 @@ module _ (n width : ℕ) (values : List (Vec ℕ)) where
   member_call_asked party first events e stage.Look a = tt
   member_call_asked party first events e (stage.Visit i) a = tt
   member_call_asked party first events e (stage.Gather i seen j) a = tt
+  member_call_asked party first events e (stage.Search o j mode) a = tt
+  member_call_asked party first events e (stage.Watch o j mode i) a = tt
+  member_call_asked party first events e (stage.Ask o j mode i seen) a = tt
+  member_call_asked party first events e (stage.Expel o j mode i seen) a = tt
+  member_call_asked party first events e (stage.Clear o j mode i) a = tt
+  member_call_asked party first events e (stage.Close o j mode) a = tt
   member_call_asked party first events e (stage.Done c answer) a = (
     subst (λ (es : List Event). IsMemberAsked n width values party c (stage.Done c answer) (own party (drop first es)))
         (sym (take-append_seam events (e ∷ []))) a,

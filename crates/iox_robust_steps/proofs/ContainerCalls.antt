@@ -10,9 +10,10 @@ use Rattle.iox_queues_steps.specs.declared.schedule.Stepped.{Stepped}
 use Rattle.iox_queues.specs.Spans.{AddsOne}
 use Rattle.iox_queues.specs.Turns.{EndsOne, LeavesCalls}
 use Rattle.iox_queues.proofs.Turns.{steps_tell_calls}
-use Rattle.iox_robust_steps.specs.ContainerSteps.{answer_at, dropped, entered, is_shown, member_begun, member_in_hand}
+use Rattle.iox_robust_steps.specs.ContainerSteps.{answer_at, asked_for_place, closed, dropped, entered, is_clearing, is_shown, member_begun}
+use Rattle.iox_robust_steps.specs.ContainerSteps.{member_in_hand, watches_from}
 use Rattle.iox_robust_steps.specs.ContainerSteps.{member_is_over, member_next, member_take, visited, visits_from}
-use Rattle.iox_robust_steps.specs.ContainerMachine.{ContainerParts, MemberStepsTo, MemberTellsStep, asks_of, is_look}
+use Rattle.iox_robust_steps.specs.ContainerMachine.{ContainerParts, MemberStepsTo, MemberTellsStep, asked_at, asks_of, is_look}
 use Rattle.iox_robust_steps.specs.ContainerMachine.{member_begins, member_call, member_calls, member_ended, member_ends, member_fits}
 use Rattle.iox_robust_steps.specs.ContainerMachine.{member_hands, member_happens, member_seat, member_stage, member_went, seat_after}
 use Rattle.iox_robust_steps.specs.ContainerMachine.{width_of}
@@ -54,9 +55,26 @@ visits_call n i = either_call (nat_lt i n) (stage.Visit i) (stage.Done call.Upda
 visited_call : (n i count : ℕ) → member_in_hand (visited n i count) ≡ Some call.Update
 visited_call n i count = either_call (is_shown count) (stage.Gather i count 0) _ (Some call.Update) refl (visits_call n (successor i))
 
-module _ (n width saw : ℕ) (got : Option Answer) where
+watches_call : (n owner number : ℕ) (mode : ReleaseMode) (i : ℕ)
+    → member_in_hand (watches_from n owner number mode i) ≡ Some (call.Recover owner number mode)
+watches_call n owner number mode i = either_call (nat_lt i n) (stage.Watch owner number mode i) (stage.Close owner number mode)
+    (Some (call.Recover owner number mode)) refl refl
+
+asked_call : (n owner number : ℕ) (mode : ReleaseMode) (i seen : ℕ) (finds : Bool)
+    → member_in_hand (asked_for_place n owner number mode i seen finds) ≡ Some (call.Recover owner number mode)
+asked_call n owner number mode i seen true = either_call (is_shown seen) (stage.Expel owner number mode i seen)
+    (stage.Clear owner number mode i) (Some (call.Recover owner number mode)) refl refl
+asked_call n owner number mode i seen false = watches_call n owner number mode (successor i)
+
+closed_call : (owner number : ℕ) (mode : ReleaseMode) (got : Option Answer)
+    → member_in_hand (closed owner number mode got) ≡ Some (call.Recover owner number mode)
+closed_call owner number mode None = refl
+closed_call owner number mode (Some (Acquired got)) = refl
+closed_call owner number mode (Some (Settled state)) = refl
+
+module _ (n width saw : ℕ) (got : Option Answer) (finds : Bool) where
   pub same_call : (s : ContainerCall) (answer : ℕ) → member_is_over s ≡ false
-      → member_in_hand (member_take n width saw got s answer) ≡ member_in_hand s
+      → member_in_hand (member_take n width saw got finds s answer) ≡ member_in_hand s
   same_call stage.Idle answer going = refl
   same_call (stage.Enter number owner) answer going = entered_call number owner got
   same_call (stage.Fill number owner index next) answer going = either_call (nat_lt next width)
@@ -69,6 +87,15 @@ module _ (n width saw : ℕ) (got : Option Answer) where
   same_call (stage.Count c a) answer going = refl
   same_call (stage.Raise c a seen) answer going
       = either_call (answer == seen) (stage.Done c a) (stage.Raise c a answer) (Some c) refl refl
+  same_call (stage.Search o j mode) answer going =
+      watches_call n o j mode 0
+  same_call (stage.Watch o j mode i) answer going = refl
+  same_call (stage.Ask o j mode i seen) answer going =
+      asked_call n o j mode i seen finds
+  same_call (stage.Expel o j mode i seen) answer going = refl
+  same_call (stage.Clear o j mode i) answer going =
+      watches_call n o j mode (successor i)
+  same_call (stage.Close o j mode) answer going = closed_call o j mode got
   same_call stage.Look answer going = either_call (answer == saw) (stage.Done call.Update (Updated false)) _ (Some call.Update) refl
       (visits_call n 0)
   same_call (stage.Visit i) answer going = visited_call n i answer
@@ -81,6 +108,7 @@ pub begun_call : (c : MemberCall) → member_in_hand (member_begun c) ≡ Some c
 begun_call (call.Add number owner) = refl
 begun_call (call.Remove owner index mode) = refl
 begun_call call.Update = refl
+begun_call (call.Recover owner number mode) = refl
 
 -- a party's seat shows its next stage
 seat_stage : (b : Bool) (seat : MemberSeat) (next : ContainerCall) (answer number : ℕ)
@@ -131,12 +159,18 @@ none_ended party first last (stage.Raise c a seen) going = refl
 none_ended party first last stage.Look going = refl
 none_ended party first last (stage.Visit i) going = refl
 none_ended party first last (stage.Gather i seen next) going = refl
+none_ended party first last (stage.Search o j mode) going = refl
+none_ended party first last (stage.Watch o j mode i) going = refl
+none_ended party first last (stage.Ask o j mode i seen) going = refl
+none_ended party first last (stage.Expel o j mode i seen) going = refl
+none_ended party first last (stage.Clear o j mode i) going = refl
+none_ended party first last (stage.Close o j mode) going = refl
 none_ended party first last (stage.Done c a) going = absurd (cc)
 
-module _ (n width saw : ℕ) (got : Option Answer) (before : List MemberFinished) (party first last answer : ℕ) where
+module _ (n width saw : ℕ) (got : Option Answer) (finds : Bool) (before : List MemberFinished) (party first last answer : ℕ) where
   -- the last step of a call ends it, and no other one is in hand then
   ends_it : (s : ContainerCall) → member_is_over s ≡ true
-      → (member_in_hand (member_take n width saw got s answer) ≡ None)
+      → (member_in_hand (member_take n width saw got finds s answer) ≡ None)
       × EndsOne MemberCall MemberFinished member_calls.whose member_calls.which before (before ++ member_ended party first last s) party
       (member_in_hand s)
   ends_it stage.Idle over = absurd (cc)
@@ -152,6 +186,12 @@ module _ (n width saw : ℕ) (got : Option Answer) (before : List MemberFinished
   ends_it stage.Look over = absurd (cc)
   ends_it (stage.Visit i) over = absurd (cc)
   ends_it (stage.Gather i seen next) over = absurd (cc)
+  ends_it (stage.Search o j mode) over = absurd (cc)
+  ends_it (stage.Watch o j mode i) over = absurd (cc)
+  ends_it (stage.Ask o j mode i seen) over = absurd (cc)
+  ends_it (stage.Expel o j mode i seen) over = absurd (cc)
+  ends_it (stage.Clear o j mode i) over = absurd (cc)
+  ends_it (stage.Close o j mode) over = absurd (cc)
   ends_it (stage.Done c a) over = (
     refl,
     record {
@@ -171,7 +211,8 @@ module _ (m : ContainerParts) (party : ℕ) where
   answer = answer_of m.words (member_next m.indices.capacity (width_of m) m.values seat.stage)
 
   abbrev next : ContainerCall
-  next = member_take m.indices.capacity (width_of m) seat.saw (answer_at (stage_at m.indices.seats party)) seat.stage answer
+  next = member_take m.indices.capacity (width_of m) seat.saw (answer_at (stage_at m.indices.seats party))
+      (is_clearing (stage_at (asked_at m.indices party seat.stage).seats party)) seat.stage answer
 
   shows_next : member_in_hand (seat_after seat next answer (length m.events)).stage ≡ member_in_hand next
   shows_next = ap member_in_hand (seat_stage (is_look seat.stage && not (answer == seat.saw)) seat next answer (length m.events))
@@ -187,7 +228,8 @@ goes m (Begin party c) fit going = (
 goes m (GoOn party) fit going = (
   leaves m (member_went m party) party (seat_after (seat m party) (next m party) (answer m party) (length m.events)) (member_hands m party)
       refl (is_there m.seats party _ fit) (shows_next m party ∙ same_call m.indices.capacity (width_of m) (seat m party).saw
-      (answer_at (stage_at m.indices.seats party)) (seat m party).stage (answer m party) going),
+      (answer_at (stage_at m.indices.seats party)) (is_clearing (stage_at (asked_at m.indices party (seat m party).stage).seats party))
+      (seat m party).stage (answer m party) going),
   ap (λ (fs : List MemberFinished). m.finished ++ fs)
       (none_ended party (seat m party).first (length m.events) (seat m party).stage going) ∙ append-nil m.finished,
 )
@@ -199,8 +241,9 @@ ended : (m : ContainerParts) (step : MemberMove) → member_fits m step ≡ true
 ended m (Begin party c) fit over = absurd (cc)
 ended m (GoOn party) fit over =
     let both : (member_in_hand (next m party) ≡ None) × _
-    = ends_it m.indices.capacity (width_of m) (seat m party).saw (answer_at (stage_at m.indices.seats party)) m.finished party
-    (seat m party).first (length m.events) (answer m party) (seat m party).stage over in (
+    = ends_it m.indices.capacity (width_of m) (seat m party).saw (answer_at (stage_at m.indices.seats party))
+    (is_clearing (stage_at (asked_at m.indices party (seat m party).stage).seats party)) m.finished party (seat m party).first
+    (length m.events) (answer m party) (seat m party).stage over in (
       leaves m (member_went m party) party (seat_after (seat m party) (next m party) (answer m party) (length m.events)) None refl
           (is_there m.seats party _ fit) (shows_next m party ∙ both.0),
       both.1,

@@ -5,8 +5,9 @@ use Rattle.std.proofs.lemmas.Bool.{and_parts, cases_eq, eq-eqb, ltb-true, ne_eqb
 use Rattle.iox_queues_steps.specs.Access.{answer_of}
 use Rattle.iox_queues_steps.specs.declared.schedule.Stepped.{Stepped}
 use Rattle.iox_queues_steps.specs.declared.schedule.Stepped.TheVariants as stepped
-use Rattle.iox_robust_steps.specs.ContainerSteps.{answer_at, member_begun, member_is_over, member_next, member_take}
+use Rattle.iox_robust_steps.specs.ContainerSteps.{answer_at, is_clearing, member_begun, member_is_over, member_next, member_take}
 use Rattle.iox_robust_steps.specs.ContainerSteps.{visits_from}
+use Rattle.iox_robust_steps.specs.ContainerMachine.{asked_at}
 use Rattle.iox_robust_steps.specs.ContainerMachine.{ContainerParts, KeepsCopy, LooksForNews, MemberStepsTo, MindsCopies, is_copy, is_look}
 use Rattle.iox_robust_steps.specs.ContainerMachine.{member_begins, member_fits, member_seat, member_stage, member_went}
 use Rattle.iox_robust_steps.specs.ContainerMachine.{seat_after, width_of}
@@ -36,6 +37,12 @@ look_is (stage.Raise c a seen) h = absurd (cc)
 look_is stage.Look h = refl
 look_is (stage.Visit i) h = absurd (cc)
 look_is (stage.Gather i seen next) h = absurd (cc)
+look_is (stage.Search o j mode) h = absurd (cc)
+look_is (stage.Watch o j mode i) h = absurd (cc)
+look_is (stage.Ask o j mode i seen) h = absurd (cc)
+look_is (stage.Expel o j mode i seen) h = absurd (cc)
+look_is (stage.Clear o j mode i) h = absurd (cc)
+look_is (stage.Close o j mode) h = absurd (cc)
 look_is (stage.Done c a) h = absurd (cc)
 
 over_no_look : (s : ContainerCall) → member_is_over s ≡ true → is_look s ≡ false
@@ -52,6 +59,12 @@ over_no_look (stage.Raise c a seen) h = absurd (cc)
 over_no_look stage.Look h = absurd (cc)
 over_no_look (stage.Visit i) h = absurd (cc)
 over_no_look (stage.Gather i seen next) h = absurd (cc)
+over_no_look (stage.Search o j mode) h = absurd (cc)
+over_no_look (stage.Watch o j mode i) h = absurd (cc)
+over_no_look (stage.Ask o j mode i seen) h = absurd (cc)
+over_no_look (stage.Expel o j mode i seen) h = absurd (cc)
+over_no_look (stage.Clear o j mode i) h = absurd (cc)
+over_no_look (stage.Close o j mode) h = absurd (cc)
 over_no_look (stage.Done c a) h = refl
 
 copies : (n i : ℕ) → is_copy (visits_from n i) ≡ true
@@ -77,7 +90,8 @@ module _ (m : ContainerParts) (party : ℕ) (within : party < length m.seats) wh
   answer = answer_of m.words (member_next m.indices.capacity (width_of m) m.values seat.stage)
 
   abbrev next : ContainerCall
-  next = member_take m.indices.capacity (width_of m) seat.saw (answer_at (stage_at m.indices.seats party)) seat.stage answer
+  next = member_take m.indices.capacity (width_of m) seat.saw (answer_at (stage_at m.indices.seats party))
+      (is_clearing (stage_at (asked_at m.indices party seat.stage).seats party)) seat.stage answer
 
   abbrev fresh : MemberSeat
   fresh = record { stage = next; first = seat.first; saw = answer; since = length m.events }
@@ -121,7 +135,8 @@ module _ (m : ContainerParts) (party : ℕ) (within : party < length m.seats) wh
       goes : (b : Bool) → (answer == seat.saw) ≡ b
           → next ≡ (if b then stage.Done call.Update (Updated false) else visits_from m.indices.capacity 0)
       goes b e = ap (λ (s : ContainerCall). member_take m.indices.capacity (width_of m) seat.saw
-          (answer_at (stage_at m.indices.seats party)) s answer) (look_is seat.stage looking)
+          (answer_at (stage_at m.indices.seats party)) (is_clearing (stage_at (asked_at m.indices party seat.stage).seats party)) s answer)
+          (look_is seat.stage looking)
           ∙ ap (λ (c : Bool). if c then stage.Done call.Update (Updated false) else visits_from m.indices.capacity 0) e
 
 -- a begin, and the last step of a call, leave each party its last copy

@@ -1,8 +1,9 @@
 -- What a party's own step leaves of a container, at each stage of its call that asks nothing of the set of indices.
-use Rattle.std.proofs.Common.{◌≡◌, ℕ, ◌+◌, ◌*◌, ◌-◌, ◌^◌, ◌<◌, ◌≤◌, ⊎_elim, Bool, true, false, not, if◌then◌else◌, ◌==◌, nat_lt, Ok, Err}
+use Rattle.std.proofs.Common.{◌≡◌, ℕ, ◌+◌, ◌*◌, ◌-◌, ◌^◌, ◌<◌, ◌≤◌, inl, inr, ⊎_elim, Bool, true, false, not, if◌then◌else◌, ◌==◌, nat_lt}
+use Rattle.std.proofs.Common.{Ok, Err}
 use Rattle.std.proofs.Common.{List, [], ◌∷◌, ◌++◌, length, slice_index, refl, sym, ◌∙◌, ap, subst, arith, length-append}
 use Rattle.std.specs.Global.{Vec}
-use Rattle.std.proofs.lemmas.Bool.{cases_eq, eq-eqb, eqb-true, lt-ltb, ltb-false, ltb-true, ne_eqb}
+use Rattle.std.proofs.lemmas.Bool.{cases_eq, eq-eqb, eqb-false, eqb-true, lt-ltb, ltb-false, ltb-true, ne_eqb}
 use Rattle.std.proofs.lemmas.List.{get_or_append_left, get_or_push}
 use Rattle.iox_container.specs.declared.release.ReleaseMode.{ReleaseMode}
 use Rattle.iox_queues_steps.specs.Access.{RingWords, after_access, after_store, answer_of, successor, word_of}
@@ -15,9 +16,11 @@ use Rattle.iox_queues.specs.declared.bits.machine.Event.{Event}
 use Rattle.iox_robust_steps.specs.ContainerSteps.{is_shown, value_cell, visited, visits_from}
 use Rattle.iox_robust_steps.specs.ContainerTold.{ComesIn, CopyIsTrue, MemberTells, WasSo, counted_by, gathered_after}
 use Rattle.iox_robust_steps.specs.ContainerTold.{is_change, shown_at, times_counted}
-use Rattle.iox_robust_steps.specs.ContainerKept.{HasGathered, IsUnheld, KnowsMember, SawBelow}
-use Rattle.iox_robust_steps.specs.Machine.{place_of}
+use Rattle.iox_robust_steps.specs.ContainerKept.{HasGathered, HoldsFor, IsLostOwner, IsOf, IsSeenOrOut, IsToFree, IsUnheld, KnowsMember}
+use Rattle.iox_robust_steps.specs.ContainerKept.{SawBelow}
+use Rattle.iox_robust_steps.specs.Machine.{CellFits, RobustSetState, is_lost, place_of}
 use Rattle.iox_robust_steps.specs.declared.call.RobustCall.{RobustCall}
+use Rattle.iox_robust_steps.specs.declared.call.RobustCall.TheVariants as set_stage
 use Rattle.iox_robust_steps.specs.declared.container.call.ContainerCall.{ContainerCall}
 use Rattle.iox_robust_steps.specs.declared.container.call.ContainerCall.TheVariants as stage
 use Rattle.iox_robust_steps.specs.declared.container.call.MemberAnswer.{MemberAnswer}
@@ -33,25 +36,42 @@ use Rattle.iox_robust_steps.proofs.ContainerWords.{value_position, values_stay, 
 
 -- what one step of a party leaves: the counts count the step, no member is in where nobody holds the index, no other party loses what
 -- it knows, and this one knows its new stage
-pub record MemberMade (n width p : ℕ) (values : List (Vec ℕ)) (start words words' : RingWords) (places places' : List Place)
+pub record MemberMade (n width p : ℕ) (values : List (Vec ℕ)) (start words words' : RingWords) (indices indices' : RobustSetState)
     (s : RobustCall) (first : ℕ) (events own : List Event) (e : Event) (t : ContainerCall) : Type 0 where
   pub write : words'.write ≡ words.write + counted_by e.access e.answer
   pub low : (i : ℕ) → i < n → slice_index words'.cells i ≤ length events + 1
-  pub out : (i : ℕ) → i < n → IsUnheld places' i → is_shown (slice_index words'.cells i) ≡ false
-  pub leaves : (q : ℕ) → (p ≡ q → ⊥) → LeavesMembers n width q words.cells words'.cells places places'
-  pub knows : KnowsMember n width values start words'.cells places' p s first (events ++ e ∷ []) (own ++ e ∷ []) t
+  pub out : (i : ℕ) → i < n → IsUnheld indices'.places i → is_shown (slice_index words'.cells i) ≡ false
+  pub leaves : (q : ℕ) → (p ≡ q → ⊥) → LeavesMembers n width q words.cells words'.cells indices indices'
+  pub knows : KnowsMember n width values start words'.cells indices' p s first (events ++ e ∷ []) (own ++ e ∷ []) t
 
-pub leaves_all_members : (n width q : ℕ) (cells : List ℕ) (places places' : List Place)
-    → ((i : ℕ) → place_of places i ≡ place.Held q → place_of places' i ≡ place.Held q)
-    → ((i : ℕ) → place_of places' i ≡ place.Held q → place_of places i ≡ place.Held q)
-    → LeavesMembers n width q cells cells places places'
-leaves_all_members n width q cells places places' held back = record {
+-- a step that changes no word of the container
+pub leaves_all_members : (n width q : ℕ) (cells : List ℕ) (indices indices' : RobustSetState)
+    → ((o : ℕ) → is_lost o indices'.lost ≡ false → is_lost o indices.lost ≡ false)
+    → ((o : ℕ) → is_lost o indices.lost ≡ true → is_lost o indices'.lost ≡ true)
+    → ((o i : ℕ) → i < n → is_lost o indices.lost ≡ false → HoldsFor indices q o i → HoldsFor indices' q o i)
+    → ((i : ℕ) → place_of indices'.places i ≡ place.Held q → place_of indices.places i ≡ place.Held q)
+    → ((o i : ℕ) → i < n → IsLostOwner indices o → IsOf o (slice_index indices'.words.cells i)
+    → IsOf o (slice_index indices.words.cells i))
+    → ((o i : ℕ) → i < n → IsLostOwner indices o → is_shown (slice_index cells i) ≡ true → slice_index indices.words.cells i ≡ o
+    → slice_index indices'.words.cells i ≡ o)
+    → LeavesMembers n width q cells cells indices indices'
+leaves_all_members n width q cells indices indices' alive gone held back of_lost in_lost = record {
+  alive = alive;
+  gone = gone;
   held = held;
   back = back;
-  same = λ i within is. (refl, λ j low. refl);
+  same = λ o i within live is. (refl, λ j low. refl);
+  out = λ i within is h. h;
   grows = λ i within. omega arith;
   gathers = λ i seen within in_then below is. (is, λ j low. refl);
+  of_lost = λ o i within lost is. (of_lost o i within lost is, inl refl);
+  in_lost = λ o i within lost same shown is. in_lost o i within lost shown is;
 }
+
+-- nor one of the set
+pub leaves_same : (n width q : ℕ) (cells : List ℕ) (indices : RobustSetState) → LeavesMembers n width q cells cells indices indices
+leaves_same n width q cells indices = leaves_all_members n width q cells indices indices (λ o h. h) (λ o h. h) (λ o i within live h. h)
+    (λ i h. h) (λ o i within lost h. h) (λ o i within lost shown h. h)
 
 both_true : true ≡ false → ⊥
 both_true h = cc
@@ -72,6 +92,9 @@ counts_it n width values start party first k events own own' (call.Remove owner 
 counts_it n width values start party first k events own own' call.Update (Added got) change times t = absurd t
 counts_it n width values start party first k events own own' call.Update (Removed state) change times t = absurd t
 counts_it n width values start party first k events own own' call.Update (Updated copied) change times t = absurd (cc)
+counts_it n width values start party first k events own own' (call.Recover owner number mode) (Added got) change times t = absurd t
+counts_it n width values start party first k events own own' (call.Recover owner number mode) (Removed state) change times t = times t
+counts_it n width values start party first k events own own' (call.Recover owner number mode) (Updated copied) change times t = absurd t
 
 -- a copy that went over all places is true
 copy_true : (n width : ℕ) (start : RingWords) (first : ℕ) (events own : List Event) (k : ℕ) → n ≤ k
@@ -83,17 +106,19 @@ copy_true n width start first events own k past saw = record {
       sym w.count ∙ all w.moment w.after w.before;
 }
 
-module _ (n width p : ℕ) (values : List (Vec ℕ)) (start words : RingWords) (places : List Place) (events own : List Event) (first : ℕ)
-    (now : words ≡ words_after start events) (size : length words.cells ≡ n + (n * width + 1)) (small : length words.cells < 2 ^ 62)
+module _ (n width p : ℕ) (values : List (Vec ℕ)) (start words : RingWords) (indices : RobustSetState) (events own : List Event)
+    (first : ℕ) (now : words ≡ words_after start events) (size : length words.cells ≡ n + (n * width + 1))
+    (small : length words.cells < 2 ^ 62)
     (below : (i : ℕ) → i < n → slice_index words.cells i ≤ length events)
-    (out : (i : ℕ) → i < n → IsUnheld places i → is_shown (slice_index words.cells i) ≡ false)
+    (out : (i : ℕ) → i < n → IsUnheld indices.places i → is_shown (slice_index words.cells i) ≡ false)
+    (fitting : (i : ℕ) → i < n → CellFits (place_of indices.places i) (slice_index indices.words.cells i))
     (began : first ≤ length events) (few : length events + 1 < 2 ^ 64 - 1) (write_low : words.write ≤ length events) where
   abbrev of : Access → ℕ → Event
   of access answer = record { party = p; access = access; answer = answer }
 
   abbrev Made : RingWords → RobustCall → Access → ℕ → ContainerCall → Type 0
   Made words' s access answer t
-      = MemberMade n width p values start words words' places places s first events own (of access answer) t
+      = MemberMade n width p values start words words' indices indices s first events own (of access answer) t
 
   abbrev later : Access → ℕ → List Event
   later access answer = events ++ of access answer ∷ []
@@ -107,13 +132,13 @@ module _ (n width p : ℕ) (values : List (Vec ℕ)) (start words : RingWords) (
 
   -- a step that changes no word
   pub quiet : (s : RobustCall) (access : Access) (answer : ℕ) (t : ContainerCall) → counted_by access answer ≡ 0
-      → KnowsMember n width values start words.cells places p s first (later access answer) (mine access answer) t
+      → KnowsMember n width values start words.cells indices p s first (later access answer) (mine access answer) t
       → Made words s access answer t
   quiet s access answer t none knows = record {
     write = omega (arith, none);
     low = λ i within. omega (arith, below i within);
     out = out;
-    leaves = λ q differs. leaves_all_members n width q words.cells places places (λ i h. h) (λ i h. h);
+    leaves = λ q differs. leaves_same n width q words.cells indices;
     knows = knows;
   }
 
@@ -122,23 +147,26 @@ module _ (n width p : ℕ) (values : List (Vec ℕ)) (start words : RingWords) (
 
   -- a removal looks at the count of its place
   pub sink_made : (s : RobustCall) (owner index : ℕ) (mode : ReleaseMode) → times_counted own ≡ 0 → index < n
-      → place_of places index ≡ place.Held p → is_shown (slice_index words.cells index) ≡ true
+      → HoldsFor indices p owner index → is_shown (slice_index words.cells index) ≡ true
       → Made words s (Load (Cell index)) (word_of words (Cell index)) (stage.Hide owner index mode (word_of words (Cell index)))
-  sink_made s owner index mode times within held shown = quiet s (Load (Cell index)) (word_of words (Cell index)) _ refl
-      (none_counted (Load (Cell index)) (word_of words (Cell index)) refl times, within, held, shown, count_is index within)
+  sink_made s owner index mode times within holds shown = quiet s (Load (Cell index)) (word_of words (Cell index)) _ refl (
+    none_counted (Load (Cell index)) (word_of words (Cell index)) refl times,
+    within,
+    λ live. (holds, shown, count_is index within),
+  )
 
   value_is : (i j : ℕ) → i < n → j < width
       → word_of words (Cell (value_cell n width i j)) ≡ slice_index words.cells (value_cell n width i j)
   value_is i j within low = ap (λ (k : ℕ). slice_index words.cells k) (value_position n width words.cells size small i j within low)
 
   -- who holds one index holds no other party's
-  apart : (q i k : ℕ) → (p ≡ q → ⊥) → place_of places i ≡ place.Held q → place_of places k ≡ place.Held p → i ≡ k → ⊥
+  apart : (q i k : ℕ) → (p ≡ q → ⊥) → place_of indices.places i ≡ place.Held q → place_of indices.places k ≡ place.Held p → i ≡ k → ⊥
   apart q i k differs his own_is same =
-      let is : place.Held p ≡ place.Held q = sym own_is ∙ ap (place_of places) (sym same) ∙ his in differs (let e : p ≡ q = cc in e)
+      let is : place.Held p ≡ place.Held q = sym own_is ∙ ap (place_of indices.places) (sym same) ∙ his in differs (let e : p ≡ q = cc in e)
 
   -- a word of its value is stored at a place that the party holds
   module _ (s : RobustCall) (number owner index next : ℕ) (times : times_counted own ≡ 0) (within : index < n)
-      (held : place_of places index ≡ place.Held p) (hidden : is_shown (slice_index words.cells index) ≡ false) (next_low : next ≤ width)
+      (holds : HoldsFor indices p owner index) (hidden : is_shown (slice_index words.cells index) ≡ false) (next_low : next ≤ width)
       (filled : (j : ℕ) → j < next
       → slice_index words.cells (value_cell n width index j) ≡ slice_index (table_value values number) j) where
     abbrev value : ℕ
@@ -154,9 +182,15 @@ module _ (n width p : ℕ) (values : List (Vec ℕ)) (start words : RingWords) (
       low = λ i inside. omega (arith, stay i inside, below i inside);
       out = λ i inside unheld. ap is_shown (stay i inside) ∙ out i inside unheld;
       leaves = λ q differs. record {
-        held = λ i h. h;
+        alive = λ o h. h;
+        gone = λ o h. h;
+        held = λ o i inside live h. h;
         back = λ i h. h;
-        same = λ i inside his. (stay i inside, λ j small_j. others i j inside small_j (apart q i index differs his held));
+        same = λ o i inside live his.
+            (stay i inside, λ j small_j. others i j inside small_j (apart q i index differs his.0 holds.0));
+        out = λ i inside his h. ap is_shown (stay i inside) ∙ h;
+        of_lost = λ o i inside lost is. (is, inl (stay i inside));
+        in_lost = λ o i inside lost same shown is. is;
         grows = λ i inside. omega (arith, stay i inside);
         gathers = λ i seen inside in_then seen_low is.
             let before : slice_index words.cells i ≡ seen = sym (stay i inside) ∙ is in (
@@ -168,10 +202,17 @@ module _ (n width p : ℕ) (values : List (Vec ℕ)) (start words : RingWords) (
       knows = (
         none_counted (Store (Cell cell) value) 0 refl times,
         within,
-        held,
-        ap is_shown (stay index within) ∙ hidden,
         omega (arith, low),
-        λ j below_next. ⊎_elim
+        λ live. (holds, ap is_shown (stay index within) ∙ hidden, one_more),
+      );
+    }
+      where
+        stay : (i : ℕ) → i < n → slice_index (after_store words (Cell cell) value).cells i ≡ slice_index words.cells i
+        stay i inside = counts_stay n width words.cells size small index next value within low i inside
+
+        one_more : (j : ℕ) → j < next + 1 → slice_index (after_store words (Cell cell) value).cells (value_cell n width index j)
+            ≡ slice_index (table_value values number) j
+        one_more j below_next = ⊎_elim
             (λ (same : j ≡ next). ap (λ (k : ℕ). slice_index (after_store words (Cell cell) value).cells (value_cell n width index k)) same
             ∙ value_here n width words.cells size small index next value within low
             ∙ ap (λ (k : ℕ). slice_index (table_value values number) k) (sym same))
@@ -179,12 +220,7 @@ module _ (n width p : ℕ) (values : List (Vec ℕ)) (start words : RingWords) (
             (value_cell n width index j)
             (words_apart n width words.cells size small index j next within (omega (arith, below_next, low)) low differs)
             ∙ filled j (omega (arith, below_next, differs)))
-            (cases_eq j next),
-      );
-    }
-      where
-        stay : (i : ℕ) → i < n → slice_index (after_store words (Cell cell) value).cells i ≡ slice_index words.cells i
-        stay i inside = counts_stay n width words.cells size small index next value within low i inside
+            (cases_eq j next)
 
         others : (i j : ℕ) → i < n → j < width → (i ≡ index → ⊥)
             → slice_index (after_store words (Cell cell) value).cells (value_cell n width i j)
@@ -202,15 +238,11 @@ module _ (n width p : ℕ) (values : List (Vec ℕ)) (start words : RingWords) (
     fill_made false e = quiet s (Load (Cell index)) (word_of words (Cell index)) _ refl (
       none_counted (Load (Cell index)) (word_of words (Cell index)) refl times,
       within,
-      held,
-      hidden,
-      count_is index within,
-      λ j low. filled j (omega (arith, low, next_low, ltb-false next width e)),
+      λ live. (holds, hidden, count_is index within, λ j low. filled j (omega (arith, low, next_low, ltb-false next width e))),
     )
 
-  -- the count of a place that the party holds goes up by one
-  module _ (s : RobustCall) (index seen : ℕ) (within : index < n) (held : place_of places index ≡ place.Held p)
-      (is_seen : seen ≡ slice_index words.cells index) where
+  -- the count of a place goes up by one
+  module _ (s : RobustCall) (index seen : ℕ) (within : index < n) (is_seen : seen ≡ slice_index words.cells index) where
     abbrev access : Access
     access = Store (Cell index) (successor seen)
 
@@ -239,73 +271,194 @@ module _ (n width p : ℕ) (values : List (Vec ℕ)) (start words : RingWords) (
         (λ (differs : i ≡ index → ⊥). (omega (arith, else_where i differs), omega (arith, else_where i differs, below i inside)))
         (cases_eq i index)
 
-    pub raised : (t : ContainerCall)
-        → KnowsMember n width values start counted_cells places p s first (later access 0) (mine access 0) t
-        → Made (after_store words (Cell index) (successor seen)) s access 0 t
-    raised t knows = record {
-      write = omega arith;
-      low = λ i inside. (either_count i inside).1;
-      out = λ i inside unheld. ap is_shown (else_where i (λ same. unheld p (ap (place_of places) same ∙ held))) ∙ out i inside unheld;
-      leaves = λ q differs. record {
-        held = λ i h. h;
-        back = λ i h. h;
-        same = λ i inside his. (else_where i (apart q i index differs his held), λ j low. values_same i j inside low);
-        grows = λ i inside. (either_count i inside).0;
-        gathers = λ i saw inside in_then saw_low is. ⊎_elim
-            (λ (same : i ≡ index). absurd (omega (
-              arith,
-              saw_low,
-              is,
-              here,
-              is_seen,
-              ap (λ (k : ℕ). slice_index counted_cells k) same,
-              ap (λ (k : ℕ). slice_index words.cells k) same,
-            )))
-            (λ (apart_is : i ≡ index → ⊥). (sym (else_where i apart_is) ∙ is, λ j low. values_same i j inside low))
-            (cases_eq i index);
-      };
-      knows = knows;
-    }
-
     pub now_is : (b : Bool) → is_shown (slice_index words.cells index) ≡ b → is_shown (slice_index counted_cells index) ≡ not b
     now_is b h = ap is_shown here ∙ next_shown seen ∙ ap not (ap is_shown is_seen ∙ h)
 
-    pub show_made : (number owner : ℕ) → times_counted own ≡ 0 → is_shown (slice_index words.cells index) ≡ false
-        → ((j : ℕ) → j < width → slice_index words.cells (value_cell n width index j) ≡ slice_index (table_value values number) j)
-        → Made (after_store words (Cell index) (successor seen)) s access 0 (stage.Count (call.Add number owner) (Added (Ok index)))
-    show_made number owner times hidden filled = raised _ (refl, (within, comes, none_counted access 0 refl times))
-      where
-        comes : ComesIn n width start p first (later access 0) index (table_value values number)
-        comes = record {
+    gathers_so : (i saw : ℕ) → i < n → saw ≤ slice_index words.cells i → slice_index counted_cells i ≡ saw
+        → (slice_index words.cells i ≡ saw)
+        × ((j : ℕ) → j < width
+        → slice_index counted_cells (value_cell n width i j) ≡ slice_index words.cells (value_cell n width i j))
+    gathers_so i saw inside saw_low is = ⊎_elim
+        (λ (same : i ≡ index). absurd (omega (
+          arith,
+          saw_low,
+          is,
+          here,
+          is_seen,
+          ap (λ (k : ℕ). slice_index counted_cells k) same,
+          ap (λ (k : ℕ). slice_index words.cells k) same,
+        )))
+        (λ (apart_is : i ≡ index → ⊥). (sym (else_where i apart_is) ∙ is, λ j low. values_same i j inside low))
+        (cases_eq i index)
+
+    -- the party holds the index, for an owner that isn't lost
+    module _ (owner : ℕ) (live : is_lost owner indices.lost ≡ false) (holds : HoldsFor indices p owner index) where
+      fits_held : (x : Place) (cell : ℕ) → x ≡ place.Held p → CellFits x cell → cell < 2 ^ 63
+      fits_held x cell is h = let both : CellFits (place.Held p) cell = subst (λ (y : Place). CellFits y cell) is h in both.1
+
+      not_lost : (o : ℕ) → IsLostOwner indices o → IsOf o (slice_index indices.words.cells index) → ⊥
+      not_lost o lost (inl is) =
+          let wrong : true ≡ false = sym lost.1 ∙ ap (λ (k : ℕ). is_lost k indices.lost) (sym is ∙ holds.1) ∙ live in cc
+      not_lost o lost (inr is) = omega (
+        arith,
+        is,
+        lost.0.0,
+        fits_held (place_of indices.places index) (slice_index indices.words.cells index) holds.0 (fitting index within),
+      )
+
+      pub raised : (t : ContainerCall)
+          → KnowsMember n width values start counted_cells indices p s first (later access 0) (mine access 0) t
+          → Made (after_store words (Cell index) (successor seen)) s access 0 t
+      raised t knows = record {
+        write = omega arith;
+        low = λ i inside. (either_count i inside).1;
+        out = λ i inside unheld. ap is_shown (else_where i (λ same. unheld p (ap (place_of indices.places) same ∙ holds.0)))
+            ∙ out i inside unheld;
+        leaves = λ q differs. record {
+          alive = λ o h. h;
+          gone = λ o h. h;
+          held = λ o i inside alive h. h;
+          back = λ i h. h;
+          same = λ o i inside alive his.
+              (else_where i (apart q i index differs his.0 holds.0), λ j low. values_same i j inside low);
+          out = λ i inside his h. ap is_shown (else_where i (apart q i index differs his holds.0)) ∙ h;
+          grows = λ i inside. (either_count i inside).0;
+          gathers = λ i saw inside in_then saw_low is. gathers_so i saw inside saw_low is;
+          of_lost = λ o i inside lost is. (
+            is,
+            ⊎_elim
+                (λ (same : i ≡ index). absurd (not_lost o lost
+                (subst (λ (k : ℕ). IsOf o (slice_index indices.words.cells k)) same is)))
+                (λ (apart_is : i ≡ index → ⊥). inl (else_where i apart_is))
+                (cases_eq i index),
+          );
+          in_lost = λ o i inside lost same shown is. is;
+        };
+        knows = knows;
+      }
+
+      pub show_made : (number : ℕ) → times_counted own ≡ 0 → is_shown (slice_index words.cells index) ≡ false
+          → ((j : ℕ) → j < width → slice_index words.cells (value_cell n width index j) ≡ slice_index (table_value values number) j)
+          → Made (after_store words (Cell index) (successor seen)) s access 0 (stage.Count (call.Add number owner) (Added (Ok index)))
+      show_made number times hidden filled = raised _ (refl, (within, comes, none_counted access 0 refl times))
+        where
+          comes : ComesIn n width start p first (later access 0) index (table_value values number)
+          comes = record {
+            earlier = events;
+            event = of access 0;
+            later = [];
+            whole = refl;
+            inside = began;
+            its = refl;
+            out = ap (λ (w : RingWords). is_shown (slice_index w.cells index)) (sym now) ∙ hidden;
+            in_then = ap (λ (w : RingWords). is_shown (slice_index (after_access w access).cells index)) (sym now) ∙ now_is false hidden;
+            is = λ j low. ap (λ (w : RingWords). slice_index (after_access w access).cells (value_cell n width index j)) (sym now)
+                ∙ values_same index j within low ∙ filled j low;
+          }
+
+      pub hide_made : (mode : ReleaseMode) → times_counted own ≡ 0 → is_shown (slice_index words.cells index) ≡ true
+          → Made (after_store words (Cell index) (successor seen)) s access 0 (stage.Leave owner index mode)
+      hide_made mode times in_then = raised _ (
+        none_counted access 0 refl times,
+        within,
+        record {
           earlier = events;
           event = of access 0;
           later = [];
           whole = refl;
           inside = began;
           its = refl;
-          out = ap (λ (w : RingWords). is_shown (slice_index w.cells index)) (sym now) ∙ hidden;
-          in_then = ap (λ (w : RingWords). is_shown (slice_index (after_access w access).cells index)) (sym now) ∙ now_is false hidden;
-          is = λ j low. ap (λ (w : RingWords). slice_index (after_access w access).cells (value_cell n width index j)) (sym now)
-              ∙ values_same index j within low ∙ filled j low;
-        }
+          in_before = ap (λ (w : RingWords). is_shown (slice_index w.cells index)) (sym now) ∙ in_then;
+          out = ap (λ (w : RingWords). is_shown (slice_index (after_access w access).cells index)) (sym now) ∙ now_is true in_then;
+        },
+        λ is. now_is true in_then,
+      )
 
-    pub hide_made : (owner : ℕ) (mode : ReleaseMode) → times_counted own ≡ 0 → is_shown (slice_index words.cells index) ≡ true
-        → Made (after_store words (Cell index) (successor seen)) s access 0 (stage.Leave owner index mode)
-    hide_made owner mode times in_then = raised _ (
-      none_counted access 0 refl times,
-      within,
-      record {
-        earlier = events;
-        event = of access 0;
-        later = [];
-        whole = refl;
-        inside = began;
-        its = refl;
-        in_before = ap (λ (w : RingWords). is_shown (slice_index w.cells index)) (sym now) ∙ in_then;
-        out = ap (λ (w : RingWords). is_shown (slice_index (after_access w access).cells index)) (sym now) ∙ now_is true in_then;
-      },
-      λ is. now_is true in_then,
-    )
+    -- a recovery takes the member of a lost owner out
+    module _ (owner number : ℕ) (mode : ReleaseMode) (lost : IsLostOwner indices owner)
+        (owned : slice_index indices.words.cells index ≡ owner) (in_then : is_shown (slice_index words.cells index) ≡ true) where
+      abbrev expels : Access
+      expels = Exchange (Cell index) seen (successor seen)
+
+      out_now : is_shown (slice_index counted_cells index) ≡ false
+      out_now = now_is true in_then
+
+      no_live : (o i : ℕ) → i ≡ index → is_lost o indices.lost ≡ false → slice_index indices.words.cells i ≡ o → ⊥
+      no_live o i same live is =
+          let wrong : true ≡ false = sym lost.1
+          ∙ ap (λ (k : ℕ). is_lost k indices.lost) (sym owned ∙ ap (λ (k : ℕ). slice_index indices.words.cells k) (sym same) ∙ is)
+          ∙ live in cc
+
+      out_either : (i : ℕ) → (is_shown (slice_index words.cells i) ≡ false) → is_shown (slice_index counted_cells i) ≡ false
+      out_either i h = ⊎_elim
+          (λ (same : i ≡ index). ap (λ (k : ℕ). is_shown (slice_index counted_cells k)) same ∙ out_now)
+          (λ (apart_is : i ≡ index → ⊥). ap is_shown (else_where i apart_is) ∙ h)
+          (cases_eq i index)
+
+      pub expelled : (answer : ℕ) → times_counted own ≡ 0 → IsToFree owner number mode index s
+          → Made (after_store words (Cell index) (successor seen)) s expels answer (stage.Clear owner number mode index)
+      expelled answer times to_free = record {
+        write = omega arith;
+        low = λ i inside. (either_count i inside).1;
+        out = λ i inside unheld. out_either i (out i inside unheld);
+        leaves = λ q differs. record {
+          alive = λ o h. h;
+          gone = λ o h. h;
+          held = λ o i inside alive h. h;
+          back = λ i h. h;
+          same = λ o i inside alive his.
+              (else_where i (λ same. no_live o i same alive his.1), λ j low. values_same i j inside low);
+          out = λ i inside his h. out_either i h;
+          grows = λ i inside. (either_count i inside).0;
+          gathers = λ i saw inside shown saw_low is. gathers_so i saw inside saw_low is;
+          of_lost = λ o i inside gone is. (
+            is,
+            ⊎_elim
+                (λ (same : i ≡ index). inr (ap (λ (k : ℕ). is_shown (slice_index counted_cells k)) same ∙ out_now))
+                (λ (apart_is : i ≡ index → ⊥). inl (else_where i apart_is))
+                (cases_eq i index),
+          );
+          in_lost = λ o i inside gone same shown is. is;
+        };
+        knows = (none_counted expels answer refl times, within, lost, to_free, λ of. out_now);
+      }
+
+  -- a recovery looks at the count of a place
+  pub watch_made : (s : RobustCall) (owner number : ℕ) (mode : ReleaseMode) (i : ℕ) → times_counted own ≡ 0 → i < n
+      → IsLostOwner indices owner → s ≡ set_stage.Look owner number mode i
+      → Made words s (Load (Cell i)) (word_of words (Cell i)) (stage.Ask owner number mode i (word_of words (Cell i)))
+  watch_made s owner number mode i times within lost looks = quiet s (Load (Cell i)) (word_of words (Cell i)) _ refl (
+    none_counted (Load (Cell i)) (word_of words (Cell i)) refl times,
+    within,
+    lost,
+    looks,
+    omega (arith, count_is i within),
+    λ of. inl (sym (count_is i within)),
+  )
+
+  -- it takes the member out that it saw, or finds another count
+  pub expel_made : (s : RobustCall) (owner number : ℕ) (mode : ReleaseMode) (i seen : ℕ) → times_counted own ≡ 0 → i < n
+      → IsLostOwner indices owner → IsToFree owner number mode i s
+      → IsSeenOrOut owner (slice_index indices.words.cells i) (slice_index words.cells i) seen → is_shown seen ≡ true
+      → (slice_index words.cells i ≡ seen → slice_index indices.words.cells i ≡ owner) → (b : Bool) → (word_of words (Cell i) == seen) ≡ b
+      → Made (if b then after_store words (Cell i) (successor seen) else words) s (Exchange (Cell i) seen (successor seen))
+      (word_of words (Cell i)) (stage.Clear owner number mode i)
+  expel_made s owner number mode i seen times within lost to_free known in_then owned true e =
+      let same : slice_index words.cells i ≡ seen = sym (count_is i within) ∙ eqb-true (word_of words (Cell i)) seen e in
+      expelled s i seen within (sym same) owner number mode lost (owned same) (ap is_shown same ∙ in_then) (word_of words (Cell i)) times
+      to_free
+  expel_made s owner number mode i seen times within lost to_free known in_then owned false e =
+      quiet s (Exchange (Cell i) seen (successor seen)) (word_of words (Cell i)) _ refl (
+        none_counted (Exchange (Cell i) seen (successor seen)) (word_of words (Cell i)) refl times,
+        within,
+        lost,
+        to_free,
+        λ of. ⊎_elim
+            (λ (same : slice_index words.cells i ≡ seen). absurd
+            (eqb-false (word_of words (Cell i)) seen e (count_is i within ∙ same)))
+            (λ (out_is : is_shown (slice_index words.cells i) ≡ false). out_is)
+            (known of),
+      )
 
   -- a change is counted, or another one was meanwhile
   module _ (s : RobustCall) (c : MemberCall) (a : MemberAnswer) (change : is_change c a ≡ true)
@@ -329,7 +482,7 @@ module _ (n width p : ℕ) (values : List (Vec ℕ)) (start words : RingWords) (
           write = omega (arith, one, same, write_low, few);
           low = λ i within. omega (arith, below i within);
           out = out;
-          leaves = λ q differs. leaves_all_members n width q words.cells places places (λ i h. h) (λ i h. h);
+          leaves = λ q differs. leaves_same n width q words.cells indices;
           knows = told_later (Exchange Write seen (successor seen)) words.write 1 one;
         }
     raise_made seen false e =
@@ -390,13 +543,13 @@ module _ (n width p : ℕ) (values : List (Vec ℕ)) (start words : RingWords) (
         (cases_eq i k)
 
     visits_known : (l : ℕ) → SawBelow n width start first (later look count) (mine look count) l → (b : Bool) → nat_lt l n ≡ b
-        → KnowsMember n width values start words.cells places p s first (later look count) (mine look count)
+        → KnowsMember n width values start words.cells indices p s first (later look count) (mine look count)
         (if b then stage.Visit l else stage.Done call.Update (Updated true))
     visits_known l so true e = (ltb-true l n e, so)
     visits_known l so false e = copy_true n width start first (later look count) (mine look count) l (ltb-false l n e) so
 
     visited_known : (b : Bool) → is_shown count ≡ b
-        → KnowsMember n width values start words.cells places p s first (later look count) (mine look count)
+        → KnowsMember n width values start words.cells indices p s first (later look count) (mine look count)
         (if b then stage.Gather k count 0 else visits_from n (successor k))
     visited_known true e =
         let nothing : gathered_after n [] (mine look count) ≡ [] = more_gathered n [] own (of look count)
@@ -478,7 +631,7 @@ module _ (n width p : ℕ) (values : List (Vec ℕ)) (start words : RingWords) (
   look_made s saw false = quiet s (Load Write) words.write _ refl (none (nat_lt 0 n) refl)
     where
       none : (b : Bool) → nat_lt 0 n ≡ b
-          → KnowsMember n width values start words.cells places p s first (later (Load Write) words.write)
+          → KnowsMember n width values start words.cells indices p s first (later (Load Write) words.write)
           (mine (Load Write) words.write) (if b then stage.Visit 0 else stage.Done call.Update (Updated true))
       none true e = (ltb-true 0 n e, λ i low. absurd (omega (arith, low)))
       none false e = copy_true n width start first (later (Load Write) words.write) (mine (Load Write) words.write) 0 (ltb-false 0 n e)

@@ -2,6 +2,7 @@
 use Rattle.std.proofs.Common.{◌≡◌, ℕ, ◌+◌, ◌*◌, ◌<◌, ◌≤◌, Bool, true, false, not, if◌then◌else◌, ◌==◌, ◌&&◌, nat_lt, Option, None}
 use Rattle.std.proofs.Common.{Some}
 use Rattle.std.proofs.Common.{List, [], ◌∷◌, ◌++◌, length, slice_index, take, drop, refl, sym, ◌∙◌, ap, subst, arith, length-append}
+use Rattle.std.proofs.Common.{mod-eq_of_lt}
 use Rattle.std.specs.Global.{Vec}
 use Rattle.std.proofs.Math.Seq.{drop-append_seam, take-append_seam}
 use Rattle.std.proofs.lemmas.Bool.{and_parts, eqb-true, ltb-true}
@@ -17,15 +18,17 @@ use Rattle.iox_queues.specs.declared.bits.machine.Event.{Event}
 use Rattle.iox_queues.proofs.OwnSteps.{own_else_since, own_more, own_more_since}
 use Rattle.iox_queues.proofs.Recorded.{answered_on}
 use Rattle.iox_robust_steps.specs.ContainerAsked.{AreMembersAsked}
-use Rattle.iox_robust_steps.specs.ContainerSteps.{answer_at, is_shown, member_begun, member_in_hand, member_is_idle, member_next}
+use Rattle.iox_robust_steps.specs.ContainerSteps.{answer_at, is_clearing, is_shown, member_begun, member_in_hand, member_is_idle}
+use Rattle.iox_robust_steps.specs.ContainerSteps.{member_next}
 use Rattle.iox_robust_steps.specs.ContainerSteps.{member_take}
 use Rattle.iox_robust_steps.specs.ContainerMachine.{ContainerParts, HasFewMoves, MemberStepsTo, asked_at, asked_by, empty_words, is_look}
 use Rattle.iox_robust_steps.specs.ContainerMachine.{may_ask, may_call, member_begins, member_ended, member_fits, member_happens}
 use Rattle.iox_robust_steps.specs.ContainerMachine.{member_seat, member_stage, member_went, seat_after, width_of}
 use Rattle.iox_robust_steps.specs.ContainerTold.{times_counted}
 use Rattle.iox_robust_steps.specs.ContainerOfSet.{AnsweredCall, answered_to, asked_for, asked_so_far}
-use Rattle.iox_robust_steps.specs.ContainerStays.{LetsPassSoFar, whose_after}
-use Rattle.iox_robust_steps.specs.ContainerKept.{FitsWhose, KnowsMember, MembersAreKept, MembersAreSound}
+use Rattle.iox_robust_steps.specs.ContainerStays.{LetsPassSoFar}
+use Rattle.iox_robust_steps.specs.ContainerInside.{inside_after}
+use Rattle.iox_robust_steps.specs.ContainerKept.{FitsWhose, HasNoneLost, KnowsMember, MembersAreKept, MembersAreSound, MembersPass}
 use Rattle.iox_robust_steps.specs.Kept.{IsConsistent}
 use Rattle.iox_robust_steps.specs.Changes.{is_owner}
 use Rattle.iox_robust_steps.specs.Machine.{HasFewSteps, begun, is_holder, is_lost, may_begin, place_of, seat_at, stage_at}
@@ -47,14 +50,16 @@ use Rattle.iox_robust_steps.specs.declared.state.Seat.{Seat}
 use Rattle.iox_robust_steps.proofs.ContainerAsked.{SoFar, member_asked_first, member_asked_next, member_call_asked}
 use Rattle.iox_robust_steps.proofs.ContainerAsked.{members_asked_append}
 use Rattle.iox_robust_steps.proofs.ContainerAsked.{members_asked_on}
-use Rattle.iox_robust_steps.proofs.ContainerGoing.{MemberMade, leaves_all_members}
+use Rattle.iox_robust_steps.proofs.ContainerGoing.{MemberMade, leaves_all_members, leaves_same}
 use Rattle.iox_robust_steps.proofs.ContainerLeaves.{LeavesMembers, knows_member_else}
 use Rattle.iox_robust_steps.proofs.ContainerOfCalls.{member_begun_counted, member_went_counted}
 use Rattle.iox_robust_steps.proofs.ContainerOfSet.{AsksFor, else_asks, own_asks}
 use Rattle.iox_robust_steps.proofs.ContainerRuns.{KnowsAt, SetStays, acquires, asked, either_seat, ended_told, makes, saw_on, stays}
 use Rattle.iox_robust_steps.proofs.ContainerRuns.{told_append, told_on}
 use Rattle.iox_robust_steps.proofs.ContainerSeats.{each_member_seat}
-use Rattle.iox_robust_steps.proofs.ContainerStays.{each_append, each_on, ended_passes, goes, own_passes, stays_more, whose_more}
+use Rattle.iox_robust_steps.proofs.ContainerInside.{calm_more, inside_more, till_out_more}
+use Rattle.iox_robust_steps.proofs.ContainerStaying.{goes}
+use Rattle.iox_robust_steps.proofs.ContainerStays.{calm_step, each_append, each_on, ended_passes, own_passes}
 use Rattle.iox_robust_steps.proofs.ContainerWords.{count_position, more_counted}
 use Rattle.iox_robust_steps.proofs.Ending.{same_cells}
 use Rattle.iox_robust_steps.proofs.Seats.{seat_here}
@@ -63,22 +68,22 @@ use Rattle.iox_robust_steps.proofs.Seats.{seat_here}
 module _ (m x : ContainerParts) (n party q : ℕ) (e : Event) (t : MemberSeat) (differs : party ≡ q → ⊥) (its : e.party ≡ party)
     (same_values : x.values ≡ m.values) (longer : x.events ≡ m.events ++ e ∷ [])
     (same_stage : stage_at x.indices.seats q ≡ stage_at m.indices.seats q)
-    (leaves : LeavesMembers n (width_of m) q m.words.cells x.words.cells m.indices.places x.indices.places) where
+    (leaves : LeavesMembers n (width_of m) q m.words.cells x.words.cells m.indices x.indices) where
   pub others_know : KnowsAt n m q t × (t.first ≤ length m.events) → KnowsAt n x q t
   others_know h =
       subst (λ (values : List (Vec ℕ)). KnowsMember n (length (table_value values 0)) values (empty_words n (length (table_value values 0)))
-      x.words.cells x.indices.places q (stage_at x.indices.seats q) t.first x.events (own q (drop t.first x.events)) t.stage)
+      x.words.cells x.indices q (stage_at x.indices.seats q) t.first x.events (own q (drop t.first x.events)) t.stage)
       (sym same_values)
-      (subst (λ (s : RobustCall). KnowsMember n (width_of m) m.values (empty_words n (width_of m)) x.words.cells x.indices.places q s
+      (subst (λ (s : RobustCall). KnowsMember n (width_of m) m.values (empty_words n (width_of m)) x.words.cells x.indices q s
       t.first
       x.events (own q (drop t.first x.events)) t.stage) (sym same_stage)
-      (subst (λ (es : List Event). KnowsMember n (width_of m) m.values (empty_words n (width_of m)) x.words.cells x.indices.places q
+      (subst (λ (es : List Event). KnowsMember n (width_of m) m.values (empty_words n (width_of m)) x.words.cells x.indices q
       (stage_at m.indices.seats q) t.first es (own q (drop t.first es)) t.stage) (sym longer)
-      (subst (λ (mine : List Event). KnowsMember n (width_of m) m.values (empty_words n (width_of m)) x.words.cells x.indices.places q
+      (subst (λ (mine : List Event). KnowsMember n (width_of m) m.values (empty_words n (width_of m)) x.words.cells x.indices q
       (stage_at m.indices.seats q) t.first (m.events ++ e ∷ []) mine t.stage)
       (sym (own_else_since q t.first m.events e h.1 (λ same. differs (sym its ∙ same))))
       (knows_member_else n (width_of m) (empty_words n (width_of m)) t.first m.events e m.values q m.words.cells x.words.cells
-      m.indices.places x.indices.places (stage_at m.indices.seats q) (own q (drop t.first m.events)) leaves t.stage h.0))))
+      m.indices x.indices (stage_at m.indices.seats q) (own q (drop t.first m.events)) leaves t.stage h.0))))
 
 -- a copy looks at the count of changes
 pub look_write : (n width : ℕ) (values : List (Vec ℕ)) (words : RingWords) (t : ContainerCall) → is_look t ≡ true
@@ -96,6 +101,12 @@ look_write n width values words (stage.Raise c a seen) h = absurd (cc)
 look_write n width values words stage.Look h = refl
 look_write n width values words (stage.Visit i) h = absurd (cc)
 look_write n width values words (stage.Gather i seen next) h = absurd (cc)
+look_write n width values words (stage.Search o j mode) h = absurd (cc)
+look_write n width values words (stage.Watch o j mode i) h = absurd (cc)
+look_write n width values words (stage.Ask o j mode i seen) h = absurd (cc)
+look_write n width values words (stage.Expel o j mode i seen) h = absurd (cc)
+look_write n width values words (stage.Clear o j mode i) h = absurd (cc)
+look_write n width values words (stage.Close o j mode) h = absurd (cc)
 look_write n width values words (stage.Done c a) h = absurd (cc)
 
 -- a party goes on
@@ -112,8 +123,11 @@ module _ (m : ContainerParts) (party : ℕ) (fit : member_fits m (GoOn party) �
   abbrev answer : ℕ
   answer = answer_of m.words (member_next n (width_of m) m.values t)
 
+  abbrev finds : Bool
+  finds = is_clearing (stage_at (asked_at m.indices party t).seats party)
+
   abbrev next : ContainerCall
-  next = member_take n (width_of m) seat.saw (answer_at (stage_at m.indices.seats party)) t answer
+  next = member_take n (width_of m) seat.saw (answer_at (stage_at m.indices.seats party)) finds t answer
 
   abbrev e : Event
   e = record { party = party; access = member_next n (width_of m) m.values t; answer = answer }
@@ -139,7 +153,7 @@ module _ (m : ContainerParts) (party : ℕ) (fit : member_fits m (GoOn party) �
   went_sound : HasFewMoves x → MembersAreSound n x
   went_sound few =
       let s : MembersAreSound n m = k.sound (omega (arith, few, longer)) in
-      let made : MemberMade n (width_of m) party m.values (empty_words n (width_of m)) m.words x.words m.indices.places x.indices.places
+      let made : MemberMade n (width_of m) party m.values (empty_words n (width_of m)) m.words x.words m.indices x.indices
       (stage_at x.indices.seats party) seat.first m.events (own party (drop seat.first m.events)) e next
       = makes m party k (omega (arith, few, longer)) s t parts.1 (s.knows party) in
       record {
@@ -156,7 +170,7 @@ module _ (m : ContainerParts) (party : ℕ) (fit : member_fits m (GoOn party) �
         told = told_append n (width_of m) m.values (empty_words n (width_of m)) (m.events ++ e ∷ []) m.finished
             (member_ended party seat.first (length m.events) t)
             (told_on n (width_of m) m.values (empty_words n (width_of m)) m.events e m.finished s.told)
-            (ended_told n (width_of m) m.values (empty_words n (width_of m)) m.words.cells m.indices.places party seat.first m.events e
+            (ended_told n (width_of m) m.values (empty_words n (width_of m)) m.words.cells m.indices party seat.first m.events e
             (stage_at m.indices.seats party) (k.began party) t (s.knows party));
         saw = each_member_seat (λ (q : ℕ) (t : MemberSeat). (t.saw ≡ times_counted (take t.since m.events)) × (t.since ≤ length m.events))
             (λ (q : ℕ) (t : MemberSeat). t.saw ≡ times_counted (take t.since x.events)) m.seats party
@@ -171,35 +185,23 @@ module _ (m : ContainerParts) (party : ℕ) (fit : member_fits m (GoOn party) �
             (λ (t : MemberSeat). answered_to party x.indices.finished ≡ asked_for party x.finished ++ asked_so_far t.stage) looks
             (record { stage = next; first = seat.first; saw = answer; since = length m.events }) (record seat { stage = next })
             (asks_here few s) (asks_here few s));
-        stays = λ i within. stays_more n (width_of m) i None m.events e (s.stays i within)
-            (goes m party k (omega (arith, few, longer)) s t parts.1 (s.knows party) i within (whose_after i None m.events)
-            (s.whose i within)).0;
-        whose = λ i within. subst (λ (o : Option ℕ). FitsWhose o (slice_index x.words.cells i) (place_of x.indices.places i))
-            (sym (whose_more i None m.events e))
-            (goes m party k (omega (arith, few, longer)) s t parts.1 (s.knows party) i within (whose_after i None m.events)
-            (s.whose i within)).1;
-        passes = each_append n (m.events ++ e ∷ []) m.finished (member_ended party seat.first (length m.events) t)
-            (each_on n (width_of m) m.values (empty_words n (width_of m)) m.events e m.finished s.told s.passes)
-            (ended_passes n party seat.first m.events e t (s.passing party));
-        passing = each_member_seat (λ (q : ℕ) (t : MemberSeat). LetsPassSoFar n t.stage (own q (drop t.first m.events))
-            × (t.first ≤ length m.events))
-            (λ (q : ℕ) (t : MemberSeat). LetsPassSoFar n t.stage (own q (drop t.first x.events))) m.seats party
-            (seat_after seat next answer (length m.events)) there (λ q. (s.passing q, k.began q))
-            (λ q differs h. subst (λ (es : List Event). LetsPassSoFar n (member_stage m.seats q) es)
-            (sym (own_else_since q (member_seat m.seats q).first m.events e h.1 differs)) h.0)
-            (either_seat (λ (t : MemberSeat). LetsPassSoFar n t.stage (own party (drop t.first x.events))) looks
-            (record { stage = next; first = seat.first; saw = answer; since = length m.events }) (record seat { stage = next })
-            (passes_here few s) (passes_here few s));
+        stays = λ i within. till_out_more n (width_of m) i None m.events e (s.stays i within)
+            (goes m party k (omega (arith, few, longer)) s t parts.1 (s.knows party) i within (inside_after i None m.events)
+            (s.inside i within)).0;
+        inside = λ i within. subst (λ (o : Option ℕ). FitsWhose o (slice_index x.words.cells i) (place_of x.indices.places i))
+            (sym (inside_more i None m.events e))
+            (goes m party k (omega (arith, few, longer)) s t parts.1 (s.knows party) i within (inside_after i None m.events)
+            (s.inside i within)).1;
       }
     where
       set_few : HasFewMoves x → HasFewSteps m.indices
       set_few few = omega (arith, few, longer, k.few)
 
       asks_for : MembersAreSound n m → (t : ContainerCall)
-          → KnowsMember n (width_of m) m.values (empty_words n (width_of m)) m.words.cells m.indices.places party
+          → KnowsMember n (width_of m) m.values (empty_words n (width_of m)) m.words.cells m.indices party
           (stage_at m.indices.seats party) seat.first m.events (own party (drop seat.first m.events)) t
           → (c : IsConsistent m.indices)
-          → AsksFor m.indices party n (width_of m) seat.saw seat.first (length m.events) answer
+          → AsksFor m.indices party n (width_of m) seat.saw seat.first (length m.events) answer finds
           (own party (drop (seat_at m.indices.seats party).first m.indices.events)) (c.knows party) t
       asks_for s stage.Idle kn c = tt
       asks_for s (stage.Enter number owner) kn c = kn.2
@@ -214,28 +216,27 @@ module _ (m : ContainerParts) (party : ℕ) (fit : member_fits m (GoOn party) �
       asks_for s stage.Look kn c = tt
       asks_for s (stage.Visit i) kn c = tt
       asks_for s (stage.Gather i seen j) kn c = tt
+      asks_for s (stage.Search o j mode) kn c = tt
+      asks_for s (stage.Watch o j mode i) kn c = tt
+      asks_for s (stage.Ask o j mode i seen) kn c = ap answer_at kn.3
+      asks_for s (stage.Expel o j mode i seen) kn c = tt
+      asks_for s (stage.Clear o j mode i) kn c = ap answer_at kn.3.1
+      asks_for s (stage.Close o j mode) kn c = kn.2
       asks_for s (stage.Done c a) kn d = tt
 
       asks_here : HasFewMoves x → MembersAreSound n m
           → answered_to party x.indices.finished ≡ asked_for party x.finished ++ asked_so_far next
       asks_here few s =
           let c : IsConsistent m.indices = k.indices.sound (set_few few) in
-          own_asks m.indices party n (width_of m) seat.saw seat.first (length m.events) answer
+          own_asks m.indices party n (width_of m) seat.saw seat.first (length m.events) answer finds
           (own party (drop (seat_at m.indices.seats party).first m.indices.events)) (c.knows party) t
           (asks_for s t (s.knows party) c) m.finished (s.asks party)
 
-      passes_here : HasFewMoves x → MembersAreSound n m
-          → LetsPassSoFar n next (own party (drop seat.first (m.events ++ e ∷ [])))
-      passes_here few s = subst (λ (es : List Event). LetsPassSoFar n next es)
-          (sym (own_more_since party seat.first m.events e (k.began party) refl))
-          (own_passes m party k (omega (arith, few, longer)) s seat.saw (answer_at (stage_at m.indices.seats party)) answer t parts.1
-          (s.knows party) (own party (drop seat.first m.events)) e refl (s.passing party))
-
-      here : KnowsMember n (width_of m) m.values (empty_words n (width_of m)) x.words.cells x.indices.places party
+      here : KnowsMember n (width_of m) m.values (empty_words n (width_of m)) x.words.cells x.indices party
           (stage_at x.indices.seats party) seat.first (m.events ++ e ∷ []) (own party (drop seat.first m.events) ++ e ∷ []) next
-          → KnowsMember n (width_of m) m.values (empty_words n (width_of m)) x.words.cells x.indices.places party
+          → KnowsMember n (width_of m) m.values (empty_words n (width_of m)) x.words.cells x.indices party
           (stage_at x.indices.seats party) seat.first (m.events ++ e ∷ []) (own party (drop seat.first (m.events ++ e ∷ []))) next
-      here h = subst (λ (mine : List Event). KnowsMember n (width_of m) m.values (empty_words n (width_of m)) x.words.cells x.indices.places
+      here h = subst (λ (mine : List Event). KnowsMember n (width_of m) m.values (empty_words n (width_of m)) x.words.cells x.indices
           party (stage_at x.indices.seats party) seat.first (m.events ++ e ∷ []) mine next)
           (sym (own_more_since party seat.first m.events e (k.began party) refl)) h
 
@@ -248,17 +249,43 @@ module _ (m : ContainerParts) (party : ℕ) (fit : member_fits m (GoOn party) �
           ∙ ap times_counted (sym (take-append_seam m.events (e ∷ [])))
       saw_here s false is = saw_on m e seat (k.since party) (s.saw party)
 
+  went_pass : HasFewMoves x → HasNoneLost x → MembersPass n x
+  went_pass few none =
+      let s : MembersAreSound n m = k.sound (omega (arith, few, longer)) in
+      let h : MembersPass n m = k.pass (omega (arith, few, longer)) (set_stays.grew none) in
+      record {
+        calm = calm_more m.events e h.calm (calm_step m party k (omega (arith, few, longer)) s (set_stays.grew none) t (s.knows party));
+        passes = each_append n (m.events ++ e ∷ []) m.finished (member_ended party seat.first (length m.events) t)
+            (each_on n (width_of m) m.values (empty_words n (width_of m)) m.events e m.finished s.told h.passes)
+            (ended_passes n party seat.first m.events e t (h.passing party));
+        passing = each_member_seat (λ (q : ℕ) (t : MemberSeat). LetsPassSoFar n t.stage (own q (drop t.first m.events))
+            × (t.first ≤ length m.events))
+            (λ (q : ℕ) (t : MemberSeat). LetsPassSoFar n t.stage (own q (drop t.first x.events))) m.seats party
+            (seat_after seat next answer (length m.events)) there (λ q. (h.passing q, k.began q))
+            (λ q differs g. subst (λ (es : List Event). LetsPassSoFar n (member_stage m.seats q) es)
+            (sym (own_else_since q (member_seat m.seats q).first m.events e g.1 differs)) g.0)
+            (either_seat (λ (t : MemberSeat). LetsPassSoFar n t.stage (own party (drop t.first x.events))) looks
+            (record { stage = next; first = seat.first; saw = answer; since = length m.events }) (record seat { stage = next })
+            (passes_here few s none h) (passes_here few s none h));
+      }
+    where
+      passes_here : HasFewMoves x → MembersAreSound n m → HasNoneLost x → MembersPass n m
+          → LetsPassSoFar n next (own party (drop seat.first (m.events ++ e ∷ [])))
+      passes_here few s none h = subst (λ (es : List Event). LetsPassSoFar n next es)
+          (sym (own_more_since party seat.first m.events e (k.began party) refl))
+          (own_passes m party k (omega (arith, few, longer)) s (set_stays.grew none) seat.saw (answer_at (stage_at m.indices.seats party))
+          finds answer t parts.1 (s.knows party) (own party (drop seat.first m.events)) e refl (h.passing party))
+
   asked_here : SoFar n (width_of m) m.values party (member_in_hand next) next (own party (drop seat.first (m.events ++ e ∷ [])))
   asked_here = subst (λ (es : List Event). SoFar n (width_of m) m.values party (member_in_hand next) next es)
       (sym (own_more_since party seat.first m.events e (k.began party) refl))
-      (member_asked_next n (width_of m) m.values seat.saw (answer_at (stage_at m.indices.seats party)) e t refl party
+      (member_asked_next n (width_of m) m.values seat.saw (answer_at (stage_at m.indices.seats party)) finds e t refl party
       (own party (drop seat.first m.events)) (k.recorded.going party))
 
   pub member_went_keeps : MembersAreKept x
   member_went_keeps = record {
     indices = set_stays.kept;
     few = omega (arith, set_stays.steps, k.few, longer);
-    lost = set_stays.alive;
     small = omega (arith, k.small, same_cells m.words (member_next n (width_of m) m.values t));
     size = subst (λ (c : ℕ). length x.words.cells ≡ c + (c * width_of m + 1)) (sym set_stays.same_size)
         (same_cells m.words (member_next n (width_of m) m.values t) ∙ k.size);
@@ -297,6 +324,7 @@ module _ (m : ContainerParts) (party : ℕ) (fit : member_fits m (GoOn party) �
     };
     counted = member_went_counted m party fit k.counted;
     sound = λ few. subst (λ (c : ℕ). MembersAreSound c x) (sym set_stays.same_size) (went_sound few);
+    pass = λ few none. subst (λ (c : ℕ). MembersPass c x) (sym set_stays.same_size) (went_pass few none);
   }
 
 -- a party begins a call
@@ -328,11 +356,22 @@ module _ (m : ContainerParts) (party : ℕ) (c : MemberCall) (fit : member_fits 
       (length (table_value m.values number) == width_of m) ok).0
   begun_stays (call.Remove owner index mode) ok = stays m party k
   begun_stays call.Update ok = stays m party k
+  begun_stays (call.Recover owner number mode) ok = stays m party k
 
   same_places : (c : MemberCall) → (asked_by m.indices party c).places ≡ m.indices.places
   same_places (call.Add number owner) = refl
   same_places (call.Remove owner index mode) = refl
   same_places call.Update = refl
+  same_places (call.Recover owner number mode) = refl
+
+  begun_leaves : (c : MemberCall) (q : ℕ)
+      → LeavesMembers size_of (width_of m) q m.words.cells m.words.cells m.indices (asked_by m.indices party c)
+  begun_leaves (call.Add number owner) q = leaves_all_members size_of (width_of m) q m.words.cells m.indices
+      (begun m.indices party (set_call.Acquire owner)) (λ o h. h) (λ o h. h) (λ o i within live h. h) (λ i h. h)
+      (λ o i within lost h. h) (λ o i within lost shown h. h)
+  begun_leaves (call.Remove owner index mode) q = leaves_same size_of (width_of m) q m.words.cells m.indices
+  begun_leaves call.Update q = leaves_same size_of (width_of m) q m.words.cells m.indices
+  begun_leaves (call.Recover owner number mode) q = leaves_same size_of (width_of m) q m.words.cells m.indices
 
   held_is : (p : Place) → is_holder party p ≡ true → p ≡ place.Held party
   held_is place.Empty h = absurd (cc)
@@ -341,7 +380,7 @@ module _ (m : ContainerParts) (party : ℕ) (c : MemberCall) (fit : member_fits 
   held_is (place.Held q) h = ap (λ (r : ℕ). place.Held r) (eqb-true q party h)
 
   begun_knows : (c : MemberCall) → may_call m party c ≡ true
-      → KnowsMember size_of (width_of m) m.values (empty_words size_of (width_of m)) m.words.cells (asked_by m.indices party c).places party
+      → KnowsMember size_of (width_of m) m.values (empty_words size_of (width_of m)) m.words.cells (asked_by m.indices party c) party
       (stage_at (asked_by m.indices party c).seats party) (length m.events) (m.events ++ begin ∷ []) (begin ∷ []) (member_begun c)
   begun_knows (call.Add number owner) ok =
       let both : _ × ((length (table_value m.values number) == width_of m) ≡ true)
@@ -368,16 +407,23 @@ module _ (m : ContainerParts) (party : ℕ) (c : MemberCall) (fit : member_fits 
       && (word_of m.indices.words (Cell index) == owner))) ≡ true)
       = and_parts (is_owner owner && not (is_lost owner m.indices.lost)) _ begins.1 in
       let low : (nat_lt index size_of ≡ true) × _ = and_parts (nat_lt index size_of) _ rest.1 in
-      let holds : (is_holder party (place_of m.indices.places index) ≡ true) × _
-      = and_parts (is_holder party (place_of m.indices.places index)) _ low.1 in
+      let holds : (is_holder party (place_of m.indices.places index) ≡ true) × ((word_of m.indices.words (Cell index) == owner) ≡ true)
+      = and_parts (is_holder party (place_of m.indices.places index)) (word_of m.indices.words (Cell index) == owner) low.1 in
       let within : index < size_of = ltb-true index size_of low.0 in (
         refl,
         within,
-        held_is (place_of m.indices.places index) holds.0,
-        ap (λ (i : ℕ). is_shown (slice_index m.words.cells i))
-            (sym (count_position size_of (width_of m) m.words.cells k.size k.small index within)) ∙ both.1,
+        λ live. (
+          (
+            held_is (place_of m.indices.places index) holds.0,
+            ap (λ (i : ℕ). slice_index m.indices.words.cells i) (sym (mod-eq_of_lt (omega (arith, within, k.indices.cells))))
+                ∙ eqb-true (word_of m.indices.words (Cell index)) owner holds.1,
+          ),
+          ap (λ (i : ℕ). is_shown (slice_index m.words.cells i))
+              (sym (count_position size_of (width_of m) m.words.cells k.size k.small index within)) ∙ both.1,
+        ),
       )
   begun_knows call.Update ok = tt
+  begun_knows (call.Recover owner number mode) ok = refl
 
   set_begun : SetStays m party k (asked_by m.indices party c)
   set_begun = begun_stays c may
@@ -398,11 +444,9 @@ module _ (m : ContainerParts) (party : ℕ) (c : MemberCall) (fit : member_fits 
             (record (member_seat m.seats party) { stage = member_begun c; first = length m.events }) is_there (λ q. (s.knows q, k.began q))
             (λ q differs h. others_know m y size_of party q begin (member_seat m.seats q) differs refl refl refl
             (set_begun.others q differs)
-            (leaves_all_members size_of (width_of m) q m.words.cells m.indices.places (asked_by m.indices party c).places
-            (λ i held. ap (λ (ps : List Place). place_of ps i) (same_places c) ∙ held)
-            (λ i held. ap (λ (ps : List Place). place_of ps i) (sym (same_places c)) ∙ held)) h)
+            (begun_leaves c q) h)
             (subst (λ (mine : List Event). KnowsMember size_of (width_of m) m.values (empty_words size_of (width_of m)) m.words.cells
-            (asked_by m.indices party c).places party (stage_at (asked_by m.indices party c).seats party) (length m.events)
+            (asked_by m.indices party c) party (stage_at (asked_by m.indices party c).seats party) (length m.events)
             (m.events ++ begin ∷ []) mine (member_begun c)) (sym own_begin) (begun_knows c may));
         told = told_on size_of (width_of m) m.values (empty_words size_of (width_of m)) m.events begin m.finished s.told;
         saw = each_member_seat (λ (q : ℕ) (t : MemberSeat). (t.saw ≡ times_counted (take t.since m.events)) × (t.since ≤ length m.events))
@@ -419,20 +463,11 @@ module _ (m : ContainerParts) (party : ℕ) (c : MemberCall) (fit : member_fits 
             (ap (answered_to party) (same_finished c) ∙ s.asks party
             ∙ ap (λ (cs : List AnsweredCall). asked_for party m.finished ++ cs)
             (idle_asked (member_stage m.seats party) idle ∙ sym (begun_asked c)));
-        stays = λ i within. stays_more size_of (width_of m) i None m.events begin (s.stays i within) tt;
-        whose = λ i within. subst (λ (o : Option ℕ). FitsWhose o (slice_index m.words.cells i)
-            (place_of (asked_by m.indices party c).places i)) (sym (whose_more i None m.events begin))
-            (subst (λ (ps : List Place). FitsWhose (whose_after i None m.events) (slice_index m.words.cells i) (place_of ps i))
-            (sym (same_places c)) (s.whose i within));
-        passes = each_on size_of (width_of m) m.values (empty_words size_of (width_of m)) m.events begin m.finished s.told s.passes;
-        passing = each_member_seat
-            (λ (q : ℕ) (t : MemberSeat). LetsPassSoFar size_of t.stage (own q (drop t.first m.events)) × (t.first ≤ length m.events))
-            (λ (q : ℕ) (t : MemberSeat). LetsPassSoFar size_of t.stage (own q (drop t.first y.events))) m.seats party
-            (record (member_seat m.seats party) { stage = member_begun c; first = length m.events }) is_there
-            (λ q. (s.passing q, k.began q))
-            (λ q differs h. subst (λ (es : List Event). LetsPassSoFar size_of (member_stage m.seats q) es)
-            (sym (own_else_since q (member_seat m.seats q).first m.events begin h.1 differs)) h.0)
-            (subst (λ (es : List Event). LetsPassSoFar size_of (member_begun c) es) (sym own_begin) (none_passed c));
+        stays = λ i within. till_out_more size_of (width_of m) i None m.events begin (s.stays i within) tt;
+        inside = λ i within. subst (λ (o : Option ℕ). FitsWhose o (slice_index m.words.cells i)
+            (place_of (asked_by m.indices party c).places i)) (sym (inside_more i None m.events begin))
+            (subst (λ (ps : List Place). FitsWhose (inside_after i None m.events) (slice_index m.words.cells i) (place_of ps i))
+            (sym (same_places c)) (s.inside i within));
       }
     where
       idle : member_is_idle (member_stage m.seats party) ≡ true
@@ -442,16 +477,13 @@ module _ (m : ContainerParts) (party : ℕ) (c : MemberCall) (fit : member_fits 
       same_finished (call.Add number owner) = refl
       same_finished (call.Remove owner index mode) = refl
       same_finished call.Update = refl
+      same_finished (call.Recover owner number mode) = refl
 
       begun_asked : (c : MemberCall) → asked_so_far (member_begun c) ≡ []
       begun_asked (call.Add number owner) = refl
       begun_asked (call.Remove owner index mode) = refl
       begun_asked call.Update = refl
-
-      none_passed : (c : MemberCall) → LetsPassSoFar size_of (member_begun c) (begin ∷ [])
-      none_passed (call.Add number owner) = λ going. refl
-      none_passed (call.Remove owner index mode) = λ going. refl
-      none_passed call.Update = λ going. refl
+      begun_asked (call.Recover owner number mode) = refl
 
       idle_asked : (t : ContainerCall) → member_is_idle t ≡ true → asked_so_far t ≡ []
       idle_asked stage.Idle h = refl
@@ -467,13 +499,41 @@ module _ (m : ContainerParts) (party : ℕ) (c : MemberCall) (fit : member_fits 
       idle_asked stage.Look h = absurd (cc)
       idle_asked (stage.Visit i) h = absurd (cc)
       idle_asked (stage.Gather i seen j) h = absurd (cc)
+      idle_asked (stage.Search o j mode) h = absurd (cc)
+      idle_asked (stage.Watch o j mode i) h = absurd (cc)
+      idle_asked (stage.Ask o j mode i seen) h = absurd (cc)
+      idle_asked (stage.Expel o j mode i seen) h = absurd (cc)
+      idle_asked (stage.Clear o j mode i) h = absurd (cc)
+      idle_asked (stage.Close o j mode) h = absurd (cc)
       idle_asked (stage.Done d a) h = absurd (cc)
+
+  begun_pass : HasFewMoves y → HasNoneLost y → MembersPass size_of y
+  begun_pass few none =
+      let s : MembersAreSound size_of m = k.sound (omega (arith, few, one_longer)) in
+      let h : MembersPass size_of m = k.pass (omega (arith, few, one_longer)) (set_begun.grew none) in
+      record {
+        calm = calm_more m.events begin h.calm tt;
+        passes = each_on size_of (width_of m) m.values (empty_words size_of (width_of m)) m.events begin m.finished s.told h.passes;
+        passing = each_member_seat
+            (λ (q : ℕ) (t : MemberSeat). LetsPassSoFar size_of t.stage (own q (drop t.first m.events)) × (t.first ≤ length m.events))
+            (λ (q : ℕ) (t : MemberSeat). LetsPassSoFar size_of t.stage (own q (drop t.first y.events))) m.seats party
+            (record (member_seat m.seats party) { stage = member_begun c; first = length m.events }) is_there
+            (λ q. (h.passing q, k.began q))
+            (λ q differs g. subst (λ (es : List Event). LetsPassSoFar size_of (member_stage m.seats q) es)
+            (sym (own_else_since q (member_seat m.seats q).first m.events begin g.1 differs)) g.0)
+            (subst (λ (es : List Event). LetsPassSoFar size_of (member_begun c) es) (sym own_begin) (none_passed c));
+      }
+    where
+      none_passed : (c : MemberCall) → LetsPassSoFar size_of (member_begun c) (begin ∷ [])
+      none_passed (call.Add number owner) = λ going. refl
+      none_passed (call.Remove owner index mode) = λ going. refl
+      none_passed call.Update = λ going. refl
+      none_passed (call.Recover owner number mode) = λ going. refl
 
   pub member_begins_keeps : MembersAreKept y
   member_begins_keeps = record {
     indices = set_begun.kept;
     few = omega (arith, set_begun.steps, k.few, one_longer);
-    lost = set_begun.alive;
     small = k.small;
     size = subst (λ (c : ℕ). length m.words.cells ≡ c + (c * width_of m + 1)) (sym set_begun.same_size) k.size;
     began = each_member_seat (λ (q : ℕ) (t : MemberSeat). t.first ≤ length m.events)
@@ -505,6 +565,7 @@ module _ (m : ContainerParts) (party : ℕ) (c : MemberCall) (fit : member_fits 
     };
     counted = member_begun_counted m party c fit k.counted;
     sound = λ few. subst (λ (c : ℕ). MembersAreSound c y) (sym set_begun.same_size) (begun_sound few);
+    pass = λ few none. subst (λ (c : ℕ). MembersPass c y) (sym set_begun.same_size) (begun_pass few none);
   }
 
 happens_keeps : (m : ContainerParts) (step : MemberMove) → member_fits m step ≡ true → MembersAreKept m

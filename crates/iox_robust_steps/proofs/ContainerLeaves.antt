@@ -1,13 +1,14 @@
 -- What a step of one party leaves to a call of another one on a container.
-use Rattle.std.proofs.Common.{◌≡◌, ℕ, ◌+◌, ◌<◌, ◌≤◌, Bool, true, false, Ok, Err, List, [], ◌∷◌, ◌++◌, length, slice_index}
+use Rattle.std.proofs.Common.{◌≡◌, ℕ, ◌+◌, ◌<◌, ◌≤◌, ◌⊎◌, inl, inr, ⊎_elim, Bool, true, false, Ok, Err, List, [], ◌∷◌, ◌++◌, length}
+use Rattle.std.proofs.Common.{slice_index}
 use Rattle.std.proofs.Common.{sym, ◌∙◌, ap, arith, append_assoc, length-append}
 use Rattle.std.specs.Global.{Vec}
 use Rattle.iox_queues_steps.specs.Access.{RingWords}
 use Rattle.iox_queues.specs.declared.bits.machine.Event.{Event}
 use Rattle.iox_robust_steps.specs.ContainerSteps.{is_shown, value_cell}
 use Rattle.iox_robust_steps.specs.ContainerTold.{ComesIn, CopyIsTrue, GoesOut, MemberTells, Shown, WasSo}
-use Rattle.iox_robust_steps.specs.ContainerKept.{KnowsMember}
-use Rattle.iox_robust_steps.specs.Machine.{place_of}
+use Rattle.iox_robust_steps.specs.ContainerKept.{HoldsFor, IsLostOwner, IsOf, IsSeenOrOut, KnowsMember}
+use Rattle.iox_robust_steps.specs.Machine.{RobustSetState, is_lost, place_of}
 use Rattle.iox_robust_steps.specs.declared.call.RobustCall.{RobustCall}
 use Rattle.iox_robust_steps.specs.declared.container.call.ContainerCall.{ContainerCall}
 use Rattle.iox_robust_steps.specs.declared.container.call.ContainerCall.TheVariants as stage
@@ -15,20 +16,29 @@ use Rattle.iox_robust_steps.specs.declared.container.call.MemberAnswer.{MemberAn
 use Rattle.iox_robust_steps.specs.declared.container.call.MemberAnswer.TheVariants.{Added, Removed, Updated}
 use Rattle.iox_robust_steps.specs.declared.container.call.MemberCall.{MemberCall}
 use Rattle.iox_robust_steps.specs.declared.container.call.MemberCall.TheVariants as call
-use Rattle.iox_robust_steps.specs.declared.state.Place.{Place}
 use Rattle.iox_robust_steps.specs.declared.state.Place.TheVariants as place
 use Rattle.iox_robust_steps.proofs.ContainerWords.{count_before, value_before}
 
--- its indices with their counts and values; no index more; counts that only grow; and what lies with a count that it saw
-pub record LeavesMembers (n width q : ℕ) (cells cells' : List ℕ) (places places' : List Place) : Type 0 where
-  pub held : (i : ℕ) → place_of places i ≡ place.Held q → place_of places' i ≡ place.Held q
-  pub back : (i : ℕ) → place_of places' i ≡ place.Held q → place_of places i ≡ place.Held q
-  pub same : (i : ℕ) → i < n → place_of places i ≡ place.Held q → (slice_index cells' i ≡ slice_index cells i)
+-- its owners' indices with their counts and values, unless they are lost; no index more; what is out of its own stays out; counts that
+-- only grow; what lies with a count that it saw; and of owners that are lost no index more, nor a member, and each with its member
+pub record LeavesMembers (n width q : ℕ) (cells cells' : List ℕ) (indices indices' : RobustSetState) : Type 0 where
+  pub alive : (o : ℕ) → is_lost o indices'.lost ≡ false → is_lost o indices.lost ≡ false
+  pub gone : (o : ℕ) → is_lost o indices.lost ≡ true → is_lost o indices'.lost ≡ true
+  pub held : (o i : ℕ) → i < n → is_lost o indices.lost ≡ false → HoldsFor indices q o i → HoldsFor indices' q o i
+  pub back : (i : ℕ) → place_of indices'.places i ≡ place.Held q → place_of indices.places i ≡ place.Held q
+  pub same : (o i : ℕ) → i < n → is_lost o indices.lost ≡ false → HoldsFor indices q o i → (slice_index cells' i ≡ slice_index cells i)
       × ((j : ℕ) → j < width → slice_index cells' (value_cell n width i j) ≡ slice_index cells (value_cell n width i j))
+  pub out : (i : ℕ) → i < n → place_of indices.places i ≡ place.Held q → is_shown (slice_index cells i) ≡ false
+      → is_shown (slice_index cells' i) ≡ false
   pub grows : (i : ℕ) → i < n → slice_index cells i ≤ slice_index cells' i
   pub gathers : (i seen : ℕ) → i < n → is_shown seen ≡ true → seen ≤ slice_index cells i → slice_index cells' i ≡ seen
       → (slice_index cells i ≡ seen)
       × ((j : ℕ) → j < width → slice_index cells' (value_cell n width i j) ≡ slice_index cells (value_cell n width i j))
+  pub of_lost : (o i : ℕ) → i < n → IsLostOwner indices o → IsOf o (slice_index indices'.words.cells i)
+      → IsOf o (slice_index indices.words.cells i)
+      × ((slice_index cells' i ≡ slice_index cells i) ⊎ (is_shown (slice_index cells' i) ≡ false))
+  pub in_lost : (o i : ℕ) → i < n → IsLostOwner indices o → slice_index cells' i ≡ slice_index cells i
+      → is_shown (slice_index cells i) ≡ true → slice_index indices.words.cells i ≡ o → slice_index indices'.words.cells i ≡ o
 
 -- what was so at a moment was so
 module _ (n width : ℕ) (start : RingWords) (first : ℕ) (events : List Event) (e : Event) where
@@ -92,54 +102,107 @@ module _ (n width : ℕ) (start : RingWords) (first : ℕ) (events : List Event)
   tells_on values counted party own call.Update (Removed state) t = t
   tells_on values counted party own call.Update (Updated true) t = copy_on own t
   tells_on values counted party own call.Update (Updated false) t = t
+  tells_on values counted party own (call.Recover owner number mode) (Added got) t = t
+  tells_on values counted party own (call.Recover owner number mode) (Removed state) t = t
+  tells_on values counted party own (call.Recover owner number mode) (Updated copied) t = t
 
-  module _ (values : List (Vec ℕ)) (q : ℕ) (cells cells' : List ℕ) (places places' : List Place) (s : RobustCall) (own : List Event)
-      (l : LeavesMembers n width q cells cells' places places') where
-    still_out : (i : ℕ) → i < n → place_of places i ≡ place.Held q → (b : Bool) → is_shown (slice_index cells i) ≡ b
-        → is_shown (slice_index cells' i) ≡ b
-    still_out i within is b h = ap is_shown (l.same i within is).0 ∙ h
+  module _ (values : List (Vec ℕ)) (q : ℕ) (cells cells' : List ℕ) (indices indices' : RobustSetState) (s : RobustCall)
+      (own : List Event) (l : LeavesMembers n width q cells cells' indices indices') where
+    -- an index of an owner that isn't lost, at which a member is in or isn't
+    still_held : (o i : ℕ) (b : Bool) → i < n → is_lost o indices'.lost ≡ false → HoldsFor indices q o i
+        → is_shown (slice_index cells i) ≡ b → HoldsFor indices' q o i × (is_shown (slice_index cells' i) ≡ b)
+    still_held o i b within live is h =
+        let was : is_lost o indices.lost ≡ false = l.alive o live in
+        (l.held o i within was is, ap is_shown (l.same o i within was is).0 ∙ h)
 
-    pub knows_member_else : (t : ContainerCall) → KnowsMember n width values start cells places q s first events own t
-        → KnowsMember n width values start cells' places' q s first (events ++ e ∷ []) own t
+    still_lost : (o : ℕ) → IsLostOwner indices o → IsLostOwner indices' o
+    still_lost o h = (h.0, l.gone o h.1)
+
+    still_seen : (o i seen : ℕ) → i < n → IsLostOwner indices o
+        → IsSeenOrOut o (slice_index indices.words.cells i) (slice_index cells i) seen
+        → IsSeenOrOut o (slice_index indices'.words.cells i) (slice_index cells' i) seen
+    still_seen o i seen within lost h is =
+        let old : IsOf o (slice_index indices.words.cells i)
+        × ((slice_index cells' i ≡ slice_index cells i) ⊎ (is_shown (slice_index cells' i) ≡ false)) = l.of_lost o i within lost is in
+        ⊎_elim
+        (λ (same : slice_index cells' i ≡ slice_index cells i). ⊎_elim
+        (λ (seen_is : slice_index cells i ≡ seen). inl (same ∙ seen_is))
+        (λ (out : is_shown (slice_index cells i) ≡ false). inr (ap is_shown same ∙ out))
+        (h old.0))
+        (λ (out : is_shown (slice_index cells' i) ≡ false). inr out)
+        old.1
+
+    still_no_member : (o i : ℕ) → i < n → IsLostOwner indices o
+        → (IsOf o (slice_index indices.words.cells i) → is_shown (slice_index cells i) ≡ false)
+        → IsOf o (slice_index indices'.words.cells i) → is_shown (slice_index cells' i) ≡ false
+    still_no_member o i within lost h is =
+        let old : IsOf o (slice_index indices.words.cells i)
+        × ((slice_index cells' i ≡ slice_index cells i) ⊎ (is_shown (slice_index cells' i) ≡ false)) = l.of_lost o i within lost is in
+        ⊎_elim
+        (λ (same : slice_index cells' i ≡ slice_index cells i). ap is_shown same ∙ h old.0)
+        (λ (out : is_shown (slice_index cells' i) ≡ false). out)
+        old.1
+
+    pub knows_member_else : (t : ContainerCall) → KnowsMember n width values start cells indices q s first events own t
+        → KnowsMember n width values start cells' indices' q s first (events ++ e ∷ []) own t
     knows_member_else stage.Idle k = tt
     knows_member_else (stage.Enter number owner) k = (
       k.0,
       k.1,
       k.2,
-      λ i is. ((k.3 i is).0, l.held i (k.3 i is).1, still_out i (k.3 i is).0 (k.3 i is).1 false (k.3 i is).2),
+      λ i is. (
+        (k.3 i is).0,
+        λ live.
+            let old : HoldsFor indices q owner i × (is_shown (slice_index cells i) ≡ false) = (k.3 i is).1 (l.alive owner live) in
+            still_held owner i false (k.3 i is).0 live old.0 old.1,
+      ),
     )
     knows_member_else (stage.Fill number owner index next) k = (
       k.0,
       k.1,
-      l.held index k.2,
-      still_out index k.1 k.2 false k.3,
-      k.4,
-      λ j low. (l.same index k.1 k.2).1 j (omega (arith, low, k.4)) ∙ k.5 j low,
+      k.2,
+      λ live.
+          let was : is_lost owner indices.lost ≡ false = l.alive owner live in
+          let both : HoldsFor indices' q owner index × (is_shown (slice_index cells' index) ≡ false)
+          = still_held owner index false k.1 live (k.3 was).0 (k.3 was).1 in (
+            both.0,
+            both.1,
+            λ j low. (l.same owner index k.1 was (k.3 was).0).1 j (omega (arith, low, k.2)) ∙ (k.3 was).2 j low,
+          ),
     )
     knows_member_else (stage.Show number owner index seen) k = (
       k.0,
       k.1,
-      l.held index k.2,
-      still_out index k.1 k.2 false k.3,
-      k.4 ∙ sym (l.same index k.1 k.2).0,
-      λ j low. (l.same index k.1 k.2).1 j low ∙ k.5 j low,
+      λ live.
+          let was : is_lost owner indices.lost ≡ false = l.alive owner live in
+          let both : HoldsFor indices' q owner index × (is_shown (slice_index cells' index) ≡ false)
+          = still_held owner index false k.1 live (k.2 was).0 (k.2 was).1 in (
+            both.0,
+            both.1,
+            (k.2 was).2 ∙ sym (l.same owner index k.1 was (k.2 was).0).0,
+            λ j low. (l.same owner index k.1 was (k.2 was).0).1 j low ∙ (k.2 was).3 j low,
+          ),
     )
-    knows_member_else (stage.Sink owner index mode) k = (k.0, k.1, l.held index k.2, still_out index k.1 k.2 true k.3)
-    knows_member_else (stage.Hide owner index mode seen) k =
-        (k.0, k.1, l.held index k.2, still_out index k.1 k.2 true k.3, k.4 ∙ sym (l.same index k.1 k.2).0)
-    knows_member_else (stage.Leave owner index mode) k = (
+    knows_member_else (stage.Sink owner index mode) k = (
       k.0,
       k.1,
-      goes_on_out q index k.2,
-      λ is. still_out index k.1 (l.back index is) false (k.3 (l.back index is)),
+      λ live.
+          let was : is_lost owner indices.lost ≡ false = l.alive owner live in
+          still_held owner index true k.1 live (k.2 was).0 (k.2 was).1,
     )
-    knows_member_else (stage.Drop owner index mode) k = (
+    knows_member_else (stage.Hide owner index mode seen) k = (
       k.0,
       k.1,
-      goes_on_out q index k.2,
-      λ is. still_out index k.1 (l.back index is) false (k.3 (l.back index is)),
-      k.4,
+      λ live.
+          let was : is_lost owner indices.lost ≡ false = l.alive owner live in
+          let both : HoldsFor indices' q owner index × (is_shown (slice_index cells' index) ≡ true)
+          = still_held owner index true k.1 live (k.2 was).0 (k.2 was).1 in
+          (both.0, both.1, (k.2 was).2 ∙ sym (l.same owner index k.1 was (k.2 was).0).0),
     )
+    knows_member_else (stage.Leave owner index mode) k =
+        (k.0, k.1, goes_on_out q index k.2, λ is. l.out index k.1 (l.back index is) (k.3 (l.back index is)))
+    knows_member_else (stage.Drop owner index mode) k =
+        (k.0, k.1, goes_on_out q index k.2, λ is. l.out index k.1 (l.back index is) (k.3 (l.back index is)), k.4)
     knows_member_else (stage.Count c a) k = (k.0, tells_on values 0 q own c a k.1)
     knows_member_else (stage.Raise c a seen) k = (k.0, tells_on values 0 q own c a k.1)
     knows_member_else stage.Look k = tt
@@ -155,4 +218,23 @@ module _ (n width : ℕ) (start : RingWords) (first : ℕ) (events : List Event)
           let kept : (slice_index cells i ≡ seen) × _ = l.gathers i seen k.0 k.2 k.3 is in
           k.6 kept.0 j low ∙ sym (kept.1 j (omega (arith, low, k.5, k.4))),
     )
+    knows_member_else (stage.Search owner number mode) k = k
+    knows_member_else (stage.Watch owner number mode i) k = (k.0, k.1, still_lost owner k.2, k.3)
+    knows_member_else (stage.Ask owner number mode i seen) k =
+        (k.0, k.1, still_lost owner k.2, k.3, omega (arith, k.4, l.grows i k.1), still_seen owner i seen k.1 k.2 k.5)
+    knows_member_else (stage.Expel owner number mode i seen) k = (
+      k.0,
+      k.1,
+      still_lost owner k.2,
+      k.3,
+      omega (arith, k.4, l.grows i k.1),
+      still_seen owner i seen k.1 k.2 k.5,
+      k.6,
+      λ is.
+          let before : slice_index cells i ≡ seen = omega (arith, k.4, l.grows i k.1, is) in
+          l.in_lost owner i k.1 k.2 (is ∙ sym before) (ap is_shown before ∙ k.6) (k.7 before),
+    )
+    knows_member_else (stage.Clear owner number mode i) k =
+        (k.0, k.1, still_lost owner k.2, k.3, still_no_member owner i k.1 k.2 k.4)
+    knows_member_else (stage.Close owner number mode) k = (k.0, still_lost owner k.1, k.2, k.3)
     knows_member_else (stage.Done c a) k = tells_on values 1 q own c a k

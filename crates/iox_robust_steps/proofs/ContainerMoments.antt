@@ -497,6 +497,7 @@ module _ (n width : ℕ) (values : List (Vec ℕ)) (start : RingWords) (size : l
       removes_at party first index events told.0 (stays index told.0) told.1 one
   moment_of party first events (call.Remove owner index mode) (Updated copied) told one stays = tt
   moment_of party first events call.Update answer told one stays = tt
+  moment_of party first events (call.Recover owner number mode) answer told one stays = tt
 
   pub each_moment : (events : List Event) (finished : List MemberFinished)
       → AreMembersTold n width values start events finished → EachLetsPass n events finished

@@ -9,9 +9,11 @@ use Rattle.iox_queues_steps.specs.declared.access.Access.TheVariants.{Local}
 use Rattle.iox_queues.specs.Spans.{EachIsOfCall, Span, span_in_hand}
 use Rattle.iox_queues.specs.declared.bits.machine.Event.{Event}
 use Rattle.iox_queues.proofs.Spans.{IsStepOf, each_of_call_on}
-use Rattle.iox_robust_steps.specs.ContainerSteps.{answer_at, member_begun, member_in_hand, member_is_idle, member_is_over, member_next}
+use Rattle.iox_robust_steps.specs.ContainerSteps.{answer_at, is_clearing, member_begun, member_in_hand, member_is_idle, member_is_over}
+use Rattle.iox_robust_steps.specs.ContainerSteps.{member_next}
 use Rattle.iox_robust_steps.specs.ContainerSteps.{member_take}
-use Rattle.iox_robust_steps.specs.ContainerMachine.{ContainerParts, empty_parts, is_look, may_ask, member_begins, member_ended, member_fits}
+use Rattle.iox_robust_steps.specs.ContainerMachine.{ContainerParts, asked_at}
+use Rattle.iox_robust_steps.specs.ContainerMachine.{empty_parts, is_look, may_ask, member_begins, member_ended, member_fits}
 use Rattle.iox_robust_steps.specs.ContainerMachine.{member_seat, member_stage, member_went, resting, seat_after, width_of}
 use Rattle.iox_robust_steps.specs.ContainerStays.{MembersAreOfCalls, member_begun_at, member_spans}
 use Rattle.iox_robust_steps.specs.Machine.{RobustSetState, stage_at}
@@ -44,20 +46,26 @@ busy (stage.Raise d a seen) c h = refl
 busy stage.Look c h = refl
 busy (stage.Visit i) c h = refl
 busy (stage.Gather i seen next) c h = refl
+busy (stage.Search o j mode) c h = refl
+busy (stage.Watch o j mode i) c h = refl
+busy (stage.Ask o j mode i seen) c h = refl
+busy (stage.Expel o j mode i seen) c h = refl
+busy (stage.Clear o j mode i) c h = refl
+busy (stage.Close o j mode) c h = refl
 busy (stage.Done d a) c h = refl
 
 -- the first step of its call, by the stage
 abbrev begun_with : ℕ → ContainerCall → Option ℕ
 begun_with first t = if member_is_idle t then None else Some first
 
-module _ (n width saw : ℕ) (set : RobustSetState) (e : Event) (first number answer : ℕ) where
+module _ (n width saw : ℕ) (set : RobustSetState) (finds : Bool) (e : Event) (first number answer : ℕ) where
   abbrev next : ContainerCall → ContainerCall
-  next t = member_take n width saw (answer_at (stage_at set.seats e.party)) t answer
+  next t = member_take n width saw (answer_at (stage_at set.seats e.party)) finds t answer
 
   goes_on : (t : ContainerCall) (c : MemberCall) → member_in_hand t ≡ Some c → member_is_over t ≡ false
       → begun_with first (next t) ≡ Some first
   goes_on t c h over = ap (λ (b : Bool). if b then None else Some first)
-      (busy (next t) c (same_call n width saw (answer_at (stage_at set.seats e.party)) t answer over ∙ h))
+      (busy (next t) c (same_call n width saw (answer_at (stage_at set.seats e.party)) finds t answer over ∙ h))
 
   went_one : (t : ContainerCall) → may_ask set e.party t ≡ true
       → IsStepOf e number (begun_with first t) (begun_with first (next t)) (member_spans (member_ended e.party first number t))
@@ -74,6 +82,12 @@ module _ (n width saw : ℕ) (set : RobustSetState) (e : Event) (first number an
   went_one stage.Look fit = inr (inl (first, refl, goes_on stage.Look _ refl refl, refl))
   went_one (stage.Visit i) fit = inr (inl (first, refl, goes_on (stage.Visit i) _ refl refl, refl))
   went_one (stage.Gather i seen j) fit = inr (inl (first, refl, goes_on (stage.Gather i seen j) _ refl refl, refl))
+  went_one (stage.Search o j mode) fit = inr (inl (first, refl, goes_on (stage.Search o j mode) _ refl refl, refl))
+  went_one (stage.Watch o j mode i) fit = inr (inl (first, refl, refl, refl))
+  went_one (stage.Ask o j mode i seen) fit = inr (inl (first, refl, goes_on (stage.Ask o j mode i seen) _ refl refl, refl))
+  went_one (stage.Expel o j mode i seen) fit = inr (inl (first, refl, refl, refl))
+  went_one (stage.Clear o j mode i) fit = inr (inl (first, refl, goes_on (stage.Clear o j mode i) _ refl refl, refl))
+  went_one (stage.Close o j mode) fit = inr (inl (first, refl, goes_on (stage.Close o j mode) _ refl refl, refl))
   went_one (stage.Done c a) fit = inr (inr (first, refl, refl, refl))
 
 pub member_went_counted : (m : ContainerParts) (party : ℕ) → member_fits m (GoOn party) ≡ true → MembersAreOfCalls m
@@ -86,7 +100,8 @@ member_went_counted m party fit k =
     let access : Access = member_next n (width_of m) m.values seat.stage in
     let answer : ℕ = answer_of m.words access in
     let e : Event = record { party = party; access = access; answer = answer } in
-    let onward : ContainerCall = member_take n (width_of m) seat.saw (answer_at (stage_at m.indices.seats party)) seat.stage answer in
+    let finds : Bool = is_clearing (stage_at (asked_at m.indices party seat.stage).seats party) in
+    let onward : ContainerCall = member_take n (width_of m) seat.saw (answer_at (stage_at m.indices.seats party)) finds seat.stage answer in
     let ended : List MemberFinished = member_ended party seat.first (length m.events) seat.stage in
     let after : MemberSeat = seat_after seat onward answer (length m.events) in
     subst (λ (ss : List Span). EachIsOfCall (member_went m party).events ss
@@ -99,8 +114,8 @@ member_went_counted m party fit k =
     (either_seat (λ (s : MemberSeat). IsStepOf e (length m.events) (member_begun_at seat) (member_begun_at s) (member_spans ended))
     (is_look seat.stage && not (answer == seat.saw))
     (record { stage = onward; first = seat.first; saw = answer; since = length m.events }) (record seat { stage = onward })
-    (went_one n (width_of m) seat.saw m.indices e seat.first (length m.events) answer seat.stage parts.1)
-    (went_one n (width_of m) seat.saw m.indices e seat.first (length m.events) answer seat.stage parts.1)))
+    (went_one n (width_of m) seat.saw m.indices finds e seat.first (length m.events) answer seat.stage parts.1)
+    (went_one n (width_of m) seat.saw m.indices finds e seat.first (length m.events) answer seat.stage parts.1)))
     (λ q differs. ap member_begun_at (member_seat_else m.seats party q after (λ same. differs (sym same)))))
 
 pub member_begun_counted : (m : ContainerParts) (party : ℕ) (c : MemberCall) → member_fits m (Begin party c) ≡ true
@@ -124,8 +139,9 @@ member_begun_counted m party c fit k =
     ))
     (λ q differs. ap member_begun_at (member_seat_else m.seats party q seat (λ same. differs (sym same)))))
 
-pub empty_counted : (capacity parties : ℕ) (values : List (Vec ℕ)) → MembersAreOfCalls (empty_parts capacity parties values)
-empty_counted capacity parties values = record {
+pub empty_counted : (capacity parties : ℕ) (values : List (Vec ℕ)) (decisions : List (Vec Bool))
+    → MembersAreOfCalls (empty_parts capacity parties values decisions)
+empty_counted capacity parties values decisions = record {
   steps = λ q. subst (λ (o : Option ℕ). [] ≡ [] ++ span_in_hand q [] o) (sym (nobody q)) refl;
   within = tt;
   begun = λ q first is. absurd (let none : None ≡ Some first = sym (nobody q) ∙ is in cc);

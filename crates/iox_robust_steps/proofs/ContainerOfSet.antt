@@ -7,7 +7,7 @@ use Rattle.iox_container.specs.declared.release.ReleaseMode.{ReleaseMode}
 use Rattle.iox_queues_steps.specs.Access.{successor}
 use Rattle.iox_queues.specs.Told.{own}
 use Rattle.iox_queues.specs.declared.bits.machine.Event.{Event}
-use Rattle.iox_robust_steps.specs.ContainerSteps.{answer_at, is_shown, member_take, visited, visits_from}
+use Rattle.iox_robust_steps.specs.ContainerSteps.{answer_at, asked_for_place, is_shown, member_take, visited, visits_from, watches_from}
 use Rattle.iox_robust_steps.specs.ContainerMachine.{asked_at, member_ended}
 use Rattle.iox_robust_steps.specs.ContainerOfSet.{AnsweredCall, HaveReasons, HasReason, IsAnswered, answered_to, asked_for, asked_so_far}
 use Rattle.iox_robust_steps.specs.ContainerOfSet.{asks_set}
@@ -29,7 +29,7 @@ use Rattle.iox_robust_steps.specs.declared.container.call.MemberCall.{MemberCall
 use Rattle.iox_robust_steps.specs.declared.container.call.MemberCall.TheVariants as call
 use Rattle.iox_robust_steps.specs.declared.container.MemberFinished.{MemberFinished}
 use Rattle.iox_robust_steps.specs.declared.machine.Finished.{Finished}
-use Rattle.iox_robust_steps.proofs.ContainerSet.{never_acquired, never_settled}
+use Rattle.iox_robust_steps.proofs.ContainerSet.{never_acquired, never_settled, never_taken}
 
 -- calls behind others
 pub answered_append : (q : ℕ) (xs ys : List Finished) → answered_to q (xs ++ ys) ≡ answered_to q xs ++ answered_to q ys
@@ -77,6 +77,12 @@ none_asked p q first last (stage.Raise c a seen) differs = refl
 none_asked p q first last stage.Look differs = refl
 none_asked p q first last (stage.Visit i) differs = refl
 none_asked p q first last (stage.Gather i seen next) differs = refl
+none_asked p q first last (stage.Search o j mode) differs = refl
+none_asked p q first last (stage.Watch o j mode i) differs = refl
+none_asked p q first last (stage.Ask o j mode i seen) differs = refl
+none_asked p q first last (stage.Expel o j mode i seen) differs = refl
+none_asked p q first last (stage.Clear o j mode i) differs = refl
+none_asked p q first last (stage.Close o j mode) differs = refl
 none_asked p q first last (stage.Done c a) differs =
     ap (λ (b : Bool). (if b then asks_set c a else []) ++ []) (ne_eqb p q differs)
 
@@ -133,6 +139,12 @@ set_ended set p (stage.Raise c a seen) = []
 set_ended set p stage.Look = []
 set_ended set p (stage.Visit i) = []
 set_ended set p (stage.Gather i seen next) = []
+set_ended set p (stage.Search o j mode) = []
+set_ended set p (stage.Watch o j mode i) = []
+set_ended set p (stage.Ask o j mode i seen) = call_ended p (seat_at set.seats p).first (length set.events) (stage_at set.seats p)
+set_ended set p (stage.Expel o j mode i seen) = []
+set_ended set p (stage.Clear o j mode i) = call_ended p (seat_at set.seats p).first (length set.events) (stage_at set.seats p)
+set_ended set p (stage.Close o j mode) = call_ended p (seat_at set.seats p).first (length set.events) (stage_at set.seats p)
 set_ended set p (stage.Done c a) = []
 
 finished_then : (set : RobustSetState) (p : ℕ) (t : ContainerCall) → (asked_at set p t).finished ≡ set.finished ++ set_ended set p t
@@ -149,6 +161,12 @@ finished_then set p (stage.Raise c a seen) = sym (append-nil set.finished)
 finished_then set p stage.Look = sym (append-nil set.finished)
 finished_then set p (stage.Visit i) = sym (append-nil set.finished)
 finished_then set p (stage.Gather i seen next) = sym (append-nil set.finished)
+finished_then set p (stage.Search o j mode) = sym (append-nil set.finished)
+finished_then set p (stage.Watch o j mode i) = sym (append-nil set.finished)
+finished_then set p (stage.Ask o j mode i seen) = refl
+finished_then set p (stage.Expel o j mode i seen) = sym (append-nil set.finished)
+finished_then set p (stage.Clear o j mode i) = refl
+finished_then set p (stage.Close o j mode) = refl
 finished_then set p (stage.Done c a) = sym (append-nil set.finished)
 
 none_ended_else : (set : RobustSetState) (p q : ℕ) (t : ContainerCall) → (p ≡ q → ⊥) → answered_to q (set_ended set p t) ≡ []
@@ -165,6 +183,12 @@ none_ended_else set p q (stage.Raise c a seen) differs = refl
 none_ended_else set p q stage.Look differs = refl
 none_ended_else set p q (stage.Visit i) differs = refl
 none_ended_else set p q (stage.Gather i seen next) differs = refl
+none_ended_else set p q (stage.Search o j mode) differs = refl
+none_ended_else set p q (stage.Watch o j mode i) differs = refl
+none_ended_else set p q (stage.Ask o j mode i seen) differs = none_answered p q _ _ (stage_at set.seats p) differs
+none_ended_else set p q (stage.Expel o j mode i seen) differs = refl
+none_ended_else set p q (stage.Clear o j mode i) differs = none_answered p q _ _ (stage_at set.seats p) differs
+none_ended_else set p q (stage.Close o j mode) differs = none_answered p q _ _ (stage_at set.seats p) differs
 none_ended_else set p q (stage.Done c a) differs = refl
 
 -- a stage that has asked the set for nothing so far, or for one call
@@ -182,9 +206,19 @@ visits_asked n i = either_asked (nat_lt i n) (stage.Visit i) (stage.Done call.Up
 visited_asked : (n i count : ℕ) → HasAsked (visited n i count) []
 visited_asked n i count = either_asked (is_shown count) (stage.Gather i count 0) _ [] refl (visits_asked n (successor i))
 
+watches_asked : (n owner number : ℕ) (mode : ReleaseMode) (i : ℕ) → HasAsked (watches_from n owner number mode i) []
+watches_asked n owner number mode i = either_asked (nat_lt i n) (stage.Watch owner number mode i) (stage.Close owner number mode) [] refl
+    refl
+
+place_asked : (n owner number : ℕ) (mode : ReleaseMode) (i seen : ℕ) (finds : Bool)
+    → HasAsked (asked_for_place n owner number mode i seen finds) []
+place_asked n owner number mode i seen true = either_asked (is_shown seen) (stage.Expel owner number mode i seen)
+    (stage.Clear owner number mode i) [] refl refl
+place_asked n owner number mode i seen false = watches_asked n owner number mode (successor i)
+
 -- a party's own step: what it asked the set for so far, and what the set ends with the step, is what the call ends with it, and what it
 -- asked for so far then
-module _ (set : RobustSetState) (p n width saw first last answer : ℕ) (es : List Event)
+module _ (set : RobustSetState) (p n width saw first last answer : ℕ) (finds : Bool) (es : List Event)
     (known : Knows set.capacity set.words set.places set.lost p es (stage_at set.seats p)) where
   abbrev s : RobustCall
   s = stage_at set.seats p
@@ -204,15 +238,21 @@ module _ (set : RobustSetState) (p n width saw first last answer : ℕ) (es : Li
   AsksFor stage.Look = Unit {0}
   AsksFor (stage.Visit i) = Unit {0}
   AsksFor (stage.Gather i seen next) = Unit {0}
+  AsksFor (stage.Search o j mode) = Unit {0}
+  AsksFor (stage.Watch o j mode i) = Unit {0}
+  AsksFor (stage.Ask o j mode i seen) = answer_at s ≡ None
+  AsksFor (stage.Expel o j mode i seen) = Unit {0}
+  AsksFor (stage.Clear o j mode i) = answer_at s ≡ None
+  AsksFor (stage.Close o j mode) = call_in_hand s ≡ Some (set_call.Recover o j mode)
   AsksFor (stage.Done c a) = Unit {0}
 
   abbrev Balances : ContainerCall → Type 0
   Balances t = asked_so_far t ++ answered_to p (set_ended set p t)
-      ≡ asked_for p (member_ended p first last t) ++ asked_so_far (member_take n width saw (answer_at s) t answer)
+      ≡ asked_for p (member_ended p first last t) ++ asked_so_far (member_take n width saw (answer_at s) finds t answer)
 
   enters : (number owner : ℕ) → call_in_hand s ≡ Some (set_call.Acquire owner) → (o : Option Answer) → answer_at s ≡ o
       → answered_to p (call_ended p (seat_at set.seats p).first (length set.events) s)
-      ≡ asked_so_far (member_take n width saw o (stage.Enter number owner) answer)
+      ≡ asked_so_far (member_take n width saw o finds (stage.Enter number owner) answer)
   enters number owner is None h = none_ends p p _ _ s h
   enters number owner is (Some (Acquired (Ok i))) h = one_ends p _ _ s (set_call.Acquire owner) (Acquired (Ok i)) is h
   enters number owner is (Some (Acquired (Err why))) h = one_ends p _ _ s (set_call.Acquire owner) (Acquired (Err why)) is h
@@ -222,11 +262,20 @@ module _ (set : RobustSetState) (p n width saw first last answer : ℕ) (es : Li
   drops : (owner index : ℕ) (mode : ReleaseMode) → call_in_hand s ≡ Some (set_call.Release owner index mode) → (o : Option Answer)
       → answer_at s ≡ o
       → answered_to p (call_ended p (seat_at set.seats p).first (length set.events) s)
-      ≡ asked_so_far (member_take n width saw o (stage.Drop owner index mode) answer)
+      ≡ asked_so_far (member_take n width saw o finds (stage.Drop owner index mode) answer)
   drops owner index mode is None h = none_ends p p _ _ s h
   drops owner index mode is (Some (Settled state)) h = one_ends p _ _ s (set_call.Release owner index mode) (Settled state) is h
   drops owner index mode is (Some (Acquired got)) h =
       absurd (never_acquired set.capacity p set.words set.places set.lost es owner index mode got s is h known)
+
+  closes : (owner number : ℕ) (mode : ReleaseMode) → call_in_hand s ≡ Some (set_call.Recover owner number mode) → (o : Option Answer)
+      → answer_at s ≡ o
+      → answered_to p (call_ended p (seat_at set.seats p).first (length set.events) s)
+      ≡ asked_so_far (member_take n width saw o finds (stage.Close owner number mode) answer)
+  closes owner number mode is None h = none_ends p p _ _ s h
+  closes owner number mode is (Some (Settled state)) h = one_ends p _ _ s (set_call.Recover owner number mode) (Settled state) is h
+  closes owner number mode is (Some (Acquired got)) h =
+      absurd (never_taken set.capacity p set.words set.places set.lost es owner number mode got s is h known)
 
   pub balances : (t : ContainerCall) → AsksFor t → Balances t
   balances stage.Idle k = refl
@@ -241,6 +290,12 @@ module _ (set : RobustSetState) (p n width saw first last answer : ℕ) (es : Li
   balances (stage.Count c a) k = append-nil (asks_set c a)
   balances (stage.Raise c a seen) k = append-nil (asks_set c a)
       ∙ sym (either_asked (answer == seen) (stage.Done c a) (stage.Raise c a answer) (asks_set c a) refl refl)
+  balances (stage.Search o j mode) k = sym (watches_asked n o j mode 0)
+  balances (stage.Watch o j mode i) k = refl
+  balances (stage.Ask o j mode i seen) k = none_ends p p _ _ s k ∙ sym (place_asked n o j mode i seen finds)
+  balances (stage.Expel o j mode i seen) k = refl
+  balances (stage.Clear o j mode i) k = none_ends p p _ _ s k ∙ sym (watches_asked n o j mode (successor i))
+  balances (stage.Close o j mode) k = closes o j mode k (answer_at s) refl
   balances stage.Look k = sym (either_asked (answer == saw) (stage.Done call.Update (Updated false)) _ [] refl (visits_asked n 0))
   balances (stage.Visit i) k = sym (visited_asked n i answer)
   balances (stage.Gather i seen next) k = sym (either_asked (nat_lt next width) (stage.Gather i seen (next + 1)) _ [] refl
@@ -254,9 +309,9 @@ module _ (set : RobustSetState) (p n width saw first last answer : ℕ) (es : Li
   pub own_asks : (t : ContainerCall) → AsksFor t → (finished : List MemberFinished)
       → answered_to p set.finished ≡ asked_for p finished ++ asked_so_far t
       → answered_to p (asked_at set p t).finished
-      ≡ asked_for p (finished ++ member_ended p first last t) ++ asked_so_far (member_take n width saw (answer_at s) t answer)
+      ≡ asked_for p (finished ++ member_ended p first last t) ++ asked_so_far (member_take n width saw (answer_at s) finds t answer)
   own_asks t k finished before =
-      let onward : ContainerCall = member_take n width saw (answer_at s) t answer in
+      let onward : ContainerCall = member_take n width saw (answer_at s) finds t answer in
       ap (answered_to p) (finished_then set p t)
       ∙ answered_append p set.finished (set_ended set p t)
       ∙ ap (λ (cs : List AnsweredCall). cs ++ answered_to p (set_ended set p t)) before
@@ -360,6 +415,11 @@ module _ (set : RobustSetState) (told : AreTold set.capacity (is_locked set) set
       (all (record { call = set_call.Release owner index mode; answer = Settled state }) (inl refl))
   reason party (call.Remove owner index mode) (Updated copied) all = tt
   reason party call.Update a all = tt
+  reason party (call.Recover owner number mode) (Added got) all = tt
+  reason party (call.Recover owner number mode) (Removed state) all =
+      found set.capacity (is_locked set) set.events party (set_call.Recover owner number mode) (Settled state) set.finished told
+      (all (record { call = set_call.Recover owner number mode; answer = Settled state }) (inl refl))
+  reason party (call.Recover owner number mode) (Updated copied) all = tt
 
   pub reasons_of : (finished : List MemberFinished)
       → ((party : ℕ) (x : AnsweredCall) → IsIn x (asked_for party finished) → IsIn x (answered_to party set.finished))

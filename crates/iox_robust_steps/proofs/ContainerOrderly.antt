@@ -14,9 +14,11 @@ use Rattle.iox_robust_steps.specs.ContainerSteps.{is_shown, member_in_hand}
 use Rattle.iox_robust_steps.specs.ContainerMachine.{ContainerParts, HasFewMoves, empty_parts, empty_words, member_seat}
 use Rattle.iox_robust_steps.specs.ContainerMachine.{member_stage, width_of}
 use Rattle.iox_robust_steps.specs.ContainerOfSet.{asked_so_far}
-use Rattle.iox_robust_steps.specs.ContainerStays.{LetsPassSoFar, ShowsWhose, whose_after}
+use Rattle.iox_robust_steps.specs.ContainerStays.{LetsPassSoFar, ShowsWhose, StaysTillTakenOut}
+use Rattle.iox_robust_steps.specs.ContainerInside.{inside_after}
 use Rattle.iox_robust_steps.specs.ContainerTold.{AllAreNews, AreMembersTold, MemberTells, counted_by, is_change, times_counted}
-use Rattle.iox_robust_steps.specs.ContainerKept.{FitsWhose, IsUnheld, KnowsMember, MembersAreKept, MembersAreOrderly, MembersAreSound}
+use Rattle.iox_robust_steps.specs.ContainerKept.{FitsWhose, HasNoneLost, IsUnheld, KnowsMember, MembersAreKept, MembersAreOrderly}
+use Rattle.iox_robust_steps.specs.ContainerKept.{MembersAreSound, MembersPass, MembersStay}
 use Rattle.iox_robust_steps.specs.Kept.{IsConsistent, IsQuiet}
 use Rattle.iox_robust_steps.specs.Machine.{HasFewSteps, place_of, stage_at, start}
 use Rattle.iox_robust_steps.specs.Steps.{lock_mark}
@@ -30,6 +32,9 @@ use Rattle.iox_robust_steps.specs.declared.container.state.MemberSeat.{MemberSea
 use Rattle.iox_robust_steps.specs.declared.state.Place.{Place}
 use Rattle.iox_robust_steps.specs.declared.state.Place.TheVariants as place
 use Rattle.iox_robust_steps.proofs.ContainerMoments.{each_moment}
+use Rattle.iox_robust_steps.proofs.ContainerInside.{inside_is, stays_calm}
+use Rattle.iox_robust_steps.proofs.ContainerRecovers.{leave_none, stands_beside}
+use Rattle.iox_robust_steps.proofs.ContainerShows.{answered_all, each_shows_inside}
 use Rattle.iox_robust_steps.proofs.ContainerThroughout.{each_shows}
 use Rattle.iox_robust_steps.proofs.ContainerOfCalls.{empty_counted}
 use Rattle.iox_robust_steps.proofs.ContainerOfSet.{all_reasons}
@@ -38,14 +43,14 @@ use Rattle.iox_robust_steps.proofs.Runs.{orderly}
 use Rattle.iox_robust_steps.proofs.Starts.{start_kept}
 
 -- an empty container
-pub empty_kept : (capacity parties : ℕ) (values : List (Vec ℕ)) → capacity + (capacity * length (table_value values 0) + 1) < 2 ^ 62
-    → MembersAreKept (empty_parts capacity parties values)
-empty_kept capacity parties values small =
+pub empty_kept : (capacity parties : ℕ) (values : List (Vec ℕ)) (decisions : List (Vec Bool))
+    → capacity + (capacity * length (table_value values 0) + 1) < 2 ^ 62
+    → MembersAreKept (empty_parts capacity parties values decisions)
+empty_kept capacity parties values decisions small =
     let width : ℕ = length (table_value values 0) in
     record {
-      indices = start_kept capacity parties [] (omega (arith, small));
+      indices = start_kept capacity parties decisions (omega (arith, small));
       few = omega arith;
-      lost = refl;
       small = omega (arith, small, length-replicate {A = ℕ} (capacity + (capacity * width + 1)) 0);
       size = length-replicate {A = ℕ} (capacity + (capacity * width + 1)) 0;
       began = λ q. omega (arith, ap (λ (s : MemberSeat). s.first) (all_resting parties q));
@@ -56,20 +61,23 @@ empty_kept capacity parties values small =
         going = λ q. subst (λ (s : MemberSeat). IsMemberAskedSoFar capacity width values q (member_in_hand s.stage) s.stage
             (own q (drop s.first []))) (sym (all_resting parties q)) tt;
       };
-      counted = empty_counted capacity parties values;
+      counted = empty_counted capacity parties values decisions;
       sound = λ few. record {
         write = refl;
         low = λ i within. omega (arith, zeros i within);
         out = λ i within unheld. ap is_shown (zeros i within);
         knows = λ q. subst (λ (s : MemberSeat). KnowsMember capacity width values (empty_words capacity width)
-            (replicate (capacity + (capacity * width + 1)) 0) (replicate capacity place.Empty) q
-            (stage_at (start capacity parties []).seats q) s.first [] (own q (drop s.first [])) s.stage)
+            (replicate (capacity + (capacity * width + 1)) 0) (start capacity parties decisions) q
+            (stage_at (start capacity parties decisions).seats q) s.first [] (own q (drop s.first [])) s.stage)
             (sym (all_resting parties q)) tt;
         told = tt;
         saw = λ q. subst (λ (s : MemberSeat). s.saw ≡ times_counted (take s.since [])) (sym (all_resting parties q)) refl;
         asks = λ q. subst (λ (s : MemberSeat). [] ≡ asked_so_far s.stage) (sym (all_resting parties q)) refl;
         stays = λ i within. tt;
-        whose = λ i within. ap is_shown (zeros i within);
+        inside = λ i within. ap is_shown (zeros i within);
+      };
+      pass = λ few none. record {
+        calm = tt;
         passes = tt;
         passing = λ q. subst (λ (s : MemberSeat). LetsPassSoFar capacity s.stage (own q (drop s.first [])))
             (sym (all_resting parties q)) (λ going. refl);
@@ -115,6 +123,9 @@ counted_once n width values start party first events own (call.Remove owner inde
 counted_once n width values start party first events own call.Update (Added got) change t = absurd t
 counted_once n width values start party first events own call.Update (Removed state) change t = absurd t
 counted_once n width values start party first events own call.Update (Updated copied) change t = absurd (cc)
+counted_once n width values start party first events own (call.Recover owner number mode) (Added got) change t = absurd t
+counted_once n width values start party first events own (call.Recover owner number mode) (Removed state) change t = t
+counted_once n width values start party first events own (call.Recover owner number mode) (Updated copied) change t = absurd t
 
 module _ (m : ContainerParts) (k : MembersAreKept m) (few : HasFewMoves m) where
   sound : MembersAreSound m.indices.capacity m
@@ -173,25 +184,53 @@ module _ (m : ContainerParts) (k : MembersAreKept m) (few : HasFewMoves m) where
   shows_whose i None h = h
   shows_whose i (Some p) h = (h.0, inner.whole.holders i p h.1)
 
+  size_is : length (empty_words m.indices.capacity (width_of m)).cells ≡ m.indices.capacity + (m.indices.capacity * width_of m + 1)
+  size_is = length-replicate {A = ℕ} (m.indices.capacity + (m.indices.capacity * width_of m + 1)) 0
+
+  empty_out : (i : ℕ) → i < m.indices.capacity
+      → is_shown (slice_index (empty_words m.indices.capacity (width_of m)).cells i) ≡ false
+  empty_out i within = ap is_shown (get_or-replicate {A = ℕ} (m.indices.capacity + (m.indices.capacity * width_of m + 1)) i 0 0
+      (omega (arith, within)))
+
+  -- where no recovery began
+  members_stay : HasNoneLost m → MembersStay m
+  members_stay none =
+      let passing : MembersPass m.indices.capacity m = k.pass few none in
+      let stays : (i : ℕ) → i < m.indices.capacity → StaysTillTakenOut m.indices.capacity (width_of m) i None m.events
+      = λ i within. stays_calm m.indices.capacity (width_of m) i None m.events passing.calm (sound.stays i within) in
+      record {
+        stays = stays;
+        whose = λ i within. subst (λ (o : Option ℕ). ShowsWhose i o (slice_index m.words.cells i) m.indices.events)
+            (inside_is i None m.events passing.calm) (shows_whose i (inside_after i None m.events) (sound.inside i within));
+        passes = passing.passes;
+        passing = passing.passing;
+        moments = each_moment m.indices.capacity (width_of m) m.values (empty_words m.indices.capacity (width_of m)) size_is m.events
+            m.finished sound.told passing.passes stays;
+        shows = each_shows m.indices.capacity (width_of m) m.values (empty_words m.indices.capacity (width_of m)) size_is empty_out
+            m.events m.finished sound.told stays;
+      }
+
   pub members_orderly : MembersAreOrderly m
   members_orderly = record {
     indices = orderly m.indices k.indices inner_few;
     told = sound.told;
     asks = sound.asks;
     reasons = all_reasons m.indices inner.told m.finished (λ (q : ℕ). asked_so_far (member_stage m.seats q)) sound.asks;
-    stays = sound.stays;
-    whose = λ i within. shows_whose i (whose_after i None m.events) (sound.whose i within);
-    passes = sound.passes;
-    passing = sound.passing;
-    moments = each_moment m.indices.capacity (width_of m) m.values (empty_words m.indices.capacity (width_of m))
-        (length-replicate {A = ℕ} (m.indices.capacity + (m.indices.capacity * width_of m + 1)) 0) m.events m.finished sound.told
-        sound.passes sound.stays;
-    shows = each_shows m.indices.capacity (width_of m) m.values (empty_words m.indices.capacity (width_of m))
-        (length-replicate {A = ℕ} (m.indices.capacity + (m.indices.capacity * width_of m + 1)) 0)
-        (λ i within. ap is_shown (get_or-replicate {A = ℕ} (m.indices.capacity + (m.indices.capacity * width_of m + 1)) i 0 0
-        (omega (arith, within)))) m.events m.finished sound.told sound.stays;
     held = λ i within shown. holder_of i shown within (place_of m.indices.places i) refl;
     none_in = λ locked i within. sound.out i within (quiet_unheld (place_of m.indices.places i)
         (inner.whole.quiet (eqb-true m.indices.words.read lock_mark locked) i within));
+    stays = sound.stays;
+    inside = λ i within. shows_whose i (inside_after i None m.events) (sound.inside i within);
+    shows = each_shows_inside m.indices.capacity (width_of m) k.indices.small m.values
+        (empty_words m.indices.capacity (width_of m)) size_is empty_out m.events m.finished
+        (answered_all (empty_words m.indices.capacity (width_of m)) m.words m.events k.recorded.answered) sound.told sound.stays;
+    beside = λ q. stands_beside m.indices.capacity (width_of m) m.values (empty_words m.indices.capacity (width_of m)) m.words.cells
+        m.indices
+        q (member_seat m.seats q).first (stage_at m.indices.seats q) m.events (own q (drop (member_seat m.seats q).first m.events))
+        (member_stage m.seats q) (sound.knows q);
+    left = leave_none m.indices inner.freed m.words.cells m.indices.capacity (width_of m) m.values
+        (empty_words m.indices.capacity (width_of m)) m.events m.finished sound.told (all_reasons m.indices inner.told m.finished
+        (λ (q : ℕ). asked_so_far (member_stage m.seats q)) sound.asks);
     news = λ q. news_of (member_seat m.seats q).saw (member_seat m.seats q).since (sound.saw q) m.finished sound.told;
+    unrecovered = members_stay;
   }

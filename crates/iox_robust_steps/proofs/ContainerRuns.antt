@@ -1,12 +1,12 @@
 -- Every step of a container's machine keeps what the machine keeps.
-use Rattle.std.proofs.Common.{◌≡◌, ℕ, ◌+◌, ◌-◌, ◌^◌, ◌<◌, ◌≤◌, Bool, true, false, if◌then◌else◌, ◌==◌}
+use Rattle.std.proofs.Common.{◌≡◌, ℕ, ◌+◌, ◌-◌, ◌^◌, ◌<◌, ◌≤◌, Bool, true, false, not, if◌then◌else◌, ◌==◌}
 use Rattle.std.proofs.Common.{nat_lt, List, [], ◌∷◌, ◌++◌, length, set, take, drop, refl, sym, ◌∙◌, ap, subst, arith}
 use Rattle.std.proofs.Common.{length-append}
 use Rattle.std.specs.Global.{Vec}
 use Rattle.std.proofs.Math.Seq.{take-append_seam}
 use Rattle.std.proofs.lemmas.List.{take-append-le}
 use Rattle.iox_container.specs.declared.release.ReleaseMode.{ReleaseMode}
-use Rattle.iox_queues_steps.specs.Access.{RingWords, after_access, answer_of}
+use Rattle.iox_queues_steps.specs.Access.{RingWords, after_access, answer_of, word_of}
 use Rattle.iox_queues_steps.specs.declared.access.Access.{Access}
 use Rattle.iox_queues_steps.specs.declared.access.Access.TheVariants.{Load, Store, Exchange, Local}
 use Rattle.iox_queues_steps.specs.declared.access.Word.TheVariants.{Write, Read, Cell}
@@ -14,14 +14,14 @@ use Rattle.iox_queues.specs.Moments.{words_after}
 use Rattle.iox_queues.specs.Recorded.{Answered}
 use Rattle.iox_queues.specs.Told.{own}
 use Rattle.iox_queues.specs.declared.bits.machine.Event.{Event}
-use Rattle.iox_robust_steps.specs.ContainerSteps.{answer_at, member_next, member_take}
+use Rattle.iox_robust_steps.specs.ContainerSteps.{answer_at, is_clearing, member_next, member_take}
 use Rattle.iox_robust_steps.specs.ContainerMachine.{ContainerParts, HasFewMoves, asked_at, empty_words}
 use Rattle.iox_robust_steps.specs.ContainerMachine.{may_ask, member_ended}
 use Rattle.iox_robust_steps.specs.ContainerMachine.{member_seat, width_of}
 use Rattle.iox_robust_steps.specs.ContainerTold.{AreMembersTold, MemberTells, counted_by, times_counted}
 use Rattle.iox_robust_steps.specs.ContainerKept.{KnowsMember, MembersAreKept, MembersAreSound}
-use Rattle.iox_robust_steps.specs.Kept.{IsKept}
-use Rattle.iox_robust_steps.specs.Machine.{HasFewSteps, RobustSetState, begun, stage_at, went}
+use Rattle.iox_robust_steps.specs.Kept.{IsConsistent, IsKept}
+use Rattle.iox_robust_steps.specs.Machine.{HasFewSteps, RobustSetState, begun, is_lost, stage_at, went}
 use Rattle.iox_robust_steps.specs.Machine as robust
 use Rattle.iox_robust_steps.specs.declared.call.Call.TheVariants as set_call
 use Rattle.iox_robust_steps.specs.declared.call.RobustCall.{RobustCall}
@@ -30,11 +30,10 @@ use Rattle.iox_robust_steps.specs.declared.container.call.ContainerCall.TheVaria
 use Rattle.iox_robust_steps.specs.declared.container.MemberFinished.{MemberFinished}
 use Rattle.iox_robust_steps.specs.declared.container.state.MemberSeat.{MemberSeat}
 use Rattle.iox_robust_steps.specs.declared.machine.Move.TheVariants as set_move
-use Rattle.iox_robust_steps.specs.declared.state.Place.{Place}
 use Rattle.iox_robust_steps.specs.declared.state.Seat.{Seat}
-use Rattle.iox_robust_steps.proofs.ContainerAsking.{drop_made, enter_made, leave_made}
-use Rattle.iox_robust_steps.proofs.ContainerGoing.{MemberMade, count_made, fill_made, gather_made, hide_made, look_made}
-use Rattle.iox_robust_steps.proofs.ContainerGoing.{quiet, raise_made, show_made, sink_made, visit_made}
+use Rattle.iox_robust_steps.proofs.ContainerAsking.{ask_made, clear_made, close_made, drop_made, enter_made, leave_made, search_made}
+use Rattle.iox_robust_steps.proofs.ContainerGoing.{MemberMade, count_made, expel_made, fill_made, gather_made, hide_made, look_made}
+use Rattle.iox_robust_steps.proofs.ContainerGoing.{quiet, raise_made, show_made, sink_made, visit_made, watch_made}
 use Rattle.iox_robust_steps.proofs.Runs.{begun_keeps, went_keeps}
 use Rattle.iox_robust_steps.proofs.Seats.{seat_else}
 
@@ -66,10 +65,11 @@ pub told_append : (n width : ℕ) (values : List (Vec ℕ)) (start : RingWords) 
 told_append n width values start events [] ys h g = g
 told_append n width values start events (x ∷ xs) ys h g = (h.0, told_append n width values start events xs ys h.1 g)
 
-module _ (n width : ℕ) (values : List (Vec ℕ)) (start : RingWords) (cells : List ℕ) (places : List Place) (party first : ℕ)
+module _ (n width : ℕ) (values : List (Vec ℕ)) (start : RingWords) (cells : List ℕ) (indices : RobustSetState)
+    (party first : ℕ)
     (events : List Event) (e : Event) (s : RobustCall) (began : first ≤ length events) where
   pub ended_told : (t : ContainerCall)
-      → KnowsMember n width values start cells places party s first events (own party (drop first events)) t
+      → KnowsMember n width values start cells indices party s first events (own party (drop first events)) t
       → AreMembersTold n width values start (events ++ e ∷ []) (member_ended party first (length events) t)
   ended_told stage.Idle k = tt
   ended_told (stage.Enter number owner) k = tt
@@ -84,6 +84,12 @@ module _ (n width : ℕ) (values : List (Vec ℕ)) (start : RingWords) (cells : 
   ended_told stage.Look k = tt
   ended_told (stage.Visit i) k = tt
   ended_told (stage.Gather i seen next) k = tt
+  ended_told (stage.Search o j mode) k = tt
+  ended_told (stage.Watch o j mode i) k = tt
+  ended_told (stage.Ask o j mode i seen) k = tt
+  ended_told (stage.Expel o j mode i seen) k = tt
+  ended_told (stage.Clear o j mode i) k = tt
+  ended_told (stage.Close o j mode) k = tt
   ended_told (stage.Done c answer) k = (
     (
       subst (λ (es : List Event). MemberTells n width values start 1 party first es (own party (drop first es)) c answer)
@@ -99,12 +105,12 @@ module _ (m : ContainerParts) (party : ℕ) (k : MembersAreKept m) where
   pub record SetStays (i : RobustSetState) : Type 0 where
     pub kept : IsKept i
     pub same_size : i.capacity ≡ m.indices.capacity
-    pub alive : i.lost ≡ []
+    pub grew : i.lost ≡ [] → m.indices.lost ≡ []
     pub steps : length i.events ≤ length m.indices.events + 1
     pub others : (q : ℕ) → (party ≡ q → ⊥) → stage_at i.seats q ≡ stage_at m.indices.seats q
 
   pub stays : SetStays m.indices
-  stays = record { kept = k.indices; same_size = refl; alive = k.lost; steps = omega arith; others = λ q differs. refl }
+  stays = record { kept = k.indices; same_size = refl; grew = λ h. h; steps = omega arith; others = λ q differs. refl }
 
   stage_else : (q : ℕ) (seat : Seat) → (party ≡ q → ⊥) → stage_at (set m.indices.seats party seat) q ≡ stage_at m.indices.seats q
   stage_else q seat differs = ap (λ (s : Seat). s.stage) (seat_else m.indices.seats party q seat (λ same. differs (sym same)))
@@ -113,7 +119,7 @@ module _ (m : ContainerParts) (party : ℕ) (k : MembersAreKept m) where
   goes_on fit = record {
     kept = went_keeps m.indices party fit k.indices;
     same_size = refl;
-    alive = k.lost;
+    grew = λ h. h;
     steps = omega (arith, went_length m.indices party);
     others = λ q differs. stage_else q _ differs;
   }
@@ -123,7 +129,7 @@ module _ (m : ContainerParts) (party : ℕ) (k : MembersAreKept m) where
   acquires owner fit = record {
     kept = begun_keeps m.indices party (set_call.Acquire owner) fit k.indices;
     same_size = refl;
-    alive = k.lost;
+    grew = λ h. h;
     steps = omega (arith, length-append m.indices.events (record { party = party; access = Local; answer = 0 } ∷ []));
     others = λ q differs. stage_else q _ differs;
   }
@@ -134,7 +140,18 @@ module _ (m : ContainerParts) (party : ℕ) (k : MembersAreKept m) where
   releases owner index mode fit = record {
     kept = begun_keeps m.indices party (set_call.Release owner index mode) fit k.indices;
     same_size = refl;
-    alive = k.lost;
+    grew = λ h. h;
+    steps = omega (arith, length-append m.indices.events (record { party = party; access = Local; answer = 0 } ∷ []));
+    others = λ q differs. stage_else q _ differs;
+  }
+
+  recovers : (owner number : ℕ) (mode : ReleaseMode) → robust.fits m.indices (set_move.Begin party (set_call.Recover owner number mode))
+      ≡ true
+      → SetStays (begun m.indices party (set_call.Recover owner number mode))
+  recovers owner number mode fit = record {
+    kept = begun_keeps m.indices party (set_call.Recover owner number mode) fit k.indices;
+    same_size = refl;
+    grew = λ h. absurd (omega (arith, ap (λ (os : List ℕ). length os) h, length-append m.indices.lost (owner ∷ [])));
     steps = omega (arith, length-append m.indices.events (record { party = party; access = Local; answer = 0 } ∷ []));
     others = λ q differs. stage_else q _ differs;
   }
@@ -153,6 +170,12 @@ module _ (m : ContainerParts) (party : ℕ) (k : MembersAreKept m) where
   asked stage.Look fit = stays
   asked (stage.Visit i) fit = stays
   asked (stage.Gather i seen next) fit = stays
+  asked (stage.Search o j mode) fit = recovers o j mode fit
+  asked (stage.Watch o j mode i) fit = stays
+  asked (stage.Ask o j mode i seen) fit = goes_on fit
+  asked (stage.Expel o j mode i seen) fit = stays
+  asked (stage.Clear o j mode i) fit = goes_on fit
+  asked (stage.Close o j mode) fit = goes_on fit
   asked (stage.Done c answer) fit = stays
 
 -- one step inside a call
@@ -213,67 +236,94 @@ module _ (m : ContainerParts) (party : ℕ) (k : MembersAreKept m) (few : length
   inner_few : robust.fits m.indices (set_move.GoOn party) ≡ true → HasFewSteps (went m.indices party)
   inner_few fit = omega (arith, went_length m.indices party, k.few, few)
 
+  consistent : IsConsistent m.indices
+  consistent = k.indices.sound (omega (arith, k.few, few))
+
   abbrev Makes : ContainerCall → Type 0
-  Makes t = MemberMade n width party m.values start m.words (after_access m.words (member_next n width m.values t)) m.indices.places
-      (asked_at m.indices party t).places (stage_at (asked_at m.indices party t).seats party) seat.first m.events mine (step t)
-      (member_take n width seat.saw (answer_at inner) t (answer t))
+  Makes t = MemberMade n width party m.values start m.words (after_access m.words (member_next n width m.values t)) m.indices
+      (asked_at m.indices party t) (stage_at (asked_at m.indices party t).seats party) seat.first m.events mine (step t)
+      (member_take n width seat.saw (answer_at inner) (is_clearing (stage_at (asked_at m.indices party t).seats party)) t (answer t))
 
   abbrev KnowsOwn : ContainerCall → Type 0
-  KnowsOwn t = KnowsMember n width m.values start m.words.cells m.indices.places party inner seat.first m.events mine t
+  KnowsOwn t = KnowsMember n width m.values start m.words.cells m.indices party inner seat.first m.events mine t
+
+  -- an owner for which a step is made isn't lost
+  alive : (owner : ℕ) → not (is_lost owner m.indices.lost) ≡ true → is_lost owner m.indices.lost ≡ false
+  alive owner = of (is_lost owner m.indices.lost)
+    where
+      of : (b : Bool) → not b ≡ true → b ≡ false
+      of true h = absurd (cc)
+      of false h = refl
 
   pub makes : (t : ContainerCall) → may_ask m.indices party t ≡ true → KnowsOwn t → Makes t
   makes stage.Idle fit kn = absurd (cc)
-  makes (stage.Enter number owner) fit kn =
-      enter_made width party m.values start m.words m.events mine seat.first m.indices k.indices k.lost s.low s.out fit (inner_few fit)
-      number owner kn
-  makes (stage.Fill number owner index next) fit kn =
-      fill_made n width party m.values start m.words m.indices.places m.events mine seat.first now k.size k.small s.low s.out
-      (k.began party)
-      few write_low inner number owner index next kn.0 kn.1 kn.2 kn.3 kn.4 kn.5 (nat_lt next width) refl
-  makes (stage.Show number owner index seen) fit kn =
-      show_made n width party m.values start m.words m.indices.places m.events mine seat.first now k.size k.small s.low s.out
-      (k.began party)
-      few write_low inner index seen kn.1 kn.2 kn.4 number owner kn.0 kn.3 kn.5
-  makes (stage.Sink owner index mode) fit kn =
-      sink_made n width party m.values start m.words m.indices.places m.events mine seat.first now k.size k.small s.low s.out
-      (k.began party)
-      few write_low inner owner index mode kn.0 kn.1 kn.2 kn.3
-  makes (stage.Hide owner index mode seen) fit kn =
-      hide_made n width party m.values start m.words m.indices.places m.events mine seat.first now k.size k.small s.low s.out
-      (k.began party)
-      few write_low inner index seen kn.1 kn.2 kn.4 owner mode kn.0 kn.3
-  makes (stage.Leave owner index mode) fit kn =
-      leave_made width party m.values start m.words m.events mine seat.first m.indices k.indices k.lost s.low s.out owner index mode fit kn
-  makes (stage.Drop owner index mode) fit kn =
-      drop_made width party m.values start m.words m.events mine seat.first m.indices k.indices k.lost s.low s.out fit (inner_few fit)
-      owner index mode kn
-  makes (stage.Count c a) fit kn =
-      count_made n width party m.values start m.words m.indices.places m.events mine seat.first now k.size k.small s.low s.out
-      (k.began party)
-      few write_low inner c a kn.0 kn.1
-  makes (stage.Raise c a seen) fit kn =
-      raise_made n width party m.values start m.words m.indices.places m.events mine seat.first now k.size k.small s.low s.out
-      (k.began party)
-      few write_low inner c a kn.0 kn.1 seen (m.words.write == seen) refl
-  makes stage.Look fit kn =
-      look_made n width party m.values start m.words m.indices.places m.events mine seat.first now k.size k.small s.low s.out
-      (k.began party)
-      few write_low inner seat.saw (m.words.write == seat.saw)
-  makes (stage.Visit i) fit kn =
-      visit_made n width party m.values start m.words m.indices.places m.events mine seat.first now k.size k.small s.low s.out
-      (k.began party)
-      few write_low inner i kn.0 kn.1
-  makes (stage.Gather i seen next) fit kn =
-      gather_made n width party m.values start m.words m.indices.places m.events mine seat.first now k.size k.small s.low s.out
-      (k.began party)
-      few write_low inner i kn.0 kn.1 seen next kn.2 kn.3 kn.4 kn.5 kn.6 (nat_lt next width) refl
-  makes (stage.Done c a) fit kn =
-      quiet n width party m.values start m.words m.indices.places m.events mine seat.first now k.size k.small s.low s.out (k.began party)
-      few write_low inner Local 0 stage.Idle refl tt
+  makes (stage.Enter number owner) fit kn = enter_made width party m.values start m.words m.events mine seat.first m.indices k.indices
+      s.low s.out fit
+      (inner_few fit) number owner kn
+  makes (stage.Fill number owner index next) fit kn = fill_made n width party m.values start m.words m.indices m.events mine seat.first now
+      k.size k.small s.low s.out
+      consistent.whole.cells (k.began party) few write_low inner number owner index next kn.0 kn.1
+      (kn.3 (alive owner fit)).0 (kn.3 (alive owner fit)).1 kn.2 (kn.3 (alive owner fit)).2 (nat_lt next width) refl
+  makes (stage.Show number owner index seen) fit kn = show_made n width party m.values start m.words m.indices m.events mine seat.first now
+      k.size k.small s.low s.out
+      consistent.whole.cells (k.began party) few write_low inner index seen kn.1
+      (kn.2 (alive owner fit)).2 owner (alive owner fit) (kn.2 (alive owner fit)).0 number kn.0 (kn.2 (alive owner fit)).1
+      (kn.2 (alive owner fit)).3
+  makes (stage.Sink owner index mode) fit kn = sink_made n width party m.values start m.words m.indices m.events mine seat.first now k.size
+      k.small s.low s.out
+      consistent.whole.cells (k.began party) few write_low inner owner index mode kn.0 kn.1
+      (kn.2 (alive owner fit)).0 (kn.2 (alive owner fit)).1
+  makes (stage.Hide owner index mode seen) fit kn = hide_made n width party m.values start m.words m.indices m.events mine seat.first now
+      k.size k.small s.low s.out
+      consistent.whole.cells (k.began party) few write_low inner index seen kn.1
+      (kn.2 (alive owner fit)).2 owner (alive owner fit) (kn.2 (alive owner fit)).0 mode kn.0 (kn.2 (alive owner fit)).1
+  makes (stage.Leave owner index mode) fit kn = leave_made width party m.values start m.words m.events mine seat.first m.indices k.indices
+      s.low s.out owner
+      index mode fit kn
+  makes (stage.Drop owner index mode) fit kn = drop_made width party m.values start m.words m.events mine seat.first m.indices k.indices
+      s.low s.out fit
+      (inner_few fit) owner index mode kn
+  makes (stage.Count c a) fit kn = count_made n width party m.values start m.words m.indices m.events mine seat.first now k.size k.small
+      s.low s.out
+      consistent.whole.cells (k.began party) few write_low inner c a kn.0 kn.1
+  makes (stage.Raise c a seen) fit kn = raise_made n width party m.values start m.words m.indices m.events mine seat.first now k.size
+      k.small s.low s.out
+      consistent.whole.cells (k.began party) few write_low inner c a kn.0 kn.1 seen (m.words.write == seen) refl
+  makes stage.Look fit kn = look_made n width party m.values start m.words m.indices m.events mine seat.first now k.size k.small s.low s.out
+      consistent.whole.cells (k.began party) few write_low inner seat.saw (m.words.write == seat.saw)
+  makes (stage.Visit i) fit kn = visit_made n width party m.values start m.words m.indices m.events mine seat.first now k.size k.small
+      s.low s.out
+      consistent.whole.cells (k.began party) few write_low inner i kn.0 kn.1
+  makes (stage.Gather i seen next) fit kn = gather_made n width party m.values start m.words m.indices m.events mine seat.first now k.size
+      k.small s.low s.out
+      consistent.whole.cells (k.began party) few write_low inner i kn.0 kn.1 seen next kn.2 kn.3 kn.4 kn.5 kn.6
+      (nat_lt next width) refl
+  makes (stage.Search owner number mode) fit kn = search_made width party m.values start m.words m.events mine seat.first m.indices
+      k.indices s.low s.out owner
+      number mode fit kn
+  makes (stage.Watch owner number mode i) fit kn = watch_made n width party m.values start m.words m.indices m.events mine seat.first now
+      k.size k.small s.low s.out
+      consistent.whole.cells (k.began party) few write_low inner owner number mode i kn.0 kn.1 kn.2 kn.3
+  makes (stage.Ask owner number mode i seen) fit kn = ask_made width party m.values start m.words m.events mine seat.first m.indices
+      k.indices s.low s.out fit
+      (inner_few fit) owner number mode i seen kn
+  makes (stage.Expel owner number mode i seen) fit kn = expel_made n width party m.values start m.words m.indices m.events mine seat.first
+      now k.size k.small s.low s.out
+      consistent.whole.cells (k.began party) few write_low inner owner number mode i seen kn.0 kn.1
+      kn.2 kn.3 kn.5 kn.6 kn.7 (word_of m.words (Cell i) == seen) refl
+  makes (stage.Clear owner number mode i) fit kn = clear_made width party m.values start m.words m.events mine seat.first m.indices
+      k.indices s.low s.out fit
+      (inner_few fit) owner number mode i kn
+  makes (stage.Close owner number mode) fit kn = close_made width party m.values start m.words m.events mine seat.first m.indices k.indices
+      s.low s.out fit
+      (inner_few fit) owner number mode kn
+  makes (stage.Done c a) fit kn = quiet n width party m.values start m.words m.indices m.events mine seat.first now k.size k.small s.low
+      s.out
+      consistent.whole.cells (k.began party) few write_low inner Local 0 stage.Idle refl tt
 
 -- what is known of a party with this seat, in a container of n places
 abbrev pub KnowsAt : ℕ → ContainerParts → ℕ → MemberSeat → Type 0
-KnowsAt n x q t = KnowsMember n (width_of x) x.values (empty_words n (width_of x)) x.words.cells x.indices.places q
+KnowsAt n x q t = KnowsMember n (width_of x) x.values (empty_words n (width_of x)) x.words.cells x.indices q
     (stage_at x.indices.seats q) t.first x.events (own q (drop t.first x.events)) t.stage
 
 pub saw_on : (m : ContainerParts) (e : Event) (t : MemberSeat) → t.since ≤ length m.events → t.saw ≡ times_counted (take t.since m.events)

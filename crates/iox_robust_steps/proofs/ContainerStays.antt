@@ -8,25 +8,23 @@ use Rattle.std.proofs.Math.Seq.{take-append_seam}
 use Rattle.std.proofs.lemmas.Bool.{cases_eq, eq-eqb, lt-ltb, ltb-true, ne_eqb}
 use Rattle.std.proofs.lemmas.List.{take-append-le}
 use Rattle.iox_container.specs.declared.release.ReleaseMode.{ReleaseMode}
-use Rattle.iox_queues_steps.specs.Access.{RingWords, after_access, after_store, answer_of, successor, word_of}
+use Rattle.iox_queues_steps.specs.Access.{RingWords, successor}
 use Rattle.iox_queues_steps.specs.declared.access.Access.{Access}
 use Rattle.iox_queues_steps.specs.declared.access.Access.TheVariants.{Load, Store}
-use Rattle.iox_queues_steps.specs.declared.access.Word.TheVariants.{Write, Cell}
+use Rattle.iox_queues_steps.specs.declared.access.Word.TheVariants.{Cell}
 use Rattle.iox_queues.specs.Told.{own}
 use Rattle.iox_queues.specs.Values.{table_value}
 use Rattle.iox_queues.specs.declared.bits.machine.Event.{Event}
-use Rattle.iox_robust_steps.specs.Changes.{gave_by}
 use Rattle.iox_robust_steps.specs.ContainerSteps.{dropped, entered, is_shown, member_is_idle, member_is_over, member_next, member_take}
-use Rattle.iox_robust_steps.specs.ContainerSteps.{value_cell, visited, visits_from}
-use Rattle.iox_robust_steps.specs.ContainerMachine.{ContainerParts, asked_at, empty_words, may_ask, member_ended, member_seat, width_of}
+use Rattle.iox_robust_steps.specs.ContainerSteps.{value_cell, visited, visits_from, watches_from}
+use Rattle.iox_robust_steps.specs.ContainerMachine.{ContainerParts, empty_words, may_ask, member_ended, member_seat, width_of}
 use Rattle.iox_robust_steps.specs.ContainerTold.{AreMembersTold}
-use Rattle.iox_robust_steps.specs.ContainerStays.{EachLetsPass, LetsPassSoFar, MayBeMade, MayBeStored, Passing, StaysTillTakenOut}
+use Rattle.iox_robust_steps.specs.ContainerStays.{EachLetsPass, LetsPassSoFar, MayBeStored, Passing}
 use Rattle.iox_robust_steps.specs.ContainerStays.{passed_by}
-use Rattle.iox_robust_steps.specs.ContainerStays.{passed_in, passed_so_far, passed_with, stored_by, whose_after}
-use Rattle.iox_robust_steps.specs.ContainerKept.{FitsWhose, KnowsMember, MembersAreKept, MembersAreSound}
-use Rattle.iox_robust_steps.specs.Kept.{IsKept}
-use Rattle.iox_robust_steps.specs.Machine.{HasFewSteps, RobustSetState, fits, place_of, places_after, stage_at, went}
-use Rattle.iox_robust_steps.specs.Steps.{call_next}
+use Rattle.iox_robust_steps.specs.ContainerStays.{passed_in, passed_so_far, passed_with, stored_by}
+use Rattle.iox_robust_steps.specs.ContainerKept.{FitsWhose, IsLostOwner, KnowsMember, MembersAreKept, MembersAreSound}
+use Rattle.iox_robust_steps.specs.ContainerRecovering.{IsCalmAccess}
+use Rattle.iox_robust_steps.specs.Machine.{is_lost, stage_at}
 use Rattle.iox_robust_steps.specs.declared.call.Answer.{Answer}
 use Rattle.iox_robust_steps.specs.declared.call.Answer.TheVariants.{Acquired, Settled}
 use Rattle.iox_robust_steps.specs.declared.call.RobustCall.{RobustCall}
@@ -35,25 +33,10 @@ use Rattle.iox_robust_steps.specs.declared.container.call.ContainerCall.TheVaria
 use Rattle.iox_robust_steps.specs.declared.container.call.MemberAnswer.TheVariants.{Updated}
 use Rattle.iox_robust_steps.specs.declared.container.call.MemberCall.TheVariants as call
 use Rattle.iox_robust_steps.specs.declared.container.MemberFinished.{MemberFinished}
-use Rattle.iox_robust_steps.specs.declared.machine.Move.TheVariants.{GoOn}
 use Rattle.iox_robust_steps.specs.declared.state.Place.{Place}
 use Rattle.iox_robust_steps.specs.declared.state.Place.TheVariants as place
-use Rattle.iox_robust_steps.proofs.ContainerRuns.{went_length}
-use Rattle.iox_robust_steps.proofs.ContainerSet.{acquire_gives_none, held_still, keeps_held, release_gives_own, still_his}
 use Rattle.iox_robust_steps.proofs.ContainerWords.{behind_counts, count_else, count_here, counts_stay, exact, next_shown, row_below}
 use Rattle.iox_robust_steps.proofs.ContainerWords.{rows_apart}
-
--- one more step
-pub whose_more : (place : ℕ) (now : Option ℕ) (events : List Event) (e : Event)
-    → whose_after place now (events ++ e ∷ []) ≡ stored_by place e.party e.access (whose_after place now events)
-whose_more place now [] e = refl
-whose_more place now (x ∷ events) e = whose_more place (stored_by place x.party x.access now) events e
-
-pub stays_more : (n width place : ℕ) (now : Option ℕ) (events : List Event) (e : Event) → StaysTillTakenOut n width place now events
-    → MayBeMade n width place (whose_after place now events) e.party e.access → StaysTillTakenOut n width place now (events ++ e ∷ [])
-stays_more n width place now [] e h may = (may, tt)
-stays_more n width place now (x ∷ events) e h may =
-    (h.0, stays_more n width place (stored_by place x.party x.access now) events e h.1 may)
 
 -- what calls let pass, after one more step
 pub passed_more : (n : ℕ) (events : List Event) (e : Event) → passed_in n (events ++ e ∷ []) ≡ passed_in n events ++ passed_by n e.access
@@ -93,6 +76,12 @@ ended_passes n party first events e (stage.Raise c a seen) h = tt
 ended_passes n party first events e stage.Look h = tt
 ended_passes n party first events e (stage.Visit i) h = tt
 ended_passes n party first events e (stage.Gather i seen next) h = tt
+ended_passes n party first events e (stage.Search o j mode) h = tt
+ended_passes n party first events e (stage.Watch o j mode i) h = tt
+ended_passes n party first events e (stage.Ask o j mode i seen) h = tt
+ended_passes n party first events e (stage.Expel o j mode i seen) h = tt
+ended_passes n party first events e (stage.Clear o j mode i) h = tt
+ended_passes n party first events e (stage.Close o j mode) h = tt
 ended_passes n party first events e (stage.Done c a) h = (
   subst (λ (es : List Event). passed_in n (own party (drop first es)) ≡ passed_with c a) (sym (take-append_seam events (e ∷ [])))
       (h refl),
@@ -100,47 +89,10 @@ ended_passes n party first events e (stage.Done c a) h = (
 )
 
 -- the index of a member stays its party's
-fits_on : (o : Option ℕ) (count : ℕ) (x y : Place) → ((q : ℕ) → is_shown count ≡ true → x ≡ place.Held q → y ≡ place.Held q)
+pub fits_on : (o : Option ℕ) (count : ℕ) (x y : Place) → ((q : ℕ) → is_shown count ≡ true → x ≡ place.Held q → y ≡ place.Held q)
     → FitsWhose o count x → FitsWhose o count y
 fits_on None count x y keeps h = h
 fits_on (Some q) count x y keeps h = (h.0, keeps q h.0 h.1)
-
--- a step of the set, where no recovery began, leaves who holds an index that isn't given back
-module _ (m : RobustSetState) (p : ℕ) (fit : fits m (GoOn p) ≡ true) (k : IsKept m) (few : HasFewSteps (went m p)) (none : m.lost ≡ [])
-  where
-    abbrev s : RobustCall
-    s = stage_at m.seats p
-
-    abbrev answer : ℕ
-    answer = answer_of m.words (call_next s)
-
-    abbrev places' : List Place
-    places' = places_after m.places p s answer
-
-    mine_on : (i : ℕ) → place_of m.places i ≡ place.Held p → gave_by i (call_next s) answer ≡ 0 → place_of places' i ≡ place.Held p
-    mine_on i is gave = of (place_of places' i) refl
-      where
-        of : (x : Place) → place_of places' i ≡ x → place_of places' i ≡ place.Held p
-        of place.Empty h = absurd (held_still m p fit k few none i p is gave
-            (λ r held. let wrong : place.Empty ≡ place.Held r = sym h ∙ held in cc))
-        of (place.Claimed r) h = absurd (held_still m p fit k few none i p is gave
-            (λ q held. let wrong : place.Claimed r ≡ place.Held q = sym h ∙ held in cc))
-        of (place.Counted r) h = absurd (held_still m p fit k few none i p is gave
-            (λ q held. let wrong : place.Counted r ≡ place.Held q = sym h ∙ held in cc))
-        of (place.Held r) h = ⊎_elim
-            (λ (same : p ≡ r). h ∙ ap (λ (q : ℕ). place.Held q) (sym same))
-            (λ (differs : p ≡ r → ⊥). absurd (
-            let wrong : place.Held p ≡ place.Held r = sym is ∙ still_his r m.places p s answer i differs h in
-            differs (let same : p ≡ r = cc in same)))
-            (cases_eq p r)
-
-    pub held_on : (q i : ℕ) → place_of m.places i ≡ place.Held q → (p ≡ q → gave_by i (call_next s) answer ≡ 0)
-        → place_of places' i ≡ place.Held q
-    held_on q i is gave = ⊎_elim
-        (λ (same : p ≡ q). mine_on i (is ∙ ap (λ (r : ℕ). place.Held r) (sym same)) (gave same)
-        ∙ ap (λ (r : ℕ). place.Held r) same)
-        (λ (differs : p ≡ q → ⊥). keeps_held m p fit k few none q i differs is)
-        (cases_eq p q)
 
 -- a store of a party
 module _ (n width p : ℕ) (cells : List ℕ) (size : length cells ≡ n + (n * width + 1)) (small : length cells < 2 ^ 62)
@@ -261,7 +213,7 @@ module _ (n width p : ℕ) (cells : List ℕ) (size : length cells ≡ n + (n * 
 
 -- one step inside a call
 module _ (m : ContainerParts) (party : ℕ) (k : MembersAreKept m) (few : length m.events + 1 < 2 ^ 64 - 1)
-    (s : MembersAreSound m.indices.capacity m) where
+    (s : MembersAreSound m.indices.capacity m) (none : m.indices.lost ≡ []) where
   abbrev n : ℕ
   n = m.indices.capacity
 
@@ -275,78 +227,46 @@ module _ (m : ContainerParts) (party : ℕ) (k : MembersAreKept m) (few : length
   access_at t = member_next n width m.values t
 
   abbrev KnowsOwn : ContainerCall → Type 0
-  KnowsOwn t = KnowsMember n width m.values (empty_words n width) m.words.cells m.indices.places party inner
+  KnowsOwn t = KnowsMember n width m.values (empty_words n width) m.words.cells m.indices party inner
       (member_seat m.seats party).first m.events (own party (drop (member_seat m.seats party).first m.events)) t
 
-  abbrev Fits : ℕ → Option ℕ → Type 0
-  Fits i o = FitsWhose o (slice_index m.words.cells i) (place_of m.indices.places i)
+  nobody : (owner : ℕ) → is_lost owner m.indices.lost ≡ false
+  nobody owner = ap (is_lost owner) none
 
-  abbrev Makes : Access → List Place → ℕ → Option ℕ → Type 0
-  Makes access places' i o = MayBeMade n width i o party access
-      × FitsWhose (stored_by i party access o) (slice_index (after_access m.words access).cells i) (place_of places' i)
-
-  inner_few : fits m.indices (GoOn party) ≡ true → HasFewSteps (went m.indices party)
-  inner_few fit = omega (arith, went_length m.indices party, k.few, few)
+  -- no recovery of the set is under way
+  not_lost : (owner : ℕ) → IsLostOwner m.indices owner → ⊥
+  not_lost owner lost = let wrong : true ≡ false = sym lost.1 ∙ nobody owner in cc
 
   up : (index seen : ℕ) → index < n → seen ≡ slice_index m.words.cells index → successor seen ≡ seen + 1
   up index seen within is = omega (arith, is, s.low index within, few)
 
-  either_made : (b : Bool) (one other : Access) (i : ℕ) (o : Option ℕ) → (b ≡ true → Makes one m.indices.places i o)
-      → Makes other m.indices.places i o → Makes (if b then one else other) m.indices.places i o
-  either_made true one other i o h g = h refl
-  either_made false one other i o h g = g
+  either_calm : (b : Bool) (one other : Access) → IsCalmAccess one → IsCalmAccess other → IsCalmAccess (if b then one else other)
+  either_calm true one other h g = h
+  either_calm false one other h g = g
 
-  same_cells_at : (b : Bool) (new i : ℕ) → slice_index (if b then after_store m.words Write new else m.words).cells i
-      ≡ slice_index m.words.cells i
-  same_cells_at true new i = refl
-  same_cells_at false new i = refl
-
-  pub goes : (t : ContainerCall) → may_ask m.indices party t ≡ true → KnowsOwn t → (i : ℕ) → i < n → (o : Option ℕ) → Fits i o
-      → Makes (access_at t) (asked_at m.indices party t).places i o
-  goes stage.Idle fit kn i inside o h = absurd (cc)
-  goes (stage.Enter number owner) fit kn i inside o h = (
-    tt,
-    fits_on o (slice_index m.words.cells i) (place_of m.indices.places i) (place_of (went m.indices party).places i)
-        (λ q shown is. held_on m.indices party fit k.indices (inner_few fit) k.lost q i is
-        (λ same. acquire_gives_none i (answer_of m.indices.words (call_next inner)) owner inner kn.2)) h,
-  )
-  goes (stage.Fill number owner index next) fit kn i inside o h = either_made (nat_lt next width)
-      (Store (Cell (value_cell n width index next)) (slice_index (table_value m.values number) next)) (Load (Cell index)) i o
-      (λ e. fill_stays n width party m.words.cells k.size k.small (place_of m.indices.places) index next
-      (slice_index (table_value m.values number) next) kn.1 (ltb-true next width e) kn.3 i inside o h) (tt, h)
-  goes (stage.Show number owner index seen) fit kn i inside o h =
-      show_stays n width party m.words.cells k.size k.small (place_of m.indices.places) index seen kn.1 kn.2 kn.4
-      (up index seen kn.1 kn.4) kn.3 i inside o h
-  goes (stage.Sink owner index mode) fit kn i inside o h = (tt, h)
-  goes (stage.Hide owner index mode seen) fit kn i inside o h =
-      hide_stays n width party m.words.cells k.size k.small (place_of m.indices.places) index seen kn.1 kn.2 kn.4
-      (up index seen kn.1 kn.4) kn.3 i inside o h
-  goes (stage.Leave owner index mode) fit kn i inside o h = (tt, h)
-  goes (stage.Drop owner index mode) fit kn i inside o h = (
-    tt,
-    fits_on o (slice_index m.words.cells i) (place_of m.indices.places i) (place_of (went m.indices party).places i)
-        (λ q shown is. held_on m.indices party fit k.indices (inner_few fit) k.lost q i is
-        (λ same. ⊎_elim
-        (λ (at : i ≡ index).
-        let hidden : is_shown (slice_index m.words.cells index) ≡ false
-        = kn.3 (ap (place_of m.indices.places) (sym at) ∙ is ∙ ap (λ (r : ℕ). place.Held r) (sym same)) in
-        absurd (let wrong : true ≡ false
-        = sym shown ∙ ap (λ (l : ℕ). is_shown (slice_index m.words.cells l)) at ∙ hidden in cc))
-        (λ (differs : i ≡ index → ⊥). release_gives_own i (answer_of m.indices.words (call_next inner)) owner index mode inner kn.4
-        differs)
-        (cases_eq i index))) h,
-  )
-  goes (stage.Count c a) fit kn i inside o h = (tt, h)
-  goes (stage.Raise c a seen) fit kn i inside o h = (
-    tt,
-    subst (λ (count : ℕ). FitsWhose o count (place_of m.indices.places i))
-        (sym (same_cells_at (word_of m.words Write == seen) (successor seen) i)) h,
-  )
-  goes stage.Look fit kn i inside o h = (tt, h)
-  goes (stage.Visit place) fit kn i inside o h = (tt, h)
-  goes (stage.Gather place seen next) fit kn i inside o h = either_made (nat_lt next width)
-      (Load (Cell (value_cell n width place next))) (Load (Cell place)) i o (λ e. (tt, h)) (tt, h)
-  goes (stage.Done c a) fit kn i inside o h = (tt, h)
+  -- a step that exchanges no count
+  pub calm_step : (t : ContainerCall) → KnowsOwn t → IsCalmAccess (access_at t)
+  calm_step stage.Idle kn = tt
+  calm_step (stage.Enter number owner) kn = tt
+  calm_step (stage.Fill number owner index next) kn = either_calm (nat_lt next width) (Store (Cell (value_cell n width index next)) _)
+      (Load (Cell index)) tt tt
+  calm_step (stage.Show number owner index seen) kn = tt
+  calm_step (stage.Sink owner index mode) kn = tt
+  calm_step (stage.Hide owner index mode seen) kn = tt
+  calm_step (stage.Leave owner index mode) kn = tt
+  calm_step (stage.Drop owner index mode) kn = tt
+  calm_step (stage.Count c a) kn = tt
+  calm_step (stage.Raise c a seen) kn = tt
+  calm_step stage.Look kn = tt
+  calm_step (stage.Visit i) kn = tt
+  calm_step (stage.Gather i seen next) kn = either_calm (nat_lt next width) (Load (Cell (value_cell n width i next))) (Load (Cell i)) tt tt
+  calm_step (stage.Search o j mode) kn = tt
+  calm_step (stage.Watch o j mode i) kn = tt
+  calm_step (stage.Ask o j mode i seen) kn = tt
+  calm_step (stage.Expel o j mode i seen) kn = absurd (not_lost o kn.2)
+  calm_step (stage.Clear o j mode i) kn = tt
+  calm_step (stage.Close o j mode) kn = tt
+  calm_step (stage.Done c a) kn = tt
 
   -- what a party's own step lets pass is what its call let pass more
   turns : (index seen : ℕ) (b : Bool) → index < n → seen ≡ slice_index m.words.cells index
@@ -373,6 +293,10 @@ module _ (m : ContainerParts) (party : ℕ) (k : MembersAreKept m) (few : length
 
   visited_passed : (i count : ℕ) → HasPassed [] (visited n i count)
   visited_passed i count = either_passed (is_shown count) (stage.Gather i count 0) _ [] refl (visits_passed (successor i))
+
+  watches_passed : (owner number : ℕ) (mode : ReleaseMode) (i : ℕ) → HasPassed [] (watches_from n owner number mode i)
+  watches_passed owner number mode i = either_passed (nat_lt i n) (stage.Watch owner number mode i) (stage.Close owner number mode) [] refl
+      refl
 
   entered_passed : (number owner : ℕ) (got : Option Answer) → HasPassed [] (entered number owner got)
   entered_passed number owner None = refl
@@ -404,9 +328,9 @@ module _ (m : ContainerParts) (party : ℕ) (k : MembersAreKept m) (few : length
   gathered_passed i next true = refl
   gathered_passed i next false = refl
 
-  module _ (saw : ℕ) (got : Option Answer) (answer : ℕ) where
+  module _ (saw : ℕ) (got : Option Answer) (finds : Bool) (answer : ℕ) where
     abbrev next_of : ContainerCall → ContainerCall
-    next_of t = member_take n width saw got t answer
+    next_of t = member_take n width saw got finds t answer
 
     pub lets_pass : (t : ContainerCall) → may_ask m.indices party t ≡ true → KnowsOwn t → member_is_over t ≡ false
         → passed_so_far t ++ passed_by n (access_at t) ≡ passed_so_far (next_of t)
@@ -415,9 +339,11 @@ module _ (m : ContainerParts) (party : ℕ) (k : MembersAreKept m) (few : length
     lets_pass (stage.Fill number owner index next) fit kn over =
         filled_passed index next (slice_index (table_value m.values number) next) kn.1 (nat_lt next width) refl
         ∙ either_passed (nat_lt next width) (stage.Fill number owner index (next + 1)) (stage.Show number owner index answer) [] refl refl
-    lets_pass (stage.Show number owner index seen) fit kn over = counted_at index seen false kn.1 kn.4 kn.3
+    lets_pass (stage.Show number owner index seen) fit kn over =
+        counted_at index seen false kn.1 (kn.2 (nobody owner)).2 (kn.2 (nobody owner)).1
     lets_pass (stage.Sink owner index mode) fit kn over = refl
-    lets_pass (stage.Hide owner index mode seen) fit kn over = counted_at index seen true kn.1 kn.4 kn.3
+    lets_pass (stage.Hide owner index mode seen) fit kn over =
+        counted_at index seen true kn.1 (kn.2 (nobody owner)).2 (kn.2 (nobody owner)).1
     lets_pass (stage.Leave owner index mode) fit kn over = refl
     lets_pass (stage.Drop owner index mode) fit kn over = dropped_passed owner index mode got
     lets_pass (stage.Count c a) fit kn over = append-nil (passed_with c a)
@@ -430,6 +356,12 @@ module _ (m : ContainerParts) (party : ℕ) (k : MembersAreKept m) (few : length
         gathered_passed i next (nat_lt next width)
         ∙ either_passed (nat_lt next width) (stage.Gather i seen (next + 1)) _ [] refl
         (either_passed (answer == seen) _ _ [] (visits_passed (successor i)) (visited_passed i answer))
+    lets_pass (stage.Search o j mode) fit kn over = watches_passed o j mode 0
+    lets_pass (stage.Watch o j mode i) fit kn over = absurd (not_lost o kn.2)
+    lets_pass (stage.Ask o j mode i seen) fit kn over = absurd (not_lost o kn.2)
+    lets_pass (stage.Expel o j mode i seen) fit kn over = absurd (not_lost o kn.2)
+    lets_pass (stage.Clear o j mode i) fit kn over = absurd (not_lost o kn.2)
+    lets_pass (stage.Close o j mode) fit kn over = absurd (not_lost o kn.1)
     lets_pass (stage.Done c a) fit kn over = absurd (cc)
 
     -- a call that is over isn't in hand then
@@ -447,6 +379,12 @@ module _ (m : ContainerParts) (party : ℕ) (k : MembersAreKept m) (few : length
     next_idle stage.Look h = absurd (cc)
     next_idle (stage.Visit i) h = absurd (cc)
     next_idle (stage.Gather i seen next) h = absurd (cc)
+    next_idle (stage.Search o j mode) h = absurd (cc)
+    next_idle (stage.Watch o j mode i) h = absurd (cc)
+    next_idle (stage.Ask o j mode i seen) h = absurd (cc)
+    next_idle (stage.Expel o j mode i seen) h = absurd (cc)
+    next_idle (stage.Clear o j mode i) h = absurd (cc)
+    next_idle (stage.Close o j mode) h = absurd (cc)
     next_idle (stage.Done c a) h = refl
 
     busy_at : (t : ContainerCall) → may_ask m.indices party t ≡ true → member_is_idle t ≡ false
@@ -463,6 +401,12 @@ module _ (m : ContainerParts) (party : ℕ) (k : MembersAreKept m) (few : length
     busy_at stage.Look h = refl
     busy_at (stage.Visit i) h = refl
     busy_at (stage.Gather i seen next) h = refl
+    busy_at (stage.Search o j mode) h = refl
+    busy_at (stage.Watch o j mode i) h = refl
+    busy_at (stage.Ask o j mode i seen) h = refl
+    busy_at (stage.Expel o j mode i seen) h = refl
+    busy_at (stage.Clear o j mode i) h = refl
+    busy_at (stage.Close o j mode) h = refl
     busy_at (stage.Done c a) h = refl
 
     pub own_passes : (t : ContainerCall) → may_ask m.indices party t ≡ true → KnowsOwn t → (es : List Event) (e : Event)

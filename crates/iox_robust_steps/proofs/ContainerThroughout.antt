@@ -188,6 +188,7 @@ module _ (n width : ℕ) (values : List (Vec ℕ)) (start : RingWords) (size : l
   shows_of party first events mine call.Update (Updated true) began told stays = λ owner place within theirs.
       shows_staying n width place within owner start size (out place within) first events began (stays place within) theirs mine told
   shows_of party first events mine call.Update (Updated false) began told stays = tt
+  shows_of party first events mine (call.Recover owner number mode) a began told stays = tt
 
   pub each_shows : (events : List Event) (finished : List MemberFinished) → AreMembersTold n width values start events finished
       → ((i : ℕ) → i < n → StaysTillTakenOut n width i None events) → EachShowsWhoStays n width start events finished

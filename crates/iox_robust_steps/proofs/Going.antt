@@ -19,7 +19,7 @@ use Rattle.iox_queues_steps.specs.declared.access.Word.TheVariants.{Read, Cell}
 use Rattle.iox_queues.specs.declared.bits.machine.Event.{Event}
 use Rattle.iox_robust_steps.specs.Steps.{call_is_idle, call_next, call_take, claims_from, decided, is_freed, lock_mark}
 use Rattle.iox_robust_steps.specs.Steps.{looks_from, reserved, scans_from, settles}
-use Rattle.iox_robust_steps.specs.Changes.{gave_by, is_owner, saw_filled, took_by}
+use Rattle.iox_robust_steps.specs.Changes.{gave_by, is_owner, named_after, named_by, saw_filled, took_by}
 use Rattle.iox_robust_steps.specs.Told.{GiveNone, GiveOnly, MoveNone, SawOther, TakeNone, Tells, has_locked, is_locking}
 use Rattle.iox_robust_steps.specs.Machine.{CellFits, is_halted, is_lost, one_if_held, place_of, places_after}
 use Rattle.iox_robust_steps.specs.Kept.{IsOwner, IsQuiet, Knows, QuietBelow, Settles, WordsFit}
@@ -43,6 +43,11 @@ pub record MadeStep (n p : ℕ) (words words' : RingWords) (places places' : Lis
   pub stays : words.read ≡ lock_mark → words'.read ≡ lock_mark
   pub knows : Knows n words' places' lost p (own ++ e ∷ []) s
   pub locks : words'.read ≡ lock_mark → (words.read ≡ lock_mark) ⊎ (is_locking s ≡ true)
+
+-- the name of an index after one more step
+named_more : (i now : ℕ) (es : List Event) (e : Event) → named_after i now (es ++ e ∷ []) ≡ named_by i e.access (named_after i now es)
+named_more i now [] e = refl
+named_more i now (x ∷ es) e = named_more i (named_by i x.access now) es e
 
 -- what own steps are after one more
 takes_none : (es : List Event) (e : Event) → ((j : ℕ) → took_by j e.access ≡ 0) → TakeNone es → TakeNone (es ++ e ∷ [])
@@ -343,6 +348,7 @@ module _ (n p : ℕ) (decisions : List (Vec Bool)) (words : RingWords) (places :
         (λ j. omega (arith, more_taken j es (of (Store (Cell i) owner) 0 ∷ []), none.0 j, took_if j)),
         gives_none es (of (Store (Cell i) owner) 0) (λ j. refl) none.1,
       ),
+      named_more i 0 es (of (Store (Cell i) owner) 0) ∙ ap (λ (b : Bool). if b then owner else named_after i 0 es) (itself i),
     );
     locks = λ locked. inl locked;
   }

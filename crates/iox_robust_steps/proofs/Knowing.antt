@@ -86,7 +86,7 @@ module _ (n q : ℕ) (words words' : RingWords) (places places' : List Place) (l
       tells_locked n (words.read == lock_mark) (words'.read == lock_mark) es (mark_on words.read words'.read l.locked) c answer k
 
 -- one more recovery began
-lost_before : (owner other : ℕ) (lost : List ℕ) → is_lost owner (lost ++ other ∷ []) ≡ false → is_lost owner lost ≡ false
+pub lost_before : (owner other : ℕ) (lost : List ℕ) → is_lost owner (lost ++ other ∷ []) ≡ false → is_lost owner lost ≡ false
 lost_before owner other lost h =
     (or_parts (is_lost owner lost) (is_lost owner (other ∷ [])) (sym (list_any-append (λ (o : ℕ). o == owner) lost (other ∷ [])) ∙ h)).0
 

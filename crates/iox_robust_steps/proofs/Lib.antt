@@ -16,11 +16,15 @@ pub mod ContainerWords
 pub mod ContainerLeaves
 pub mod ContainerSeats
 pub mod ContainerGoing
+pub mod ContainerLost
 pub mod ContainerSet
+pub mod ContainerRecovers
 pub mod ContainerAsking
 pub mod ContainerRuns
 pub mod ContainerOfSet
+pub mod ContainerInside
 pub mod ContainerStays
+pub mod ContainerStaying
 pub mod ContainerOfCalls
 pub mod ContainerAsked
 pub mod ContainerKeeps
@@ -28,4 +32,5 @@ pub mod ContainerCopies
 pub mod ContainerCalls
 pub mod ContainerMoments
 pub mod ContainerThroughout
+pub mod ContainerShows
 pub mod ContainerOrderly

@@ -220,12 +220,12 @@ module _ (m : RobustSetState) (party : ℕ) (c : Call) (fit : fits m (Begin part
   first_own : own party (drop (length m.events) (m.events ++ begin ∷ [])) ≡ begin ∷ []
   first_own = ap (own party) (drop-append_seam m.events (begin ∷ [])) ∙ own_more party [] begin refl
 
-  owner_named : (owner : ℕ) → is_owner owner ≡ true → IsOwner owner
+  pub owner_named : (owner : ℕ) → is_owner owner ≡ true → IsOwner owner
   owner_named owner h =
       let both : (nat_lt 0 owner ≡ true) × (nat_lt owner (2 ^ 63) ≡ true) = and_parts (nat_lt 0 owner) (nat_lt owner (2 ^ 63)) h in
       (ltb-true 0 owner both.0, ltb-true owner (2 ^ 63) both.1)
 
-  lost_now : (owner : ℕ) (lost : List ℕ) → is_lost owner (lost ++ owner ∷ []) ≡ true
+  pub lost_now : (owner : ℕ) (lost : List ℕ) → is_lost owner (lost ++ owner ∷ []) ≡ true
   lost_now owner [] = ap (λ (b : Bool). b || false) (eq-eqb owner owner refl)
   lost_now owner (x ∷ lost) = or_right (x == owner) (is_lost owner (lost ++ owner ∷ [])) (lost_now owner lost)
 

@@ -39,6 +39,20 @@ abbrev pub times_given : ℕ → List Event → ℕ
 times_given i [] = 0
 times_given i (event ∷ events) = gave_by i event.access event.answer + times_given i events
 
+-- the number that was stored last in the cell of index i, after a step
+abbrev pub named_by : ℕ → Access → ℕ → ℕ
+named_by i (Load word) now = now
+named_by i (Store Write value) now = now
+named_by i (Store Read value) now = now
+named_by i (Store (Cell place) value) now = if place == i then value else now
+named_by i (Exchange word old new) now = now
+named_by i Local now = now
+
+-- the same after some more steps
+abbrev pub named_after : ℕ → ℕ → List Event → ℕ
+named_after i now [] = now
+named_after i now (event ∷ events) = named_after i (named_by i event.access now) events
+
 -- the step wanted the cell of index i empty, and found it filled
 abbrev pub wanted_empty : ℕ → Access → ℕ → Bool
 wanted_empty i (Load word) answer = false

@@ -1,5 +1,5 @@
 -- The steps of a call on a container: a local one that begins it, and the accesses that its value asked for.
-use Rattle.std.specs.Prelude.{ℕ, ◌≡◌, Option, Some, None, List, [], ◌∷◌, take, drop}
+use Rattle.std.specs.Prelude.{ℕ, ◌≡◌, Bool, Option, Some, None, List, [], ◌∷◌, take, drop}
 use Rattle.std.specs.Global.{Vec}
 use Rattle.iox_queues.specs.Recorded.{local_step}
 use Rattle.iox_queues.specs.Told.{own}
@@ -12,12 +12,12 @@ use Rattle.iox_robust_steps.specs.declared.container.call.MemberCall.{MemberCall
 use Rattle.iox_robust_steps.specs.declared.container.MemberFinished.{MemberFinished}
 
 -- a party's value asked for each access, and took its answer, from one stage to another; beside each it was handed what the party's last
--- copy saw, and what the set of indices had answered
+-- copy saw, what the set of indices had answered, and whether that was about to free an index
 abbrev pub MemberGoes : ℕ → ℕ → List (Vec ℕ) → ContainerCall → List Event → ContainerCall → Type 0
 MemberGoes n width values stage [] end = end ≡ stage
 MemberGoes n width values stage (event ∷ events) end =
-    (event.access ≡ member_next n width values stage) × (saw : ℕ) × (got : Option Answer)
-    × MemberGoes n width values (member_take n width saw got stage event.answer) events end
+    (event.access ≡ member_next n width values stage) × (saw : ℕ) × (got : Option Answer) × (finds : Bool)
+    × MemberGoes n width values (member_take n width saw got finds stage event.answer) events end
 
 -- the steps of a call up to a stage
 pub record IsMemberAsked (n width : ℕ) (values : List (Vec ℕ)) (party : ℕ) (c : MemberCall) (stage : ContainerCall) (events : List Event)

@@ -1,5 +1,5 @@
 -- What every step of a container's machine keeps.
-use Rattle.std.specs.Prelude.{ℕ, ◌≡◌, ◌+◌, ◌*◌, ◌^◌, ◌<◌, ◌≤◌, true, false, Ok, Option, Some, None, List, [], length}
+use Rattle.std.specs.Prelude.{ℕ, ◌≡◌, ◌+◌, ◌*◌, ◌^◌, ◌<◌, ◌≤◌, ◌⊎◌, true, false, Ok, Option, Some, None, List, [], length}
 use Rattle.std.specs.Prelude.{slice_index, take, drop}
 use Rattle.std.specs.Global.{Vec}
 use Rattle.iox_queues_steps.specs.Access.{RingWords}
@@ -10,20 +10,24 @@ use Rattle.iox_robust_steps.specs.ContainerSteps.{answer_at, is_shown, value_cel
 use Rattle.iox_robust_steps.specs.ContainerThroughout.{EachShowsWhoStays}
 use Rattle.iox_robust_steps.specs.ContainerMachine.{ContainerParts, HasFewMoves, MembersAreRecorded, empty_words, member_seat, member_stage}
 use Rattle.iox_robust_steps.specs.ContainerMachine.{width_of}
+use Rattle.iox_robust_steps.specs.ContainerInside.{EachShowsInside, StaysTillOut, inside_after}
 use Rattle.iox_robust_steps.specs.ContainerMoments.{EachHasItsMoment}
+use Rattle.iox_robust_steps.specs.ContainerRecovering.{IsCalm, LeaveNone, StandsBeside, is_settling}
 use Rattle.iox_robust_steps.specs.ContainerOfSet.{AsksSet, HaveReasons}
 use Rattle.iox_robust_steps.specs.ContainerStays.{EachLetsPass, LetsPassSoFar, MembersAreOfCalls, ShowsWhose, StaysTillTakenOut}
 use Rattle.iox_robust_steps.specs.ContainerStays.{whose_after}
 use Rattle.iox_robust_steps.specs.ContainerTold.{AllAreNews, AreMembersTold, GoesOut, MemberTells, WasSo, gathered_after}
 use Rattle.iox_robust_steps.specs.ContainerTold.{is_change}
 use Rattle.iox_robust_steps.specs.ContainerTold.{shown_at, times_counted}
-use Rattle.iox_robust_steps.specs.Machine.{IsOrderly, is_locked, place_of, stage_at}
-use Rattle.iox_robust_steps.specs.Kept.{IsKept}
-use Rattle.iox_robust_steps.specs.Steps.{call_in_hand}
+use Rattle.iox_robust_steps.specs.Machine.{IsOrderly, RobustSetState, is_locked, is_lost, place_of, stage_at}
+use Rattle.iox_robust_steps.specs.Kept.{IsKept, IsOwner}
+use Rattle.iox_robust_steps.specs.Steps.{call_in_hand, reserved}
 use Rattle.iox_robust_steps.specs.Told.{Holds}
 use Rattle.iox_robust_steps.specs.declared.call.Answer.TheVariants.{Acquired}
 use Rattle.iox_robust_steps.specs.declared.call.Call.TheVariants as set_call
 use Rattle.iox_robust_steps.specs.declared.call.RobustCall.{RobustCall}
+use Rattle.iox_robust_steps.specs.declared.call.RobustCall.TheVariants as set_stage
+use Rattle.iox_container.specs.declared.release.ReleaseMode.{ReleaseMode}
 use Rattle.iox_robust_steps.specs.declared.container.call.ContainerCall.{ContainerCall}
 use Rattle.iox_robust_steps.specs.declared.container.call.ContainerCall.TheVariants as stage
 use Rattle.iox_robust_steps.specs.declared.state.Place.{Place}
@@ -34,10 +38,35 @@ abbrev pub IsFilled : ℕ → ℕ → List ℕ → ℕ → ℕ → List ℕ → 
 IsFilled n width cells index next value =
     (j : ℕ) → j < next → slice_index cells (value_cell n width index j) ≡ slice_index value j
 
+-- so it is, unless the recovery of the owner began
+abbrev pub UnlessLost : RobustSetState → ℕ → Type 0 → Type 0
+UnlessLost indices owner fact = is_lost owner indices.lost ≡ false → fact
+
+-- the party holds the index for this owner
+abbrev pub HoldsFor : RobustSetState → ℕ → ℕ → ℕ → Type 0
+HoldsFor indices party owner index =
+    (place_of indices.places index ≡ place.Held party) × (slice_index indices.words.cells index ≡ owner)
+
 -- where the set has an index for an addition, the party holds it, and no member is in there
-abbrev pub HasIndex : ℕ → ℕ → List ℕ → List Place → RobustCall → Type 0
-HasIndex n party cells places s = (i : ℕ) → answer_at s ≡ Some (Acquired (Ok i))
-    → (i < n) × (place_of places i ≡ place.Held party) × (is_shown (slice_index cells i) ≡ false)
+abbrev pub HasIndex : ℕ → ℕ → ℕ → List ℕ → RobustSetState → RobustCall → Type 0
+HasIndex n party owner cells indices s = (i : ℕ) → answer_at s ≡ Some (Acquired (Ok i))
+    → (i < n) × UnlessLost indices owner (HoldsFor indices party owner i × (is_shown (slice_index cells i) ≡ false))
+
+-- the number names an owner, whose recovery began
+abbrev pub IsLostOwner : RobustSetState → ℕ → Type 0
+IsLostOwner indices owner = IsOwner owner × (is_lost owner indices.lost ≡ true)
+
+-- the cell of an index names this owner, or shows that it is about to take the index
+abbrev pub IsOf : ℕ → ℕ → Type 0
+IsOf owner cell = (cell ≡ owner) ⊎ (cell ≡ reserved owner)
+
+-- the set's recovery is about to free this index, where it saw the owner
+abbrev pub IsToFree : ℕ → ℕ → ReleaseMode → ℕ → RobustCall → Type 0
+IsToFree owner number mode i s = (x : ℕ) × (s ≡ set_stage.Clear owner number mode i x) × IsOf owner x
+
+-- where a place's index is this owner's still, its count is the one that was seen, or shows no member
+abbrev pub IsSeenOrOut : ℕ → ℕ → ℕ → ℕ → Type 0
+IsSeenOrOut owner cell count seen = IsOf owner cell → (count ≡ seen) ⊎ (is_shown count ≡ false)
 
 -- what a copy has of each place before this one was so at a moment
 abbrev pub SawBelow : ℕ → ℕ → RingWords → ℕ → List Event → List Event → ℕ → Type 0
@@ -49,41 +78,61 @@ HasGathered n width cells place seen found =
     slice_index cells place ≡ seen → (j : ℕ) → j < length found → slice_index found j ≡ slice_index cells (value_cell n width place j)
 
 -- what a call of the party knows where it stands: `own` are its steps since `first`, and s is the stage of its call on the set
-abbrev pub KnowsMember : ℕ → ℕ → List (Vec ℕ) → RingWords → List ℕ → List Place → ℕ → RobustCall → ℕ → List Event → List Event
+abbrev pub KnowsMember : ℕ → ℕ → List (Vec ℕ) → RingWords → List ℕ → RobustSetState → ℕ → RobustCall → ℕ → List Event → List Event
     → ContainerCall → Type 0
-KnowsMember n width values start cells places party s first events own stage.Idle = Unit {0}
-KnowsMember n width values start cells places party s first events own (stage.Enter number owner) =
+KnowsMember n width values start cells indices party s first events own stage.Idle = Unit {0}
+KnowsMember n width values start cells indices party s first events own (stage.Enter number owner) =
     (times_counted own ≡ 0) × (length (table_value values number) ≡ width) × (call_in_hand s ≡ Some (set_call.Acquire owner))
-    × HasIndex n party cells places s
-KnowsMember n width values start cells places party s first events own (stage.Fill number owner index next) =
-    (times_counted own ≡ 0) × (index < n) × (place_of places index ≡ place.Held party) × (is_shown (slice_index cells index) ≡ false)
-    × (next ≤ width) × IsFilled n width cells index next (table_value values number)
-KnowsMember n width values start cells places party s first events own (stage.Show number owner index seen) =
-    (times_counted own ≡ 0) × (index < n) × (place_of places index ≡ place.Held party) × (is_shown (slice_index cells index) ≡ false)
-    × (seen ≡ slice_index cells index) × IsFilled n width cells index width (table_value values number)
-KnowsMember n width values start cells places party s first events own (stage.Sink owner index mode) =
-    (times_counted own ≡ 0) × (index < n) × (place_of places index ≡ place.Held party) × (is_shown (slice_index cells index) ≡ true)
-KnowsMember n width values start cells places party s first events own (stage.Hide owner index mode seen) =
-    (times_counted own ≡ 0) × (index < n) × (place_of places index ≡ place.Held party) × (is_shown (slice_index cells index) ≡ true)
-    × (seen ≡ slice_index cells index)
-KnowsMember n width values start cells places party s first events own (stage.Leave owner index mode) =
+    × HasIndex n party owner cells indices s
+KnowsMember n width values start cells indices party s first events own (stage.Fill number owner index next) =
+    (times_counted own ≡ 0) × (index < n) × (next ≤ width)
+    × UnlessLost indices owner (HoldsFor indices party owner index × (is_shown (slice_index cells index) ≡ false)
+    × IsFilled n width cells index next (table_value values number))
+KnowsMember n width values start cells indices party s first events own (stage.Show number owner index seen) =
+    (times_counted own ≡ 0) × (index < n)
+    × UnlessLost indices owner (HoldsFor indices party owner index × (is_shown (slice_index cells index) ≡ false)
+    × (seen ≡ slice_index cells index) × IsFilled n width cells index width (table_value values number))
+KnowsMember n width values start cells indices party s first events own (stage.Sink owner index mode) =
+    (times_counted own ≡ 0) × (index < n)
+    × UnlessLost indices owner (HoldsFor indices party owner index × (is_shown (slice_index cells index) ≡ true))
+KnowsMember n width values start cells indices party s first events own (stage.Hide owner index mode seen) =
+    (times_counted own ≡ 0) × (index < n)
+    × UnlessLost indices owner (HoldsFor indices party owner index × (is_shown (slice_index cells index) ≡ true)
+    × (seen ≡ slice_index cells index))
+KnowsMember n width values start cells indices party s first events own (stage.Leave owner index mode) =
     (times_counted own ≡ 0) × (index < n) × GoesOut start party first events index
-    × (place_of places index ≡ place.Held party → is_shown (slice_index cells index) ≡ false)
-KnowsMember n width values start cells places party s first events own (stage.Drop owner index mode) =
+    × (place_of indices.places index ≡ place.Held party → is_shown (slice_index cells index) ≡ false)
+KnowsMember n width values start cells indices party s first events own (stage.Drop owner index mode) =
     (times_counted own ≡ 0) × (index < n) × GoesOut start party first events index
-    × (place_of places index ≡ place.Held party → is_shown (slice_index cells index) ≡ false)
+    × (place_of indices.places index ≡ place.Held party → is_shown (slice_index cells index) ≡ false)
     × (call_in_hand s ≡ Some (set_call.Release owner index mode))
-KnowsMember n width values start cells places party s first events own (stage.Count c answer) =
+KnowsMember n width values start cells indices party s first events own (stage.Count c answer) =
     (is_change c answer ≡ true) × MemberTells n width values start 0 party first events own c answer
-KnowsMember n width values start cells places party s first events own (stage.Raise c answer seen) =
+KnowsMember n width values start cells indices party s first events own (stage.Raise c answer seen) =
     (is_change c answer ≡ true) × MemberTells n width values start 0 party first events own c answer
-KnowsMember n width values start cells places party s first events own stage.Look = Unit {0}
-KnowsMember n width values start cells places party s first events own (stage.Visit i) =
+KnowsMember n width values start cells indices party s first events own stage.Look = Unit {0}
+KnowsMember n width values start cells indices party s first events own (stage.Visit i) =
     (i < n) × SawBelow n width start first events own i
-KnowsMember n width values start cells places party s first events own (stage.Gather i seen next) =
+KnowsMember n width values start cells indices party s first events own (stage.Gather i seen next) =
     (i < n) × SawBelow n width start first events own i × (is_shown seen ≡ true) × (seen ≤ slice_index cells i) × (next ≤ width)
     × (length (gathered_after n [] own) ≡ next) × HasGathered n width cells i seen (gathered_after n [] own)
-KnowsMember n width values start cells places party s first events own (stage.Done c answer) =
+KnowsMember n width values start cells indices party s first events own (stage.Search owner number mode) = times_counted own ≡ 0
+KnowsMember n width values start cells indices party s first events own (stage.Watch owner number mode i) =
+    (times_counted own ≡ 0) × (i < n) × IsLostOwner indices owner × (s ≡ set_stage.Look owner number mode i)
+KnowsMember n width values start cells indices party s first events own (stage.Ask owner number mode i seen) =
+    (times_counted own ≡ 0) × (i < n) × IsLostOwner indices owner × (s ≡ set_stage.Look owner number mode i)
+    × (seen ≤ slice_index cells i) × IsSeenOrOut owner (slice_index indices.words.cells i) (slice_index cells i) seen
+KnowsMember n width values start cells indices party s first events own (stage.Expel owner number mode i seen) =
+    (times_counted own ≡ 0) × (i < n) × IsLostOwner indices owner × IsToFree owner number mode i s
+    × (seen ≤ slice_index cells i) × IsSeenOrOut owner (slice_index indices.words.cells i) (slice_index cells i) seen
+    × (is_shown seen ≡ true) × (slice_index cells i ≡ seen → slice_index indices.words.cells i ≡ owner)
+KnowsMember n width values start cells indices party s first events own (stage.Clear owner number mode i) =
+    (times_counted own ≡ 0) × (i < n) × IsLostOwner indices owner × IsToFree owner number mode i s
+    × (IsOf owner (slice_index indices.words.cells i) → is_shown (slice_index cells i) ≡ false)
+KnowsMember n width values start cells indices party s first events own (stage.Close owner number mode) =
+    (times_counted own ≡ 0) × IsLostOwner indices owner × (call_in_hand s ≡ Some (set_call.Recover owner number mode))
+    × (is_settling s ≡ true)
+KnowsMember n width values start cells indices party s first events own (stage.Done c answer) =
     MemberTells n width values start 1 party first events own c answer
 
 -- nobody holds the index
@@ -97,19 +146,27 @@ FitsWhose (Some party) count x = (is_shown count ≡ true) × (x ≡ place.Held 
 
 -- where the premise holds, in a container of n places: the counts count the steps, no member is in where nobody holds the index, each
 -- call in hand knows its steps, each that ended is told, and the copies saw the count of changes that was; the set's calls are those of
--- the container's; a member stays till it is taken out; and each call lets pass what it answers
+-- the container's; and a member stays till it is taken out
 pub record MembersAreSound (n : ℕ) (m : ContainerParts) : Type 0 where
   pub write : m.words.write ≡ times_counted m.events
   pub low : (i : ℕ) → i < n → slice_index m.words.cells i ≤ length m.events
   pub out : (i : ℕ) → i < n → IsUnheld m.indices.places i → is_shown (slice_index m.words.cells i) ≡ false
   pub knows : (q : ℕ) → KnowsMember n (width_of m) m.values (empty_words n (width_of m)) m.words.cells
-      m.indices.places q (stage_at m.indices.seats q) (member_seat m.seats q).first m.events
+      m.indices q (stage_at m.indices.seats q) (member_seat m.seats q).first m.events
       (own q (drop (member_seat m.seats q).first m.events)) (member_stage m.seats q)
   pub told : AreMembersTold n (width_of m) m.values (empty_words n (width_of m)) m.events m.finished
   pub saw : (q : ℕ) → (member_seat m.seats q).saw ≡ times_counted (take (member_seat m.seats q).since m.events)
   pub asks : (q : ℕ) → AsksSet m q
-  pub stays : (i : ℕ) → i < n → StaysTillTakenOut n (width_of m) i None m.events
-  pub whose : (i : ℕ) → i < n → FitsWhose (whose_after i None m.events) (slice_index m.words.cells i) (place_of m.indices.places i)
+  pub stays : (i : ℕ) → i < n → StaysTillOut n (width_of m) i None m.events
+  pub inside : (i : ℕ) → i < n → FitsWhose (inside_after i None m.events) (slice_index m.words.cells i) (place_of m.indices.places i)
+
+-- no recovery began
+abbrev pub HasNoneLost : ContainerParts → Type 0
+HasNoneLost m = m.indices.lost ≡ []
+
+-- where no recovery began: no count is exchanged, and each call lets pass what it answers
+pub record MembersPass (n : ℕ) (m : ContainerParts) : Type 0 where
+  pub calm : IsCalm m.events
   pub passes : EachLetsPass n m.events m.finished
   pub passing : (q : ℕ) → LetsPassSoFar n (member_stage m.seats q) (own q (drop (member_seat m.seats q).first m.events))
 
@@ -117,7 +174,6 @@ pub record MembersAreSound (n : ℕ) (m : ContainerParts) : Type 0 where
 pub record MembersAreKept (m : ContainerParts) : Type 0 where
   pub indices : IsKept m.indices
   pub few : length m.indices.events ≤ length m.events
-  pub lost : m.indices.lost ≡ []
   pub small : length m.words.cells < 2 ^ 62
   pub size : length m.words.cells ≡ m.indices.capacity + (m.indices.capacity * width_of m + 1)
   pub began : (q : ℕ) → (member_seat m.seats q).first ≤ length m.events
@@ -125,20 +181,13 @@ pub record MembersAreKept (m : ContainerParts) : Type 0 where
   pub recorded : MembersAreRecorded m
   pub counted : MembersAreOfCalls m
   pub sound : HasFewMoves m → MembersAreSound m.indices.capacity m
+  pub pass : HasFewMoves m → HasNoneLost m → MembersPass m.indices.capacity m
 
--- what every list of steps keeps: of the set of indices all that its own machine keeps; what its answer says of each call that ended; a
--- party's calls on the set are those of its additions and removals, whose answers they are; a member stays, with its value, till the
--- party that put it in takes it out, by its removal, since each call lets pass by its own steps just what it answers; an addition and a
--- removal have a step of their own up to which the member isn't in, or is, at each moment of the call, and is, or isn't, from then on; a
--- copy shows each member that is in at each moment of it, with the value that it has then;
--- the count of a place says whose member is in, and that party holds the index, so none is in where the set is locked; and a change that
--- began and ended since a party's last copy moved the count of changes on from what that copy saw, so that the next copy doesn't answer
--- that there was none
-pub record MembersAreOrderly (m : ContainerParts) : Type 0 where
-  pub indices : IsOrderly m.indices
-  pub told : AreMembersTold m.indices.capacity (width_of m) m.values (empty_words m.indices.capacity (width_of m)) m.events m.finished
-  pub asks : (q : ℕ) → AsksSet m q
-  pub reasons : HaveReasons m.indices m.finished
+-- what every list of steps keeps where no recovery began: a member stays, with its value, till the party that put it in takes it out, by
+-- its removal, since each call lets pass by its own steps just what it answers; the count of a place says whose member is in, and that
+-- party holds the index; an addition and a removal have a step of their own up to which the member isn't in, or is, at each moment of the
+-- call, and is, or isn't, from then on; and a copy shows each member that is in at each moment of it, with the value that it has then
+pub record MembersStay (m : ContainerParts) : Type 0 where
   pub stays : (i : ℕ) → i < m.indices.capacity → StaysTillTakenOut m.indices.capacity (width_of m) i None m.events
   pub whose : (i : ℕ) → i < m.indices.capacity
       → ShowsWhose i (whose_after i None m.events) (slice_index m.words.cells i) m.indices.events
@@ -147,6 +196,27 @@ pub record MembersAreOrderly (m : ContainerParts) : Type 0 where
       → LetsPassSoFar m.indices.capacity (member_stage m.seats q) (own q (drop (member_seat m.seats q).first m.events))
   pub moments : EachHasItsMoment m.indices.capacity (width_of m) m.values (empty_words m.indices.capacity (width_of m)) m.events m.finished
   pub shows : EachShowsWhoStays m.indices.capacity (width_of m) (empty_words m.indices.capacity (width_of m)) m.events m.finished
+
+-- what every list of steps keeps, whoever is recovered: of the set of indices all that its own machine keeps; what its answer says of each
+-- call that ended; a party's calls on the set are those of its additions, removals and recoveries, whose answers they are; a member is in
+-- only where a party holds the index, so none is in where the set is locked; a member stays, with its value, till the party that put it in
+-- takes it out, or a recovery does, and the count of a place says whose member is in; a copy shows each member that is in at each moment
+-- of it, with the value that it has then; a recovery in hand stands beside that of the set, so that it goes on as the set found; after a
+-- whole recovery none of the members is in that it was to take out of its owner, for good; and a change that began and ended since a
+-- party's last copy moved the count of changes on from what that copy saw, so that the next copy doesn't answer that there was none. Where
+-- no recovery began, more stands
+pub record MembersAreOrderly (m : ContainerParts) : Type 0 where
+  pub indices : IsOrderly m.indices
+  pub told : AreMembersTold m.indices.capacity (width_of m) m.values (empty_words m.indices.capacity (width_of m)) m.events m.finished
+  pub asks : (q : ℕ) → AsksSet m q
+  pub reasons : HaveReasons m.indices m.finished
   pub held : (i : ℕ) → i < m.indices.capacity → is_shown (slice_index m.words.cells i) ≡ true → (p : ℕ) × Holds p i m.indices.events
   pub none_in : is_locked m.indices ≡ true → (i : ℕ) → i < m.indices.capacity → is_shown (slice_index m.words.cells i) ≡ false
+  pub stays : (i : ℕ) → i < m.indices.capacity → StaysTillOut m.indices.capacity (width_of m) i None m.events
+  pub inside : (i : ℕ) → i < m.indices.capacity
+      → ShowsWhose i (inside_after i None m.events) (slice_index m.words.cells i) m.indices.events
+  pub shows : EachShowsInside m.indices.capacity (width_of m) (empty_words m.indices.capacity (width_of m)) m.events m.finished
+  pub beside : (q : ℕ) → StandsBeside (member_stage m.seats q) (stage_at m.indices.seats q)
+  pub left : LeaveNone m.indices m.words.cells m.finished
   pub news : (q : ℕ) → AllAreNews (member_seat m.seats q).saw (member_seat m.seats q).since m.words.write m.finished
+  pub unrecovered : HasNoneLost m → MembersStay m

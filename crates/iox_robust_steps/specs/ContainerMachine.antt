@@ -14,7 +14,8 @@ use Rattle.iox_queues.specs.Turns.{CallsOf, RunsBy, StepsBy, TellsCalls}
 use Rattle.iox_queues.specs.Values.{table_value}
 use Rattle.iox_queues.specs.declared.bits.machine.Event.{Event}
 use Rattle.iox_robust_steps.specs.ContainerAsked.{AreMembersAsked, IsMemberAskedSoFar}
-use Rattle.iox_robust_steps.specs.ContainerSteps.{answer_at, is_shown, member_begun, member_in_hand, member_is_idle, member_is_over}
+use Rattle.iox_robust_steps.specs.ContainerSteps.{answer_at, is_clearing, is_shown, member_begun, member_in_hand, member_is_idle}
+use Rattle.iox_robust_steps.specs.ContainerSteps.{member_is_over}
 use Rattle.iox_robust_steps.specs.ContainerSteps.{member_next, member_take}
 use Rattle.iox_robust_steps.specs.Machine.{RobustSetState}
 use Rattle.iox_robust_steps.specs.Machine as robust
@@ -61,22 +62,25 @@ member_stage seats party = (member_seat seats party).stage
 abbrev pub width_of : ContainerParts → ℕ
 width_of m = length (table_value m.values 0)
 
--- a member that is added has a value of as many words as the first, and an owner; one that is removed is in, and the party holds its index
+-- a member that is added has a value of as many words as the first, and an owner; one that is removed is in, and the party holds its
+-- index; a recovery may begin at any time
 abbrev pub may_call : ContainerParts → ℕ → MemberCall → Bool
 may_call m party (call.Add number owner) =
     robust.fits m.indices (set_move.Begin party (set_call.Acquire owner)) && (length (table_value m.values number) == width_of m)
 may_call m party (call.Remove owner index mode) =
     robust.fits m.indices (set_move.Begin party (set_call.Release owner index mode)) && is_shown (word_of m.words (Cell index))
 may_call m party call.Update = true
+may_call m party (call.Recover owner number mode) = robust.fits m.indices (set_move.Begin party (set_call.Recover owner number mode))
 
--- the step that a call at this stage asks of the set fits there, if it asks one
+-- the step that a call at this stage asks of the set fits there, if it asks one; and no member is put in or taken out for an owner whose
+-- recovery began
 abbrev pub may_ask : RobustSetState → ℕ → ContainerCall → Bool
 may_ask indices party stage.Idle = false
 may_ask indices party (stage.Enter number owner) = robust.fits indices (set_move.GoOn party)
-may_ask indices party (stage.Fill number owner index next) = true
-may_ask indices party (stage.Show number owner index seen) = true
-may_ask indices party (stage.Sink owner index mode) = true
-may_ask indices party (stage.Hide owner index mode seen) = true
+may_ask indices party (stage.Fill number owner index next) = not (robust.is_lost owner indices.lost)
+may_ask indices party (stage.Show number owner index seen) = not (robust.is_lost owner indices.lost)
+may_ask indices party (stage.Sink owner index mode) = not (robust.is_lost owner indices.lost)
+may_ask indices party (stage.Hide owner index mode seen) = not (robust.is_lost owner indices.lost)
 may_ask indices party (stage.Leave owner index mode) = robust.fits indices (set_move.Begin party (set_call.Release owner index mode))
 may_ask indices party (stage.Drop owner index mode) = robust.fits indices (set_move.GoOn party)
 may_ask indices party (stage.Count c answer) = true
@@ -84,6 +88,12 @@ may_ask indices party (stage.Raise c answer seen) = true
 may_ask indices party stage.Look = true
 may_ask indices party (stage.Visit place) = true
 may_ask indices party (stage.Gather place seen next) = true
+may_ask indices party (stage.Search owner number mode) = robust.fits indices (set_move.Begin party (set_call.Recover owner number mode))
+may_ask indices party (stage.Watch owner number mode i) = true
+may_ask indices party (stage.Ask owner number mode i seen) = robust.fits indices (set_move.GoOn party)
+may_ask indices party (stage.Expel owner number mode i seen) = true
+may_ask indices party (stage.Clear owner number mode i) = robust.fits indices (set_move.GoOn party)
+may_ask indices party (stage.Close owner number mode) = robust.fits indices (set_move.GoOn party)
 may_ask indices party (stage.Done c answer) = true
 
 -- a begin fits a party that is there and between calls, a go on one inside a call
@@ -101,6 +111,7 @@ abbrev pub asked_by : RobustSetState → ℕ → MemberCall → RobustSetState
 asked_by indices party (call.Add number owner) = robust.begun indices party (set_call.Acquire owner)
 asked_by indices party (call.Remove owner index mode) = indices
 asked_by indices party call.Update = indices
+asked_by indices party (call.Recover owner number mode) = indices
 
 -- the set after a party at this stage went on
 abbrev pub asked_at : RobustSetState → ℕ → ContainerCall → RobustSetState
@@ -117,6 +128,12 @@ asked_at indices party (stage.Raise c answer seen) = indices
 asked_at indices party stage.Look = indices
 asked_at indices party (stage.Visit place) = indices
 asked_at indices party (stage.Gather place seen next) = indices
+asked_at indices party (stage.Search owner number mode) = robust.begun indices party (set_call.Recover owner number mode)
+asked_at indices party (stage.Watch owner number mode i) = indices
+asked_at indices party (stage.Ask owner number mode i seen) = robust.went indices party
+asked_at indices party (stage.Expel owner number mode i seen) = indices
+asked_at indices party (stage.Clear owner number mode i) = robust.went indices party
+asked_at indices party (stage.Close owner number mode) = robust.went indices party
 asked_at indices party (stage.Done c answer) = indices
 
 -- the machine after a begin
@@ -142,6 +159,12 @@ member_ended party first last (stage.Raise c answer seen) = []
 member_ended party first last stage.Look = []
 member_ended party first last (stage.Visit place) = []
 member_ended party first last (stage.Gather place seen next) = []
+member_ended party first last (stage.Search owner number mode) = []
+member_ended party first last (stage.Watch owner number mode i) = []
+member_ended party first last (stage.Ask owner number mode i seen) = []
+member_ended party first last (stage.Expel owner number mode i seen) = []
+member_ended party first last (stage.Clear owner number mode i) = []
+member_ended party first last (stage.Close owner number mode) = []
 member_ended party first last (stage.Done c answer) =
     record { party = party; call = c; answer = answer; first = first; last = last } ∷ []
 
@@ -160,6 +183,12 @@ is_look (stage.Raise c answer seen) = false
 is_look stage.Look = true
 is_look (stage.Visit place) = false
 is_look (stage.Gather place seen next) = false
+is_look (stage.Search owner number mode) = false
+is_look (stage.Watch owner number mode i) = false
+is_look (stage.Ask owner number mode i seen) = false
+is_look (stage.Expel owner number mode i seen) = false
+is_look (stage.Clear owner number mode i) = false
+is_look (stage.Close owner number mode) = false
 is_look (stage.Done c answer) = false
 
 -- a party's seat after its stage: one that copies anew knows the count of changes that it found, and the number of the step that found it
@@ -176,6 +205,7 @@ member_went m party = record m {
   words = after_access m.words (member_next m.indices.capacity (width_of m) m.values (member_stage m.seats party));
   seats = set m.seats party (seat_after (member_seat m.seats party)
       (member_take m.indices.capacity (width_of m) (member_seat m.seats party).saw (answer_at (robust.stage_at m.indices.seats party))
+      (is_clearing (robust.stage_at (asked_at m.indices party (member_stage m.seats party)).seats party))
       (member_stage m.seats party)
       (answer_of m.words (member_next m.indices.capacity (width_of m) m.values (member_stage m.seats party))))
       (answer_of m.words (member_next m.indices.capacity (width_of m) m.values (member_stage m.seats party)))
@@ -209,10 +239,10 @@ HasFewMoves m = length m.events < 2 ^ 64 - 1
 abbrev pub empty_words : ℕ → ℕ → RingWords
 empty_words capacity width = record { cells = replicate (capacity + (capacity * width + 1)) 0; write = 0; read = 0 }
 
--- an empty container of these values, with so many parties
-abbrev pub empty_parts : ℕ → ℕ → List (Vec ℕ) → ContainerParts
-empty_parts capacity parties values = record {
-  indices = robust.start capacity parties [];
+-- an empty container of these values, with so many parties, and with the decisions of recoveries
+abbrev pub empty_parts : ℕ → ℕ → List (Vec ℕ) → List (Vec Bool) → ContainerParts
+empty_parts capacity parties values decisions = record {
+  indices = robust.start capacity parties decisions;
   values = values;
   words = empty_words capacity (length (table_value values 0));
   seats = replicate parties resting;
@@ -272,6 +302,12 @@ is_copy (stage.Raise c a seen) = false
 is_copy stage.Look = false
 is_copy (stage.Visit i) = true
 is_copy (stage.Gather i seen next) = true
+is_copy (stage.Search owner number mode) = false
+is_copy (stage.Watch owner number mode i) = false
+is_copy (stage.Ask owner number mode i seen) = false
+is_copy (stage.Expel owner number mode i seen) = false
+is_copy (stage.Clear owner number mode i) = false
+is_copy (stage.Close owner number mode) = false
 is_copy (stage.Done c (Added got)) = false
 is_copy (stage.Done c (Removed state)) = false
 is_copy (stage.Done c (Updated copied)) = copied

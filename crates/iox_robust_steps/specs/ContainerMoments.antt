@@ -72,6 +72,7 @@ MomentOf n width values start party first events (call.Remove owner index mode) 
     RemovesAt start party first events index
 MomentOf n width values start party first events (call.Remove owner index mode) (Updated copied) = Unit {0}
 MomentOf n width values start party first events call.Update answer = Unit {0}
+MomentOf n width values start party first events (call.Recover owner number mode) answer = Unit {0}
 
 -- so of each call that ended, among the steps before its last one
 abbrev pub EachHasItsMoment : ℕ → ℕ → List (Vec ℕ) → RingWords → List Event → List MemberFinished → Type 0

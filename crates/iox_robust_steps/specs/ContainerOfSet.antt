@@ -23,8 +23,8 @@ pub record AnsweredCall : Type 0 where
   pub call : Call
   pub answer : Answer
 
--- the call on the set that gave a call on the container its answer: an addition acquires an index for its owner, and a removal releases
--- that of its member in its mode; a copy asks the set for nothing
+-- the call on the set that gave a call on the container its answer: an addition acquires an index for its owner, a removal releases that
+-- of its member in its mode, and a recovery recovers the indices of its owner; a copy asks the set for nothing
 abbrev pub asks_set : MemberCall → MemberAnswer → List AnsweredCall
 asks_set (call.Add number owner) (Added got) = record { call = set_call.Acquire owner; answer = Acquired got } ∷ []
 asks_set (call.Add number owner) (Removed state) = []
@@ -34,6 +34,10 @@ asks_set (call.Remove owner index mode) (Removed state) =
     record { call = set_call.Release owner index mode; answer = Settled state } ∷ []
 asks_set (call.Remove owner index mode) (Updated copied) = []
 asks_set call.Update answer = []
+asks_set (call.Recover owner number mode) (Added got) = []
+asks_set (call.Recover owner number mode) (Removed state) =
+    record { call = set_call.Recover owner number mode; answer = Settled state } ∷ []
+asks_set (call.Recover owner number mode) (Updated copied) = []
 
 -- the call on the set that gave a call in hand its answer, as soon as it did
 abbrev pub asked_so_far : ContainerCall → List AnsweredCall
@@ -50,6 +54,12 @@ asked_so_far (stage.Raise c answer seen) = asks_set c answer
 asked_so_far stage.Look = []
 asked_so_far (stage.Visit place) = []
 asked_so_far (stage.Gather place seen next) = []
+asked_so_far (stage.Search owner number mode) = []
+asked_so_far (stage.Watch owner number mode i) = []
+asked_so_far (stage.Ask owner number mode i seen) = []
+asked_so_far (stage.Expel owner number mode i seen) = []
+asked_so_far (stage.Clear owner number mode i) = []
+asked_so_far (stage.Close owner number mode) = []
 asked_so_far (stage.Done c answer) = asks_set c answer
 
 -- the calls on the set that gave those of a party's calls on the container their answers that ended, in their order
@@ -63,8 +73,8 @@ answered_to party [] = []
 answered_to party (f ∷ finished) =
     (if f.party == party then record { call = f.call; answer = f.answer } ∷ [] else []) ++ answered_to party finished
 
--- a party's calls on the set that ended are just those of its additions and removals, in their order and with their answers: of those
--- that ended, and of the one in hand, as soon as the set answered it
+-- a party's calls on the set that ended are just those of its additions, removals and recoveries, in their order and with their answers:
+-- of those that ended, and of the one in hand, as soon as the set answered it
 abbrev pub AsksSet : ContainerParts → ℕ → Type 0
 AsksSet m party = answered_to party m.indices.finished ≡ asked_for party m.finished ++ asked_so_far (member_stage m.seats party)
 
@@ -96,6 +106,10 @@ HasReason set party (call.Remove owner index mode) (Removed state) =
     SetAnswered set party (set_call.Release owner index mode) (Settled state)
 HasReason set party (call.Remove owner index mode) (Updated copied) = Unit {0}
 HasReason set party call.Update answer = Unit {0}
+HasReason set party (call.Recover owner number mode) (Added got) = Unit {0}
+HasReason set party (call.Recover owner number mode) (Removed state) =
+    SetAnswered set party (set_call.Recover owner number mode) (Settled state)
+HasReason set party (call.Recover owner number mode) (Updated copied) = Unit {0}
 
 -- so of each of these calls
 abbrev pub HaveReasons : RobustSetState → List MemberFinished → Type 0

@@ -96,6 +96,7 @@ passed_with (call.Remove owner index mode) (Added got) = []
 passed_with (call.Remove owner index mode) (Removed state) = record { place = index; comes_in = false } ∷ []
 passed_with (call.Remove owner index mode) (Updated copied) = []
 passed_with call.Update answer = []
+passed_with (call.Recover owner number mode) answer = []
 
 -- what a call in hand let pass so far
 abbrev pub passed_so_far : ContainerCall → List Passing
@@ -112,6 +113,12 @@ passed_so_far (stage.Raise c answer seen) = passed_with c answer
 passed_so_far stage.Look = []
 passed_so_far (stage.Visit place) = []
 passed_so_far (stage.Gather place seen next) = []
+passed_so_far (stage.Search owner number mode) = []
+passed_so_far (stage.Watch owner number mode i) = []
+passed_so_far (stage.Ask owner number mode i seen) = []
+passed_so_far (stage.Expel owner number mode i seen) = []
+passed_so_far (stage.Clear owner number mode i) = []
+passed_so_far (stage.Close owner number mode) = []
 passed_so_far (stage.Done c answer) = passed_with c answer
 
 -- the own steps of each call that ended let pass just what its answer says

@@ -1,5 +1,5 @@
 -- The steps of calls on a container of members, by the stage where each stands.
-use Rattle.std.specs.Prelude.{ℕ, ◌+◌, ◌-◌, ◌*◌, ◌%◌, ◌^◌, min, Bool, true, false, if◌then◌else◌, ◌==◌, nat_lt, Ok, Err, Option, Some}
+use Rattle.std.specs.Prelude.{ℕ, ◌+◌, ◌-◌, ◌*◌, ◌%◌, ◌^◌, min, Bool, true, false, not, if◌then◌else◌, ◌==◌, nat_lt, Ok, Err, Option, Some}
 use Rattle.std.specs.Prelude.{None, List}
 use Rattle.std.specs.Prelude.{slice_index}
 use Rattle.std.specs.Global.{Vec}
@@ -51,6 +51,12 @@ member_next n width values stage.Look = Load Write
 member_next n width values (stage.Visit place) = Load (Cell place)
 member_next n width values (stage.Gather place seen next) =
     if nat_lt next width then Load (Cell (value_cell n width place next)) else Load (Cell place)
+member_next n width values (stage.Search owner number mode) = Local
+member_next n width values (stage.Watch owner number mode place) = Load (Cell place)
+member_next n width values (stage.Ask owner number mode place seen) = Local
+member_next n width values (stage.Expel owner number mode place seen) = Exchange (Cell place) seen (successor seen)
+member_next n width values (stage.Clear owner number mode place) = Local
+member_next n width values (stage.Close owner number mode) = Local
 member_next n width values (stage.Done c answer) = Local
 
 -- a copy goes on to the next place, if one is left
@@ -74,6 +80,40 @@ dropped owner index mode None = stage.Drop owner index mode
 dropped owner index mode (Some (set_answer.Acquired got)) = stage.Drop owner index mode
 dropped owner index mode (Some (set_answer.Settled state)) = stage.Count (call.Remove owner index mode) (Removed state)
 
+-- a recovery goes on to the next place, if one is left
+abbrev pub watches_from : ℕ → ℕ → ℕ → ReleaseMode → ℕ → ContainerCall
+watches_from n owner number mode place =
+    if nat_lt place n then stage.Watch owner number mode place else stage.Close owner number mode
+
+-- the set looked whose the index of a place is: where it is to free it, a member that is in goes out before; else the recovery goes on
+abbrev pub asked_for_place : ℕ → ℕ → ℕ → ReleaseMode → ℕ → ℕ → Bool → ContainerCall
+asked_for_place n owner number mode place seen finds =
+    if not finds
+    then watches_from n owner number mode (successor place)
+    else if is_shown seen then stage.Expel owner number mode place seen else stage.Clear owner number mode place
+
+-- a recovery has the answer of the set, if that has one
+abbrev pub closed : ℕ → ℕ → ReleaseMode → Option Answer → ContainerCall
+closed owner number mode None = stage.Close owner number mode
+closed owner number mode (Some (set_answer.Acquired got)) = stage.Close owner number mode
+closed owner number mode (Some (set_answer.Settled state)) = stage.Count (call.Recover owner number mode) (Removed state)
+
+-- a call on the set is about to free an index
+abbrev pub is_clearing : RobustCall → Bool
+is_clearing set_stage.Idle = false
+is_clearing (set_stage.Acquire owner) = false
+is_clearing (set_stage.Claim owner place count) = false
+is_clearing (set_stage.Count owner place count) = false
+is_clearing (set_stage.Confirm owner place) = false
+is_clearing (set_stage.Undo owner place) = false
+is_clearing (set_stage.Free owner index mode) = false
+is_clearing (set_stage.Look owner number mode place) = false
+is_clearing (set_stage.Clear owner number mode place seen) = true
+is_clearing (set_stage.Settle c) = false
+is_clearing (set_stage.Scan c place count) = false
+is_clearing (set_stage.Lock c count) = false
+is_clearing (set_stage.Done c answer) = false
+
 -- the answer that a call on the set has, if it has one
 abbrev pub answer_at : RobustCall → Option Answer
 answer_at set_stage.Idle = None
@@ -90,33 +130,41 @@ answer_at (set_stage.Scan c place count) = None
 answer_at (set_stage.Lock c count) = None
 answer_at (set_stage.Done c answer) = Some answer
 
--- the stage after the answer of that access, or of the set; a party whose last copy saw `saw` changes
-abbrev pub member_take : ℕ → ℕ → ℕ → Option Answer → ContainerCall → ℕ → ContainerCall
-member_take n width saw got stage.Idle answer = stage.Idle
-member_take n width saw got (stage.Enter number owner) answer = entered number owner got
-member_take n width saw got (stage.Fill number owner index next) answer =
+-- the stage after the answer of that access, or of the set, which is about to free an index or isn't; a party whose last copy saw `saw`
+-- changes
+abbrev pub member_take : ℕ → ℕ → ℕ → Option Answer → Bool → ContainerCall → ℕ → ContainerCall
+member_take n width saw got finds stage.Idle answer = stage.Idle
+member_take n width saw got finds (stage.Enter number owner) answer = entered number owner got
+member_take n width saw got finds (stage.Fill number owner index next) answer =
     if nat_lt next width then stage.Fill number owner index (next + 1) else stage.Show number owner index answer
-member_take n width saw got (stage.Show number owner index seen) answer = stage.Count (call.Add number owner) (Added (Ok index))
-member_take n width saw got (stage.Sink owner index mode) answer = stage.Hide owner index mode answer
-member_take n width saw got (stage.Hide owner index mode seen) answer = stage.Leave owner index mode
-member_take n width saw got (stage.Leave owner index mode) answer = stage.Drop owner index mode
-member_take n width saw got (stage.Drop owner index mode) answer = dropped owner index mode got
-member_take n width saw got (stage.Count c a) answer = stage.Raise c a answer
-member_take n width saw got (stage.Raise c a seen) answer = if answer == seen then stage.Done c a else stage.Raise c a answer
-member_take n width saw got stage.Look answer =
+member_take n width saw got finds (stage.Show number owner index seen) answer = stage.Count (call.Add number owner) (Added (Ok index))
+member_take n width saw got finds (stage.Sink owner index mode) answer = stage.Hide owner index mode answer
+member_take n width saw got finds (stage.Hide owner index mode seen) answer = stage.Leave owner index mode
+member_take n width saw got finds (stage.Leave owner index mode) answer = stage.Drop owner index mode
+member_take n width saw got finds (stage.Drop owner index mode) answer = dropped owner index mode got
+member_take n width saw got finds (stage.Count c a) answer = stage.Raise c a answer
+member_take n width saw got finds (stage.Raise c a seen) answer = if answer == seen then stage.Done c a else stage.Raise c a answer
+member_take n width saw got finds stage.Look answer =
     if answer == saw then stage.Done call.Update (Updated false) else visits_from n 0
-member_take n width saw got (stage.Visit place) answer = visited n place answer
-member_take n width saw got (stage.Gather place seen next) answer =
+member_take n width saw got finds (stage.Visit place) answer = visited n place answer
+member_take n width saw got finds (stage.Gather place seen next) answer =
     if nat_lt next width
     then stage.Gather place seen (next + 1)
     else if answer == seen then visits_from n (successor place) else visited n place answer
-member_take n width saw got (stage.Done c a) answer = stage.Idle
+member_take n width saw got finds (stage.Search owner number mode) answer = watches_from n owner number mode 0
+member_take n width saw got finds (stage.Watch owner number mode place) answer = stage.Ask owner number mode place answer
+member_take n width saw got finds (stage.Ask owner number mode place seen) answer = asked_for_place n owner number mode place seen finds
+member_take n width saw got finds (stage.Expel owner number mode place seen) answer = stage.Clear owner number mode place
+member_take n width saw got finds (stage.Clear owner number mode place) answer = watches_from n owner number mode (successor place)
+member_take n width saw got finds (stage.Close owner number mode) answer = closed owner number mode got
+member_take n width saw got finds (stage.Done c a) answer = stage.Idle
 
 -- the first stage of a call
 abbrev pub member_begun : MemberCall → ContainerCall
 member_begun (call.Add number owner) = stage.Enter number owner
 member_begun (call.Remove owner index mode) = stage.Sink owner index mode
 member_begun call.Update = stage.Look
+member_begun (call.Recover owner number mode) = stage.Search owner number mode
 
 -- no call is under way
 abbrev pub member_is_idle : ContainerCall → Bool
@@ -133,6 +181,12 @@ member_is_idle (stage.Raise c answer seen) = false
 member_is_idle stage.Look = false
 member_is_idle (stage.Visit place) = false
 member_is_idle (stage.Gather place seen next) = false
+member_is_idle (stage.Search owner number mode) = false
+member_is_idle (stage.Watch owner number mode place) = false
+member_is_idle (stage.Ask owner number mode place seen) = false
+member_is_idle (stage.Expel owner number mode place seen) = false
+member_is_idle (stage.Clear owner number mode place) = false
+member_is_idle (stage.Close owner number mode) = false
 member_is_idle (stage.Done c answer) = false
 
 -- the next step is the last of its call
@@ -150,6 +204,12 @@ member_is_over (stage.Raise c answer seen) = false
 member_is_over stage.Look = false
 member_is_over (stage.Visit place) = false
 member_is_over (stage.Gather place seen next) = false
+member_is_over (stage.Search owner number mode) = false
+member_is_over (stage.Watch owner number mode place) = false
+member_is_over (stage.Ask owner number mode place seen) = false
+member_is_over (stage.Expel owner number mode place seen) = false
+member_is_over (stage.Clear owner number mode place) = false
+member_is_over (stage.Close owner number mode) = false
 member_is_over (stage.Done c answer) = true
 
 -- the call that a party is in
@@ -167,4 +227,10 @@ member_in_hand (stage.Raise c answer seen) = Some c
 member_in_hand stage.Look = Some call.Update
 member_in_hand (stage.Visit place) = Some call.Update
 member_in_hand (stage.Gather place seen next) = Some call.Update
+member_in_hand (stage.Search owner number mode) = Some (call.Recover owner number mode)
+member_in_hand (stage.Watch owner number mode place) = Some (call.Recover owner number mode)
+member_in_hand (stage.Ask owner number mode place seen) = Some (call.Recover owner number mode)
+member_in_hand (stage.Expel owner number mode place seen) = Some (call.Recover owner number mode)
+member_in_hand (stage.Clear owner number mode place) = Some (call.Recover owner number mode)
+member_in_hand (stage.Close owner number mode) = Some (call.Recover owner number mode)
 member_in_hand (stage.Done c answer) = Some c

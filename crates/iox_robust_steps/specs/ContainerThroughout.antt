@@ -42,6 +42,7 @@ IfCopied call.Update (Added got) shows = Unit {0}
 IfCopied call.Update (Removed state) shows = Unit {0}
 IfCopied call.Update (Updated true) shows = shows
 IfCopied call.Update (Updated false) shows = Unit {0}
+IfCopied (call.Recover owner number mode) answer shows = Unit {0}
 
 -- so of each call that ended, among the steps before its last one
 abbrev pub EachShowsWhoStays : ℕ → ℕ → RingWords → List Event → List MemberFinished → Type 0

@@ -122,8 +122,8 @@ pub record GoesOut (start : RingWords) (party first : ℕ) (events : List Event)
   pub out : is_shown (slice_index (after_access (words_after start earlier) event.access).cells place) ≡ false
 
 -- what the answer of a party's call says, which began with the step `first` and made the steps `own`: an addition put its value in, and a
--- removal took its member out, by a step of the party, and so many changes were counted; one that was refused counted none; a copy is
--- true, where one was made
+-- removal took its member out, by a step of the party, and so many changes were counted, and of a recovery only that it counted so
+-- many; one that was refused counted none; a copy is true, where one was made
 abbrev pub MemberTells : ℕ → ℕ → List (Vec ℕ) → RingWords → ℕ → ℕ → ℕ → List Event → List Event → MemberCall → MemberAnswer → Type 0
 MemberTells n width values start counted party first events own (call.Add number owner) (Added (Ok index)) =
     (index < n) × ComesIn n width start party first events index (table_value values number) × (times_counted own ≡ counted)
@@ -138,6 +138,10 @@ MemberTells n width values start counted party first events own call.Update (Add
 MemberTells n width values start counted party first events own call.Update (Removed state) = ⊥
 MemberTells n width values start counted party first events own call.Update (Updated true) = CopyIsTrue n width start first events own
 MemberTells n width values start counted party first events own call.Update (Updated false) = Unit {0}
+MemberTells n width values start counted party first events own (call.Recover owner number mode) (Added got) = ⊥
+MemberTells n width values start counted party first events own (call.Recover owner number mode) (Removed state) =
+    times_counted own ≡ counted
+MemberTells n width values start counted party first events own (call.Recover owner number mode) (Updated copied) = ⊥
 
 -- so of each call that ended, which lies among the steps made
 abbrev pub AreMembersTold : ℕ → ℕ → List (Vec ℕ) → RingWords → List Event → List MemberFinished → Type 0
@@ -148,10 +152,11 @@ AreMembersTold n width values start events (f ∷ finished) =
     × LiesWithin events f.first f.last)
     × AreMembersTold n width values start events finished
 
--- a call that changed the members
+-- a call that changed the members, or was a recovery
 abbrev pub is_change : MemberCall → MemberAnswer → Bool
 is_change (call.Add number owner) (Added (Ok index)) = true
 is_change (call.Remove owner index mode) (Removed state) = true
+is_change (call.Recover owner number mode) (Removed state) = true
 is_change other answer = false
 
 -- each of these calls that changed the members, and began since a copy saw this count of changes, moved the count on from there

@@ -15,5 +15,7 @@ pub mod ContainerOfSet
 pub mod ContainerStays
 pub mod ContainerMoments
 pub mod ContainerThroughout
+pub mod ContainerRecovering
+pub mod ContainerInside
 pub mod ContainerKept
 pub mod ContainerView

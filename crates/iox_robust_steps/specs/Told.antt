@@ -14,7 +14,7 @@ use Rattle.iox_queues.specs.Recorded.{IsAskedFrom, LiesWithin}
 use Rattle.iox_queues.specs.Told.{own}
 use Rattle.iox_queues.specs.declared.bits.machine.Event.{Event}
 use Rattle.iox_robust_steps.specs.Steps.{call_begun, call_next, call_take, decided, lock_mark, reserved}
-use Rattle.iox_robust_steps.specs.Changes.{saw_filled, saw_other, times_given, times_taken, took_by}
+use Rattle.iox_robust_steps.specs.Changes.{named_after, saw_filled, saw_other, times_given, times_taken, took_by}
 use Rattle.iox_robust_steps.specs.declared.call.Answer.{Answer}
 use Rattle.iox_robust_steps.specs.declared.call.Answer.TheVariants.{Acquired, Settled}
 use Rattle.iox_robust_steps.specs.declared.call.Call.{Call}
@@ -119,11 +119,12 @@ EachFreesItsOwn decisions events [] = Unit {0}
 EachFreesItsOwn decisions events (f ∷ finished) =
     FreesItsOwn decisions f.call (own f.party (drop f.first (take f.last events))) × EachFreesItsOwn decisions events finished
 
--- what the answer of a call says of its own steps: an acquire that took an index took just that one; one that was refused did
--- nothing, and saw each cell filled, or the set is locked. A release gave just its index back; a recovery took none. Only those
--- that were to lock say that the set is locked, and it is; where they say that it isn't, they saw another index out, or about to be
+-- what the answer of a call says of its own steps: an acquire that took an index took just that one, whose cell it gave the name of its
+-- owner; one that was refused did nothing, and saw each cell filled, or the set is locked. A release gave just its index back; a recovery
+-- took none. Only those that were to lock say that the set is locked, and it is; where they say that it isn't, they saw another index out,
+-- or about to be
 abbrev pub Tells : ℕ → Bool → List Event → Call → Answer → Type 0
-Tells n locked events (call.Acquire owner) (Acquired (Ok i)) = (i < n) × TakeOnly i events
+Tells n locked events (call.Acquire owner) (Acquired (Ok i)) = (i < n) × TakeOnly i events × (named_after i 0 events ≡ owner)
 Tells n locked events (call.Acquire owner) (Acquired (Err OutOfIndices)) = MoveNone events × SawEachFilled n events
 Tells n locked events (call.Acquire owner) (Acquired (Err IsLocked)) = MoveNone events × (locked ≡ true)
 Tells n locked events (call.Acquire owner) (Settled state) = ⊥

@@ -1,4 +1,4 @@
-//! A container of members one word at a time: parties add, remove and copy, over a set of indices that knows their holders.
+//! A container of members one word at a time: parties add, remove, copy and recover, over a set of indices that knows their holders.
 ghost use Rattle.std.specs.Prelude.{◌≡◌, ◌+◌, ◌*◌, ◌<◌, ◌^◌, IfOk, length};
 
 mod call;
@@ -33,16 +33,20 @@ pub struct MemberFinished {
 /// A container of members, whose parties go one step at a time, in any order that the caller wants.
 ///
 /// A table has the values that may be added, each of as many words as the first. Any party may stop anywhere. A removal fits only where
-/// the party that added the member removes it, so once; no call recovers the members of a party. However many steps were made, each got
-/// what its word held, and is one of one call of its party; the steps of a call are those that its value asked for.
+/// the party that added the member removes it, so once. Nobody puts a member in or takes one out for an owner whose recovery in the set
+/// of indices began; recoveries alone take members of it out, and what they decide on each place is handed in. However many steps were
+/// made, each got what its word held, and is one of one call of its party; the steps of a call are those that its value asked for.
 ///
 /// Where fewer than 2^64 - 1 steps were made, all stands that is said of a set of indices ([`RobustSetMachine`]). An addition that
 /// wasn't refused put its value in at the index that it answers, where none was in, a removal took its member out, each by one step of its
-/// own, and each counted one change. That step is the moment of the call: up to it a member that is added isn't in, and one that is
-/// removed is, and from then on the other way round. An addition is refused as its call on the set was, and a removal answers what its own
-/// did. A member stays, with its value, till the party that put it in takes it out. Each member that a copy shows was in, with just that
-/// value, at one moment of the copy, and a member in throughout is shown, with its value. A copy answers that nothing changed only where
-/// no change began and ended since the party's last copy.
+/// own, and each counted one change; so did a recovery. An addition is refused as its call on the set was, and a removal or a recovery
+/// answers what its own did. A member stays, with its value, till the party that put it in takes it out, or a recovery does. Each step of
+/// a recovery takes out one member of its owner that it was to take out, or none; after a whole recovery none of those is in, for good.
+/// Each member that a copy shows was in, with just that value, at one moment of the copy, and one whose count stayed throughout is shown. A
+/// copy answers that nothing changed only where no change began and ended since the party's last copy.
+///
+/// Where no recovery began, the step of an addition or a removal is the moment of the call: up to it a member that is added isn't in, and
+/// one that is removed is, and from then on the other way round; and each call lets pass by its own steps just what it answers.
 #[derive(Debug, Drop)]
 pub struct ContainerMachine {
     state: MemberState,
@@ -66,21 +70,24 @@ impl ContainerMachine {
     ghost use Rattle.iox_robust_steps.specs.ContainerMachine.{HasFewMoves, MemberRunsTo, MemberStepsTo, MemberTellsStep, empty_parts};
     ghost use Rattle.iox_robust_steps.specs.ContainerMachine.{MembersAreRecorded, MindsCopies, member_stage};
     ghost use Rattle.iox_robust_steps.specs.ContainerKept.{MembersAreOrderly};
+    ghost use Rattle.iox_robust_steps.specs.ContainerRecovering.{TakesOutOnlyItsOwn};
     ghost use Rattle.iox_robust_steps.specs.ContainerStays.{MembersAreOfCalls};
 
     /// An empty container of this capacity, with this many parties, to which these values may be added; with no value at all each is
-    /// one of no words.
+    /// one of no words. A recovery names a list of decisions by its number, which says of each place whether its member is to be taken
+    /// out; where it says nothing the member stays.
     pub fn new(
         alloc: Global,
         capacity: usize,
         parties: usize,
         values: Vec<Vec<u64>>,
+        decisions: Vec<Vec<bool>>,
     ) -> Result<ContainerMachine, AllocError>
         requires { capacity + (capacity * length (table_value values.items 0) + 1) < 2 ^ 62 }
-        ensures { IfOk result (λ m. m ≡ empty_parts capacity parties values.items) }
+        ensures { IfOk result (λ m. m ≡ empty_parts capacity parties values.items decisions.items) }
     {
         Ok(ContainerMachine {
-            state: MemberState::new(alloc, capacity, parties, values)?,
+            state: MemberState::new(alloc, capacity, parties, values, decisions)?,
         })
     }
 
@@ -89,6 +96,7 @@ impl ContainerMachine {
         ensures steps { MemberStepsTo self.old step result self.new }
         ensures tells { MemberTellsStep self.old step result self.new }
         ensures copies { MindsCopies self.old step result self.new }
+        ensures recovers { HasFewMoves self.new → TakesOutOnlyItsOwn self.old step self.new }
         ensures recorded { MembersAreRecorded self.new }
         ensures counted { MembersAreOfCalls self.new }
         ensures orderly { HasFewMoves self.new → MembersAreOrderly self.new }

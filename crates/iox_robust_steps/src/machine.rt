@@ -1,5 +1,5 @@
 //! The machine of a set of indices that knows their holders.
-ghost use Rattle.std.specs.Prelude.{◌≡◌, ◌+◌, ◌<◌, ◌≤◌, ◌^◌, ◌-◌, true, IfOk, length};
+ghost use Rattle.std.specs.Prelude.{◌≡◌, ◌+◌, ◌<◌, ◌≤◌, ◌^◌, ◌-◌, true, not, IfOk, length};
 
 use crate::call::{Answer, Call, RobustCall};
 pub use crate::state::Place;
@@ -56,7 +56,7 @@ impl Model for RobustSetMachine {
 impl RobustSetMachine {
     ghost use Rattle.iox_robust_steps.specs.Machine.{HasFewSteps, IsOrderly, IsRecorded, StaysLocked, StepsTo, RunsTo, fits, start};
     ghost use Rattle.iox_robust_steps.specs.Machine.{stage_at};
-    ghost use Rattle.iox_robust_steps.specs.Machine.{is_locked};
+    ghost use Rattle.iox_robust_steps.specs.Machine.{is_locked, is_lost};
     ghost use Rattle.iox_robust_steps.specs.OfCalls.{StepsAreOfCalls, TellsStep};
     ghost use Rattle.iox_robust_steps.specs.Recovering.{FreesOnlyItsOwn};
 
@@ -120,6 +120,13 @@ impl RobustSetMachine {
         ensures { result ≡ fits self.now step }
     {
         self.state.fits(step)
+    }
+
+    // The recovery of this owner did not begin.
+    pub(crate) fn may_act(&self, owner: u64) -> bool
+        ensures { result ≡ not (is_lost owner self.now.lost) }
+    {
+        !self.state.is_lost(owner)
     }
 
     // What every machine keeps.

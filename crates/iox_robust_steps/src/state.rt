@@ -103,7 +103,7 @@ impl State {
         }
     }
 
-    fn is_lost(&self, owner: u64) -> bool
+    pub(crate) fn is_lost(&self, owner: u64) -> bool
         ensures { result ≡ is_lost owner self.now.lost.items }
     {
         self.lost.contains(&owner)

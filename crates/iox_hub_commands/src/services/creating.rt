@@ -7,7 +7,9 @@ ghost use Rattle.iox_hub_commands.specs.Asked.{types_of};
 ghost use Rattle.iox_hub_commands.specs.Creating.{CreatesAs, CreatesNumbered, CreatesUnlessRefused, create_lacking};
 ghost use Rattle.iox_hub_commands.specs.Described.{settings_of};
 ghost use Rattle.iox_command.specs.NegotiateBase.declared.failure.CreateFailure.{CreateFailure};
-ghost use Rattle.iox_hub_commands.specs.Refusing.{IsUncreated, create_refused};
+ghost use Rattle.iox_command.specs.declared.refusal.Refusal.{Refusal};
+ghost use Rattle.iox_hub_base.specs.declared.hub.HashState.TheVariants.{Locked};
+ghost use Rattle.iox_hub_commands.specs.Refusing.{IsUncreated, create_refused, create_told, first_look};
 ghost use Rattle.iox_hub_base.specs.DescribeBase.Hash.{service_hash_of};
 ghost use Rattle.iox_hub_base.specs.DescribeSettings.Agreement.{agreement};
 ghost use Rattle.iox_command.specs.NegotiateBase.declared.failure.CreateFailure.TheVariants as uncreated;
@@ -20,8 +22,10 @@ use crate::services::asked::ServiceAsked;
 use crate::services::factories::Factories;
 use crate::services::kinds::CommandPattern;
 use crate::services::made::MadeFactory;
-use crate::services::refusing::{create_refused, uncreated};
-use crate::services::requests::{event, message_types, publish_subscribe, request_response};
+use crate::services::refusing::{create_refused, uncreated, uncreated_at_first_look};
+use crate::services::requests::{
+    agreed_has_form, event, message_types, publish_subscribe, request_response, steps_have_form,
+};
 use iox_command::{Refusal, ServiceOptions, StepBefore};
 use iox_describe::pattern::{Event, PublishSubscribe, RequestResponse};
 use iox_describe_base::{AttributeSpecifier, MessageTypeDetails, ZeroCopySend};
@@ -39,7 +43,8 @@ impl Factories {
     /// accesses that they name.
     ///
     /// None, and nothing happens, where the hub has no node of the number. Refused as `HubBuilder::create_with_attributes_in` refuses it,
-    /// for its settings before anything else is done, whatever memory there is;
+    /// for its settings before anything else is done, whatever memory there is; then with `HangsInCreation`, whatever memory there is,
+    /// where no step is named before the first access and its look finds that another is about to create the service;
     /// also with `OutOfMemory`, and nothing happens but that there may be more room, where an allocation fails for the lists of steps or
     /// for room: it takes none for that where no steps are named and there is room.
     ///
@@ -59,6 +64,11 @@ impl Factories {
         ensures settings_first { is_node asked.now.node hub.old.nodes ≡ true → (failure : CreateFailure)
             → IsUncreated (settings_of asked.now.options (types_of T.name T.size T.alignment U.name U.size U.alignment)) (Some failure)
             → (result ≡ Some (Err (create_refused asked.now.options failure))) × (self.new.made ≡ self.old.made) × (hub.new ≡ hub.old) }
+        ensures locked_first { is_node asked.now.node hub.old.nodes ≡ true
+            → IsUncreated (settings_of asked.now.options (types_of T.name T.size T.alignment U.name U.size U.alignment)) None
+            → first_look asked.now steps.now hub.old ≡ Some Locked
+            → (result ≡ Some (Err (create_refused asked.now.options uncreated.HangsInCreation))) × (self.new.made ≡ self.old.made)
+            × (hub.new ≡ hub.old) }
     {
         if !hub.has_node(asked.node) {
             return None;
@@ -82,6 +92,11 @@ impl Factories {
         ensures settings_first { (failure : CreateFailure)
             → IsUncreated (settings_of asked.now.options (types_of T.name T.size T.alignment U.name U.size U.alignment)) (Some failure)
             → (result ≡ Err (create_refused asked.now.options failure)) × (self.new.made ≡ self.old.made) × (hub.new ≡ hub.old) }
+        ensures locked_first { IsUncreated (settings_of asked.now.options
+            (types_of T.name T.size T.alignment U.name U.size U.alignment)) None
+            → first_look asked.now steps.now hub.old ≡ Some Locked
+            → (result ≡ Err (create_refused asked.now.options uncreated.HangsInCreation)) × (self.new.made ≡ self.old.made)
+            × (hub.new ≡ hub.old) }
     {
         match uncreated::<T, U>(&asked.options) {
             Some(failure) => Err(create_refused(&asked.options, failure)),
@@ -91,6 +106,35 @@ impl Factories {
 
     // The same, where the node is there and the settings aren't refused.
     fn create_accepted<T: Words + ZeroCopySend, U: Copy + ZeroCopySend, B: Drop, D: Drop>(
+        &mut self,
+        alloc: Global,
+        hub: &mut Hub<T, U, B, D>,
+        asked: &ServiceAsked,
+        attributes: &AttributeSpecifier,
+        steps: &[StepBefore],
+    ) -> Result<u64, Refusal>
+        requires number { self.old.made.next + 1 < 2 ^ 64 }
+        requires settings { IsUncreated (settings_of asked.now.options
+            (types_of T.name T.size T.alignment U.name U.size U.alignment)) None }
+        ensures creates { CreatesUnlessRefused None (detail FixedSize T.name T.size T.alignment)
+            (detail FixedSize U.name U.size U.alignment) (types_of T.name T.size T.alignment U.name U.size U.alignment) asked.now
+            attributes.now steps.now self.old.made hub.old (Some result) self.new.made hub.new }
+        ensures told_first { (refusal : Refusal) → Some refusal ≡ create_told asked.now.options (first_look asked.now steps.now hub.old)
+            → (result ≡ Err refusal) × (self.new.made ≡ self.old.made) × (hub.new ≡ hub.old) }
+    {
+        match uncreated_at_first_look(hub, asked, steps) {
+            Some(refusal) => {
+                let types = message_types::<T, U>();
+                steps_have_form(&asked.name, &types, steps);
+                agreed_has_form(&asked.name, &asked.options, &types, attributes);
+                Err(refusal)
+            }
+            None => self.create_looked(alloc, hub, asked, attributes, steps),
+        }
+    }
+
+    // The same, where the first look doesn't tell a refusal either.
+    fn create_looked<T: Words + ZeroCopySend, U: Copy + ZeroCopySend, B: Drop, D: Drop>(
         &mut self,
         alloc: Global,
         hub: &mut Hub<T, U, B, D>,

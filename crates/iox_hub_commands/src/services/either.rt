@@ -7,7 +7,8 @@ ghost use Rattle.iox_command.specs.NegotiateBase.declared.failure.CreateFailure.
 ghost use Rattle.iox_hub_commands.specs.Asked.{types_of};
 ghost use Rattle.iox_hub_commands.specs.Described.{settings_of};
 ghost use Rattle.iox_hub_commands.specs.Either.{EitherAs, EitherNumbered, either_lacking};
-ghost use Rattle.iox_hub_commands.specs.Refusing.{FindsNothing, IsUncreated, either_refused};
+ghost use Rattle.iox_hub_base.specs.declared.hub.HashState.TheVariants.{Absent, Locked};
+ghost use Rattle.iox_hub_commands.specs.Refusing.{IsUncreated, either_locked, either_refused, first_look};
 ghost use Rattle.iox_hub_base.specs.DescribeBase.Hash.{service_hash_of};
 ghost use Rattle.iox_hub_base.specs.DescribeSettings.Agreement.{agreement};
 ghost use Rattle.iox_hub_base.specs.Negotiate.Negotiation.{Either};
@@ -19,9 +20,9 @@ use crate::services::asked::ServiceAsked;
 use crate::services::factories::Factories;
 use crate::services::kinds::CommandPattern;
 use crate::services::made::MadeFactory;
-use crate::services::refusing::{either_refused, uncreated_at_first_look};
+use crate::services::refusing::neither_at_first_look;
 use crate::services::requests::{
-    event, message_types, publish_subscribe, request_response, steps_have_form,
+    agreed_has_form, event, message_types, publish_subscribe, request_response, steps_have_form,
 };
 use iox_command::{Refusal, ServiceOptions, StepBefore};
 use iox_describe::pattern::{Event, PublishSubscribe, RequestResponse};
@@ -41,8 +42,9 @@ impl Factories {
     /// number of its factory. The steps of foreign nodes are done before the accesses that they name.
     ///
     /// None, and nothing happens, where the hub has no node of the number. Refused as
-    /// `HubBuilder::open_or_create_with_attributes_in` refuses it: for its settings before anything else is done, whatever memory there is,
-    /// where no step is named before the first access and nothing lies under the hash;
+    /// `HubBuilder::open_or_create_with_attributes_in` refuses it: before anything else is done, whatever memory there is, where no step is
+    /// named before the first access and its look finds that no service stands, for the settings, and with the `HangsInCreation` of the
+    /// pattern's error of opening where it finds that another is about to create the service;
     /// also with the `OutOfMemory` of the pattern's error of opening,
     /// and nothing happens but that there may be more room, where an allocation fails for the lists of steps or for room: it
     /// takes none for that where no steps are named and there is room.
@@ -62,8 +64,10 @@ impl Factories {
             attributes steps.now self.old.made hub.old result self.new.made hub.new }
         ensures settings_first { is_node asked.now.node hub.old.nodes ≡ true → (failure : CreateFailure)
             → IsUncreated (settings_of asked.now.options (types_of T.name T.size T.alignment U.name U.size U.alignment)) (Some failure)
-            → FindsNothing asked.now steps.now hub.old
+            → first_look asked.now steps.now hub.old ≡ Some Absent
             → (result ≡ Some (Err (either_refused asked.now.options failure))) × (self.new.made ≡ self.old.made) × (hub.new ≡ hub.old) }
+        ensures locked_first { is_node asked.now.node hub.old.nodes ≡ true → first_look asked.now steps.now hub.old ≡ Some Locked
+            → (result ≡ Some (Err (either_locked asked.now.options))) × (self.new.made ≡ self.old.made) × (hub.new ≡ hub.old) }
     {
         if !hub.has_node(asked.node) {
             return None;
@@ -86,20 +90,25 @@ impl Factories {
             attributes steps.now self.old.made hub.old (Some result) self.new.made hub.new }
         ensures settings_first { (failure : CreateFailure)
             → IsUncreated (settings_of asked.now.options (types_of T.name T.size T.alignment U.name U.size U.alignment)) (Some failure)
-            → FindsNothing asked.now steps.now hub.old
+            → first_look asked.now steps.now hub.old ≡ Some Absent
             → (result ≡ Err (either_refused asked.now.options failure)) × (self.new.made ≡ self.old.made) × (hub.new ≡ hub.old) }
+        ensures locked_first { first_look asked.now steps.now hub.old ≡ Some Locked
+            → (result ≡ Err (either_locked asked.now.options)) × (self.new.made ≡ self.old.made) × (hub.new ≡ hub.old) }
     {
-        match uncreated_at_first_look(hub, asked, steps) {
-            Some(failure) => {
-                steps_have_form(&asked.name, &message_types::<T, U>(), steps);
-                Err(either_refused(&asked.options, failure))
+        match neither_at_first_look(hub, asked, steps) {
+            Some(refusal) => {
+                let types = message_types::<T, U>();
+                steps_have_form(&asked.name, &types, steps);
+                let pairs = attributes.attributes();
+                agreed_has_form(&asked.name, &asked.options, &types, pairs);
+                Err(refusal)
             }
-            None => self.either_accepted(alloc, hub, asked, attributes, steps),
+            None => self.either_looked(alloc, hub, asked, attributes, steps),
         }
     }
 
-    // The same, where the node is there, and the first look doesn't refuse the settings.
-    fn either_accepted<T: Words + ZeroCopySend, U: Copy + ZeroCopySend, B: Drop, D: Drop>(
+    // The same, where the node is there, and the first look doesn't tell a refusal.
+    fn either_looked<T: Words + ZeroCopySend, U: Copy + ZeroCopySend, B: Drop, D: Drop>(
         &mut self,
         alloc: Global,
         hub: &mut Hub<T, U, B, D>,

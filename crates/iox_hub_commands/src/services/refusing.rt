@@ -1,9 +1,11 @@
 //! Which services aren't created, whatever stands already: it is told of what is asked for alone, with no memory. And which calls come to
 //! nothing at their first look.
-ghost use Rattle.std.specs.Prelude.{◌≡◌};
+ghost use Rattle.std.specs.Prelude.{◌≡◌, Option};
+ghost use Rattle.iox_command.specs.NegotiateBase.declared.failure.CreateFailure.{CreateFailure};
 ghost use Rattle.iox_hub_commands.specs.Asked.{types_of};
 ghost use Rattle.iox_hub_commands.specs.Described.{settings_of};
-ghost use Rattle.iox_hub_commands.specs.Refusing.{IsUncreated, IsToldFirst, create_refused, either_refused};
+ghost use Rattle.iox_hub_commands.specs.Refusing.{IsUncreated, create_refused, either_refused, open_absent, open_locked, either_locked};
+ghost use Rattle.iox_hub_commands.specs.Refusing.{first_look, open_told, create_told, either_told};
 
 use crate::services::asked::ServiceAsked;
 use crate::services::requests::{
@@ -12,9 +14,9 @@ use crate::services::requests::{
 use iox_command::{Refusal, ServiceOptions, StepBefore};
 use iox_describe::pattern::{Event, PublishSubscribe, RequestResponse};
 use iox_describe_base::{MessageTypeDetails, ZeroCopySend};
-use iox_hub_base::Hub;
+use iox_hub_base::{HashState, Hub};
 use iox_negotiate::{Negotiated, settings_refusal};
-use iox_negotiate_base::{CreateFailure, OpenOrCreateFailure};
+use iox_negotiate_base::{CreateFailure, OpenFailure, OpenOrCreateFailure};
 
 /// Why no service is created with the settings that are asked for, of messages that carry slices of `T` with a user header of `U`, if that
 /// is so.
@@ -58,27 +60,6 @@ pub fn create_refused(options: &ServiceOptions, failure: CreateFailure) -> Refus
     }
 }
 
-/// Why a call that opens or creates comes to nothing, if its first look tells: no service is created with the settings that are asked for,
-/// no step is named before that look, and it finds nothing. Nothing changes. It takes memory only where a service stands.
-/// Example: `let failure = uncreated_at_first_look(&mut hub, &asked, &[]);`
-// Settings are held by value here, and no longer once deeper calls are made.
-#[inline(never)]
-pub fn uncreated_at_first_look<T: Copy + ZeroCopySend, U: Copy + ZeroCopySend, B: Drop, D: Drop>(
-    hub: &mut Hub<T, U, B, D>,
-    asked: &ServiceAsked,
-    steps: &[StepBefore],
-) -> Option<CreateFailure>
-    ensures told { IsToldFirst (settings_of asked.now.options (types_of T.name T.size T.alignment U.name U.size U.alignment)) asked.now
-        steps.now hub.old result }
-    ensures same { hub.new ≡ hub.old }
-{
-    let failure = uncreated::<T, U>(&asked.options)?;
-    if acts_first(steps) || !hub.is_absent(asked.options.pattern(), &asked.name) {
-        return None;
-    }
-    Some(failure)
-}
-
 /// The refusal of the pattern that is asked for, where no service is opened, and none is created for this.
 /// Example: `let refusal = either_refused(&asked.options, CreateFailure::InternalFailure);`
 pub fn either_refused(options: &ServiceOptions, failure: CreateFailure) -> Refusal
@@ -94,5 +75,148 @@ pub fn either_refused(options: &ServiceOptions, failure: CreateFailure) -> Refus
         ServiceOptions::RequestResponse(_) => Refusal::RequestResponseOpenOrCreate(
             RequestResponse::open_or_create_error(OpenOrCreateFailure::Create(failure)),
         ),
+    }
+}
+
+// The refusal of the pattern that is asked for, of who opens where no service stands.
+fn open_absent(options: &ServiceOptions) -> Refusal
+    ensures { result ≡ open_absent options.now }
+{
+    match options {
+        ServiceOptions::PublishSubscribe(_) => Refusal::PublishSubscribeOpen(
+            PublishSubscribe::open_error(OpenFailure::DoesNotExist),
+        ),
+        ServiceOptions::Event(_) => Refusal::EventOpen(Event::open_error(
+            OpenFailure::DoesNotExist,
+        )),
+        ServiceOptions::RequestResponse(_) => Refusal::RequestResponseOpen(
+            RequestResponse::open_error(OpenFailure::DoesNotExist),
+        ),
+    }
+}
+
+// That of who opens where another is about to create the service.
+fn open_locked(options: &ServiceOptions) -> Refusal
+    ensures { result ≡ open_locked options.now }
+{
+    match options {
+        ServiceOptions::PublishSubscribe(_) => Refusal::PublishSubscribeOpen(
+            PublishSubscribe::open_error(OpenFailure::HangsInCreation),
+        ),
+        ServiceOptions::Event(_) => Refusal::EventOpen(Event::open_error(
+            OpenFailure::HangsInCreation,
+        )),
+        ServiceOptions::RequestResponse(_) => Refusal::RequestResponseOpen(
+            RequestResponse::open_error(OpenFailure::HangsInCreation),
+        ),
+    }
+}
+
+// That of who opens or creates where another is about to create the service.
+fn either_locked(options: &ServiceOptions) -> Refusal
+    ensures { result ≡ either_locked options.now }
+{
+    match options {
+        ServiceOptions::PublishSubscribe(_) => Refusal::PublishSubscribeOpenOrCreate(
+            PublishSubscribe::open_or_create_error(OpenOrCreateFailure::Open(
+                OpenFailure::HangsInCreation,
+            )),
+        ),
+        ServiceOptions::Event(_) => Refusal::EventOpenOrCreate(Event::open_or_create_error(
+            OpenOrCreateFailure::Open(OpenFailure::HangsInCreation),
+        )),
+        ServiceOptions::RequestResponse(_) => Refusal::RequestResponseOpenOrCreate(
+            RequestResponse::open_or_create_error(OpenOrCreateFailure::Open(
+                OpenFailure::HangsInCreation,
+            )),
+        ),
+    }
+}
+
+// What the first look of a call finds, unless a step is named before it.
+fn first_look<T: Copy, U: Copy, B: Drop, D: Drop>(
+    hub: &mut Hub<T, U, B, D>,
+    asked: &ServiceAsked,
+    steps: &[StepBefore],
+) -> Option<HashState>
+    ensures found { result ≡ first_look asked.now steps.now hub.old }
+    ensures same { hub.new ≡ hub.old }
+{
+    if acts_first(steps) {
+        return None;
+    }
+    Some(hub.state_under(asked.options.pattern(), &asked.name))
+}
+
+/// Why nothing is opened, if the first look tells it: no step is named before it, and it finds that no service stands, or that another is
+/// about to create it. Nothing changes, and it is told whatever memory there is.
+/// Example: `let refusal = unopened_at_first_look(&mut hub, &asked, &[]);`
+pub fn unopened_at_first_look<T: Copy, U: Copy, B: Drop, D: Drop>(
+    hub: &mut Hub<T, U, B, D>,
+    asked: &ServiceAsked,
+    steps: &[StepBefore],
+) -> Option<Refusal>
+    ensures told { result ≡ open_told asked.now.options (first_look asked.now steps.now hub.old) }
+    ensures same { hub.new ≡ hub.old }
+{
+    match first_look(hub, asked, steps) {
+        Some(HashState::Absent) => Some(open_absent(&asked.options)),
+        Some(HashState::Locked) => Some(open_locked(&asked.options)),
+        Some(HashState::Described) | None => None,
+    }
+}
+
+/// Why nothing is created, if the first look tells it: no step is named before it, and it finds that another is about to create the
+/// service. Nothing changes, and it is told whatever memory there is.
+/// Example: `let refusal = uncreated_at_first_look(&mut hub, &asked, &[]);`
+pub fn uncreated_at_first_look<T: Copy, U: Copy, B: Drop, D: Drop>(
+    hub: &mut Hub<T, U, B, D>,
+    asked: &ServiceAsked,
+    steps: &[StepBefore],
+) -> Option<Refusal>
+    ensures told { result ≡ create_told asked.now.options (first_look asked.now steps.now hub.old) }
+    ensures same { hub.new ≡ hub.old }
+{
+    match first_look(hub, asked, steps) {
+        Some(HashState::Locked) => Some(create_refused(
+            &asked.options,
+            CreateFailure::HangsInCreation,
+        )),
+        Some(HashState::Absent) | Some(HashState::Described) | None => None,
+    }
+}
+
+/// Why nothing is opened or created, if the first look tells it: no step is named before it, and it finds that no service stands, and none
+/// is created with the settings that are asked for; or that another is about to create it. Nothing changes, and it is told whatever memory
+/// there is.
+/// Example: `let refusal = neither_at_first_look(&mut hub, &asked, &[]);`
+// Settings are held by value here, and no longer once deeper calls are made.
+#[inline(never)]
+pub fn neither_at_first_look<T: Copy + ZeroCopySend, U: Copy + ZeroCopySend, B: Drop, D: Drop>(
+    hub: &mut Hub<T, U, B, D>,
+    asked: &ServiceAsked,
+    steps: &[StepBefore],
+) -> Option<Refusal>
+    ensures told { (refused : Option CreateFailure)
+        × IsUncreated (settings_of asked.now.options (types_of T.name T.size T.alignment U.name U.size U.alignment)) refused
+        × (result ≡ either_told asked.now.options refused (first_look asked.now steps.now hub.old)) }
+    ensures same { hub.new ≡ hub.old }
+{
+    let found = first_look(hub, asked, steps);
+    either_told(&asked.options, uncreated::<T, U>(&asked.options), found)
+}
+
+// Why nothing is opened or created, if a first look that finds this tells it, where it is so that these settings are refused.
+fn either_told(
+    options: &ServiceOptions,
+    refused: Option<CreateFailure>,
+    found: Option<HashState>,
+) -> Option<Refusal>
+    ensures { result ≡ either_told options.now refused found }
+{
+    match found {
+        Some(HashState::Absent) => Some(either_refused(options, refused?)),
+        Some(HashState::Locked) => Some(either_locked(options)),
+        Some(HashState::Described) | None => None,
     }
 }

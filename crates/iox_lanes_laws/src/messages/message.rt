@@ -114,8 +114,8 @@ impl Message {
         values_in::<T, U>(&self.words)
     }
 
-    /// The words of its header (three: the node, the publisher, the number of elements), of its user header and of its payload,
-    /// one behind the other, as a read of it gives them.
+    /// The words of its header, of its user header and of its payload, one behind the other, as a read of it gives them. A header has
+    /// three: the node, the publisher, the number of elements. It has a fourth where messages are numbered: the number.
     pub fn words(&self) -> &[u64]
         ensures { result.now ≡ self.now.words }
     {

@@ -10,7 +10,8 @@ use thiserror::Error;
 pub enum IntoLanesError {
     /// A send of some publisher waits at a full mailbox.
     Blocked,
-    /// A listed port didn't follow the list of the others as it is, or a listed publisher and a listed subscriber aren't connected.
+    /// A listed port didn't follow the list of the others as it is, a listed publisher and a listed subscriber aren't connected, or a
+    /// listed publisher has a connection for a place that lists nobody.
     ConnectionsNotUpToDate,
     /// The room of some publisher may grow.
     NotStatic,

@@ -1,17 +1,19 @@
 //! Whether each port follows the others as they are, and is connected to them.
 ghost use Rattle.std.specs.Prelude.{◌≡◌, get_or, None};
 ghost use Rattle.iox_domain.specs.DomainPorts.Ports.{is_live};
+ghost use Rattle.iox_domain.specs.Rolls.{is_listed};
 ghost use Rattle.iox_lanes_opening.specs.Listed.{holds_at, of_each_listed};
 ghost use Rattle.iox_lanes_opening.specs.UpToDate.{is_reader, is_read_by, reads_from, is_joined_to, is_connected, is_current_publisher};
-ghost use Rattle.iox_lanes_opening.specs.UpToDate.{is_current_subscriber, is_up_to_date};
+ghost use Rattle.iox_lanes_opening.specs.UpToDate.{has_stray_tie, is_stray, is_current_subscriber, is_up_to_date};
 
-use iox_domain::ports::ServicePorts;
+use iox_domain::ports::{Roll, ServicePorts};
 use iox_domain_ports::{
     Member, PublisherEntry, PublisherPort, Stage, SubscriberEntry, SubscriberPort,
 };
 
 /// Whether each listed port followed the list of the others as it is, and each listed publisher is connected to each listed subscriber: a
-/// place is tied to a connection that goes on, and the subscriber reads there by the key that it has for the publisher's place.
+/// place is tied to a connection that goes on, and the subscriber reads there by the key that it has for the publisher's place. No place
+/// that lists nobody is tied to a connection of a listed publisher; no calls leave one tied, once the list was followed.
 pub fn is_up_to_date<T: Copy, U: Copy>(ports: &ServicePorts<T, U>) -> bool
     ensures { result ≡ is_up_to_date ports.now }
 {
@@ -52,7 +54,8 @@ fn is_current_publisher<T: Copy, U: Copy>(
 {
     match ports.publishers.get(entry.publisher) {
         Some(port) => port.seen == ports.subscriber_list.changes()
-            && is_connected_to_all(ports, place, entry.publisher, port),
+            && is_connected_to_all(ports, place, entry.publisher, port)
+            && !has_stray_tie(&ports.subscriber_list, port),
         None => false,
     }
 }
@@ -160,6 +163,38 @@ fn reads_from(subscriber: &SubscriberPort, place: usize, publisher: u64, index: 
             None => false,
         },
         None => false,
+    }
+}
+
+// Whether a place that lists nobody is tied to a connection of a publisher.
+fn has_stray_tie<T: Copy, U: Copy>(list: &Roll<SubscriberEntry>, port: &PublisherPort<T, U>) -> bool
+    ensures { result ≡ has_stray_tie list.now port.now }
+{
+    for place in 0..port.ties.len() {
+        if is_stray(list, port, place) {
+            return true;
+        }
+    }
+    false
+}
+
+fn is_stray<T: Copy, U: Copy>(
+    list: &Roll<SubscriberEntry>,
+    port: &PublisherPort<T, U>,
+    place: usize,
+) -> bool
+    ensures { result ≡ is_stray list.now port.now place }
+{
+    port.ties.get(place).is_some() && !lists_somebody(list, place)
+}
+
+// Whether somebody is listed at a place.
+fn lists_somebody(list: &Roll<SubscriberEntry>, place: usize) -> bool
+    ensures { result ≡ is_listed place list.now }
+{
+    match list.listed().get(place) {
+        Some(Some(_member)) => true,
+        Some(None) | None => false,
     }
 }
 

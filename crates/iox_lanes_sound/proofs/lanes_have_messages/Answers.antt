@@ -1,11 +1,6 @@
-use Rattle.std.proofs.Common.{ℕ, ◌≡◌, ◌<◌, Bool, true, false, arith}
 use Rattle.iox_lanes_opening.specs.Middles.{middle_count}
-use Rattle.iox_lanes_sound.proofs.Having.{have_messages}
+use Rattle.iox_lanes_sound.proofs.Having.{have_messages, some_middle}
 use Rattle.iox_lanes_sound.proofs.lanes_have_messages.Goals as goal
-
-wide : (numbered : Bool) (count : ℕ) → numbered ≡ true → 0 < middle_count numbered count
-wide true count is = omega arith
-wide false count is = absurd (cc is)
 
 pub returns : goal.returns
 returns g c = λ names lent held buffer service stands back.
@@ -13,4 +8,4 @@ returns g c = λ names lent held buffer service stands back.
     (middle_count c.args.opened.now.domain.state.ports.sizes.sequence_numbers g.U.Words.WORDS) g.met.T.Words.as_many
     c.args.opened.now.domain c.requires.none c.args.opened.now.lanes.lanes c.requires.came c.args.opened.now.publishers.items
     c.args.opened.now.subscribers.items c.args.opened.now.connections.items c.requires.holds
-    (wide c.args.opened.now.domain.state.ports.sizes.sequence_numbers g.U.Words.WORDS) back names lent held buffer service stands
+    (some_middle c.args.opened.now.domain.state.ports.sizes.sequence_numbers g.U.Words.WORDS) back names lent held buffer service stands

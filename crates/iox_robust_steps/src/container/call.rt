@@ -1,10 +1,12 @@
 //! A call on a container of members, one access at a time.
 ghost use Rattle.std.specs.Prelude.{◌≡◌, ◌<◌, ◌≤◌, ◌^◌};
 ghost use Rattle.iox_queues.specs.Values.{table_value};
-ghost use Rattle.iox_robust_steps.specs.ContainerSteps.{answer_at, dropped, entered, is_shown, member_begun, member_is_idle};
+ghost use Rattle.iox_robust_steps.specs.ContainerSteps.{answer_at, asked_for_place, closed, dropped, entered, is_clearing, is_shown};
+ghost use Rattle.iox_robust_steps.specs.ContainerSteps.{member_begun, member_is_idle};
 ghost use Rattle.iox_robust_steps.specs.ContainerSteps.{member_is_over};
 ghost use Rattle.iox_robust_steps.specs.ContainerMachine.{is_look};
 ghost use Rattle.iox_robust_steps.specs.ContainerSteps.{member_next, member_take, value_cell, visited, visits_from};
+ghost use Rattle.iox_robust_steps.specs.ContainerSteps.{watches_from};
 
 use crate::call::{Answer, RobustCall};
 use iox_container::{ReleaseMode, ReleaseState, UniqueIndexSetAcquireFailure};
@@ -20,6 +22,8 @@ pub enum MemberCall {
     Remove(u64, u64, ReleaseMode),
     /// Copies the members, if something changed since the party's last copy.
     Update,
+    /// Takes those members of this owner out for which the decisions of this number say so.
+    Recover(u64, usize, ReleaseMode),
 }
 
 /// What a call answered.
@@ -27,7 +31,7 @@ pub enum MemberCall {
 pub enum MemberAnswer {
     /// The member is in at this index, or was refused.
     Added(Result<u64, UniqueIndexSetAcquireFailure>),
-    /// The member is out, which may have locked the set of indices.
+    /// The member is out, or those of an owner are that were to be, which may have locked the set of indices.
     Removed(ReleaseState),
     /// Whether something was copied.
     Updated(bool),
@@ -104,6 +108,49 @@ pub enum ContainerCall {
         seen: u64,
         next: usize,
     },
+    /// A recovery begins to recover in the set of indices.
+    Search {
+        owner: u64,
+        number: usize,
+        mode: ReleaseMode,
+    },
+    /// It looks at the count of a place, before the set looks whose the index is.
+    Watch {
+        owner: u64,
+        number: usize,
+        mode: ReleaseMode,
+        place: u64,
+    },
+    /// It saw this count; the set looks whose the index is.
+    Ask {
+        owner: u64,
+        number: usize,
+        mode: ReleaseMode,
+        place: u64,
+        seen: u64,
+    },
+    /// The index is the owner's, and a member is in: it counts the place up, if the count is still the one that it saw, so that the
+    /// member is out.
+    Expel {
+        owner: u64,
+        number: usize,
+        mode: ReleaseMode,
+        place: u64,
+        seen: u64,
+    },
+    /// No member is in, and the set frees the index.
+    Clear {
+        owner: u64,
+        number: usize,
+        mode: ReleaseMode,
+        place: u64,
+    },
+    /// It went over each place, and the set ends its recovery.
+    Close {
+        owner: u64,
+        number: usize,
+        mode: ReleaseMode,
+    },
     /// The call answered; its last step is to come.
     Done {
         call: MemberCall,
@@ -120,6 +167,11 @@ impl ContainerCall {
             MemberCall::Add(number, owner) => ContainerCall::Enter { number, owner },
             MemberCall::Remove(owner, index, mode) => ContainerCall::Sink { owner, index, mode },
             MemberCall::Update => ContainerCall::Look,
+            MemberCall::Recover(owner, number, mode) => ContainerCall::Search {
+                owner,
+                number,
+                mode,
+            },
         }
     }
 
@@ -133,6 +185,10 @@ impl ContainerCall {
             | ContainerCall::Enter { .. }
             | ContainerCall::Leave { .. }
             | ContainerCall::Drop { .. }
+            | ContainerCall::Search { .. }
+            | ContainerCall::Ask { .. }
+            | ContainerCall::Clear { .. }
+            | ContainerCall::Close { .. }
             | ContainerCall::Done { .. } => Access::Local,
             ContainerCall::Fill {
                 number,
@@ -155,7 +211,12 @@ impl ContainerCall {
             ContainerCall::Raise { seen, .. } => {
                 Access::Exchange(Word::Write, seen, seen.saturating_add(1))
             }
-            ContainerCall::Visit { place } => Access::Load(Word::Cell(place)),
+            ContainerCall::Visit { place } | ContainerCall::Watch { place, .. } => {
+                Access::Load(Word::Cell(place))
+            }
+            ContainerCall::Expel { place, seen, .. } => {
+                Access::Exchange(Word::Cell(place), seen, seen.saturating_add(1))
+            }
             ContainerCall::Gather { place, next, .. } => {
                 if next < width {
                     Access::Load(Word::Cell(value_cell(capacity, width, place, next)))
@@ -167,16 +228,17 @@ impl ContainerCall {
     }
 
     /// Where the call stands after the answer of that access, or of the set of indices, if that has one. The count of changes that
-    /// the party's last copy saw is `saw`.
+    /// the party's last copy saw is `saw`; `finds` says whether the set is about to free an index.
     pub fn take(
         self,
         capacity: u64,
         width: usize,
         saw: u64,
         got: Option<Answer>,
+        finds: bool,
         answer: u64,
     ) -> ContainerCall
-        ensures { result ≡ member_take capacity width saw got self answer }
+        ensures { result ≡ member_take capacity width saw got finds self answer }
     {
         match self {
             ContainerCall::Idle | ContainerCall::Done { .. } => ContainerCall::Idle,
@@ -269,6 +331,53 @@ impl ContainerCall {
                     visited(capacity, place, answer)
                 }
             }
+            ContainerCall::Search {
+                owner,
+                number,
+                mode,
+            } => watches_from(capacity, owner, number, mode, 0),
+            ContainerCall::Watch {
+                owner,
+                number,
+                mode,
+                place,
+            } => ContainerCall::Ask {
+                owner,
+                number,
+                mode,
+                place,
+                seen: answer,
+            },
+            ContainerCall::Ask {
+                owner,
+                number,
+                mode,
+                place,
+                seen,
+            } => asked_for_place(capacity, owner, number, mode, place, seen, finds),
+            ContainerCall::Expel {
+                owner,
+                number,
+                mode,
+                place,
+                ..
+            } => ContainerCall::Clear {
+                owner,
+                number,
+                mode,
+                place,
+            },
+            ContainerCall::Clear {
+                owner,
+                number,
+                mode,
+                place,
+            } => watches_from(capacity, owner, number, mode, place.saturating_add(1)),
+            ContainerCall::Close {
+                owner,
+                number,
+                mode,
+            } => closed(owner, number, mode, got),
         }
     }
 
@@ -295,6 +404,13 @@ pub(crate) fn answer_at(stage: RobustCall) -> Option<Answer>
         RobustCall::Done { answer, .. } => Some(answer),
         _ => None,
     }
+}
+
+// A call on the set is about to free an index.
+pub(crate) fn is_clearing(stage: RobustCall) -> bool
+    ensures { result ≡ is_clearing stage }
+{
+    matches!(stage, RobustCall::Clear { .. })
 }
 
 // A party at this stage looks at the count of changes, to copy.
@@ -373,6 +489,81 @@ fn dropped(owner: u64, index: u64, mode: ReleaseMode, got: Option<Answer>) -> Co
         None | Some(Answer::Acquired(_)) => ContainerCall::Drop { owner, index, mode },
         Some(Answer::Settled(state)) => ContainerCall::Count {
             call: MemberCall::Remove(owner, index, mode),
+            answer: MemberAnswer::Removed(state),
+        },
+    }
+}
+
+// A recovery goes on to the next place, if one is left.
+fn watches_from(
+    capacity: u64,
+    owner: u64,
+    number: usize,
+    mode: ReleaseMode,
+    place: u64,
+) -> ContainerCall
+    ensures { result ≡ watches_from capacity owner number mode place }
+{
+    if place < capacity {
+        ContainerCall::Watch {
+            owner,
+            number,
+            mode,
+            place,
+        }
+    } else {
+        ContainerCall::Close {
+            owner,
+            number,
+            mode,
+        }
+    }
+}
+
+// The set looked whose the index is, and is to free it or not.
+fn asked_for_place(
+    capacity: u64,
+    owner: u64,
+    number: usize,
+    mode: ReleaseMode,
+    place: u64,
+    seen: u64,
+    finds: bool,
+) -> ContainerCall
+    ensures { result ≡ asked_for_place capacity owner number mode place seen finds }
+{
+    if !finds {
+        watches_from(capacity, owner, number, mode, place.saturating_add(1))
+    } else if is_shown(seen) {
+        ContainerCall::Expel {
+            owner,
+            number,
+            mode,
+            place,
+            seen,
+        }
+    } else {
+        ContainerCall::Clear {
+            owner,
+            number,
+            mode,
+            place,
+        }
+    }
+}
+
+// A recovery has the answer of the set, if that has one.
+fn closed(owner: u64, number: usize, mode: ReleaseMode, got: Option<Answer>) -> ContainerCall
+    ensures { result ≡ closed owner number mode got }
+{
+    match got {
+        None | Some(Answer::Acquired(_)) => ContainerCall::Close {
+            owner,
+            number,
+            mode,
+        },
+        Some(Answer::Settled(state)) => ContainerCall::Count {
+            call: MemberCall::Recover(owner, number, mode),
             answer: MemberAnswer::Removed(state),
         },
     }

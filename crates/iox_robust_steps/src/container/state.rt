@@ -1,7 +1,8 @@
 //! The state of a container's machine, and its steps.
 ghost use Rattle.std.specs.Prelude.{◌≡◌, ◌+◌, ◌*◌, ◌<◌, ◌^◌, ◌++◌, ◌&&◌, false, true, IfOk, OnOk, length, vec_len, vec_capacity};
 ghost use Rattle.iox_queues.specs.Values.{table_value};
-ghost use Rattle.iox_robust_steps.specs.ContainerMachine.{MemberStepsTo, asked_at, asked_by, empty_parts, may_ask, may_call, member_begins};
+ghost use Rattle.iox_robust_steps.specs.ContainerMachine.{MemberStepsTo, asked_at, asked_by, empty_parts, may_ask, may_call};
+ghost use Rattle.iox_robust_steps.specs.ContainerMachine.{member_begins};
 ghost use Rattle.iox_robust_steps.specs.ContainerMachine.{member_ended, member_ends, member_fits, member_happens, member_seat};
 ghost use Rattle.iox_robust_steps.specs.ContainerMachine.{member_stage};
 ghost use Rattle.iox_robust_steps.specs.ContainerMachine.{member_went, resting, seat_after};
@@ -9,7 +10,7 @@ ghost use Rattle.iox_robust_steps.specs.ContainerSteps.{member_is_over};
 ghost use Rattle.iox_robust_steps.specs.Machine.{fits, happens};
 ghost use Rattle.iox_robust_steps.specs.ContainerView.{parts_of};
 
-use super::call::{ContainerCall, MemberCall, answer_at, is_look, is_shown};
+use super::call::{ContainerCall, MemberCall, answer_at, is_clearing, is_look, is_shown};
 use super::{MemberFinished, MemberMove};
 use crate::call::Call;
 use crate::machine::{Move, RobustSetMachine};
@@ -46,14 +47,15 @@ impl MemberState {
         capacity: usize,
         parties: usize,
         values: Vec<Vec<u64>>,
+        decisions: Vec<Vec<bool>>,
     ) -> Result<MemberState, AllocError>
         requires { capacity + (capacity * length (table_value values.items 0) + 1) < 2 ^ 62 }
-        ensures { IfOk result (λ s. parts_of s ≡ empty_parts capacity parties values.items) }
+        ensures { IfOk result (λ s. parts_of s ≡ empty_parts capacity parties values.items decisions.items) }
     {
         let width = value_of(values.as_slice(), 0).len();
         let cells = vec![in alloc; 0; capacity + (capacity * width + 1)]?;
         Ok(MemberState {
-            set: RobustSetMachine::new(alloc, capacity, parties, Vec::new(alloc))?,
+            set: RobustSetMachine::new(alloc, capacity, parties, decisions)?,
             values,
             ring: Ring::new(cells, 0, 0),
             seats: vec![in alloc; resting(); parties]?,
@@ -99,6 +101,9 @@ impl MemberState {
                     && is_shown(self.ring.word(Word::Cell(index)))
             }
             MemberCall::Update => true,
+            MemberCall::Recover(owner, number, mode) => self
+                .set
+                .fits(Move::Begin(party, Call::Recover(owner, number, mode))),
         }
     }
 
@@ -151,7 +156,7 @@ impl MemberState {
             MemberCall::Add(_, owner) => {
                 makes(&mut self.set, Move::Begin(party, Call::Acquire(owner)))
             }
-            MemberCall::Remove(_, _, _) | MemberCall::Update => true,
+            MemberCall::Remove(_, _, _) | MemberCall::Update | MemberCall::Recover(_, _, _) => true,
         };
         if !made {
             return false;
@@ -189,11 +194,14 @@ impl MemberState {
         if !ask(&mut self.set, party, seat.stage) {
             return false;
         }
+        let finds = is_clearing(self.set.stage(party));
         let number = self.events.len() as u64;
         end_call(&mut self.finished, party, seat, number);
         let access = seat.stage.next(capacity, width, self.values.as_slice());
         let answer = self.ring.apply(access);
-        let next = seat.stage.take(capacity, width, seat.saw, got, answer);
+        let next = seat
+            .stage
+            .take(capacity, width, seat.saw, got, finds, answer);
         self.seats[party] = seat_after(seat, next, answer, number);
         self.events.push_reserved(Event {
             party,
@@ -247,10 +255,23 @@ fn may_ask(set: &RobustSetMachine, party: usize, stage: ContainerCall) -> bool
 {
     match stage {
         ContainerCall::Idle => false,
-        ContainerCall::Enter { .. } | ContainerCall::Drop { .. } => set.fits(Move::GoOn(party)),
+        ContainerCall::Enter { .. }
+        | ContainerCall::Drop { .. }
+        | ContainerCall::Ask { .. }
+        | ContainerCall::Clear { .. }
+        | ContainerCall::Close { .. } => set.fits(Move::GoOn(party)),
+        ContainerCall::Fill { owner, .. }
+        | ContainerCall::Show { owner, .. }
+        | ContainerCall::Sink { owner, .. }
+        | ContainerCall::Hide { owner, .. } => set.may_act(owner),
         ContainerCall::Leave { owner, index, mode } => {
             set.fits(Move::Begin(party, Call::Release(owner, index, mode)))
         }
+        ContainerCall::Search {
+            owner,
+            number,
+            mode,
+        } => set.fits(Move::Begin(party, Call::Recover(owner, number, mode))),
         _ => true,
     }
 }
@@ -262,10 +283,19 @@ fn ask(set: &mut RobustSetMachine, party: usize, stage: ContainerCall) -> bool
     ensures stopped { result ≡ false → set.new ≡ set.old }
 {
     match stage {
-        ContainerCall::Enter { .. } | ContainerCall::Drop { .. } => makes(set, Move::GoOn(party)),
+        ContainerCall::Enter { .. }
+        | ContainerCall::Drop { .. }
+        | ContainerCall::Ask { .. }
+        | ContainerCall::Clear { .. }
+        | ContainerCall::Close { .. } => makes(set, Move::GoOn(party)),
         ContainerCall::Leave { owner, index, mode } => {
             makes(set, Move::Begin(party, Call::Release(owner, index, mode)))
         }
+        ContainerCall::Search {
+            owner,
+            number,
+            mode,
+        } => makes(set, Move::Begin(party, Call::Recover(owner, number, mode))),
         _ => true,
     }
 }

@@ -1,6 +1,7 @@
 //! The service that a foreign node publishes.
 ghost use Rattle.std.specs.Prelude.{◌≡◌};
 ghost use Rattle.iox_negotiate_table.specs.Describe.Within.{HasForm};
+ghost use Rattle.iox_hub_commands.specs.Asking.{agreed_of};
 ghost use Rattle.iox_hub_commands.specs.Described.{settings_of, described};
 
 use crate::services::requests::asked::{event, publish_subscribe, request_response};
@@ -24,6 +25,22 @@ pub fn description(
     let attributes = AttributeSpecifier::new();
     parts_have_form(*name, hash, settings, &attributes);
     Description::of_parts(*name, hash, settings, attributes)
+}
+
+/// What would be agreed of a service that is created with these options and attributes has the form of a description, which is told of it.
+/// It takes no memory.
+/// Example: `agreed_has_form(&asked.name, &asked.options, &types, &attributes);`
+#[inline(never)]
+pub fn agreed_has_form(
+    name: &ServiceName,
+    options: &ServiceOptions,
+    types: &MessageTypeDetails,
+    attributes: &AttributeSpecifier,
+)
+    ensures { HasForm (agreed_of name.now options.now types.now attributes.now) }
+{
+    let hash = service_hash(options.pattern(), name);
+    parts_have_form(*name, hash, settings(options, *types), attributes);
 }
 
 fn settings(options: &ServiceOptions, types: MessageTypeDetails) -> Settings

@@ -94,14 +94,7 @@ fn last_access(steps: &[StepBefore]) -> u64
 pub fn acts_first(steps: &[StepBefore]) -> bool
     ensures { result ≡ acts_first steps.now }
 {
-    let mut rest = steps;
-    while let Some((before, later)) = rest.split_first() {
-        if before.access == 1 {
-            return true;
-        }
-        rest = later;
-    }
-    false
+    steps.iter().any(|before| before.access == 1)
 }
 
 /// What the steps publish has the form of a description, which is told of each. It takes no memory.

@@ -1,4 +1,4 @@
-use Rattle.std.proofs.Common.{◌≡◌, length, subst, sym}
+use Rattle.std.proofs.Common.{◌≡◌, ◌<◌, ◌^◌, length, subst, sym}
 use Rattle.iox_lanes_laws.specs.Numbered.{found_messages}
 use Rattle.iox_lanes_laws.specs.Recorded.{AreAsHeld, ArePast}
 use Rattle.iox_lanes_opening.specs.Middles.{middle_count, middle_words}
@@ -23,6 +23,9 @@ returns-in-Ok-clause-exact g c =
     subst (λ made. WasFound (sizes_for g.T.Words.WORDS (middle_count c.args.domain.state.ports.sizes.sequence_numbers g.U.Words.WORDS)
     c.args.domain.state.ports made.publishers.items
     (length made.subscribers.items)) made.lanes.lanes) (sym c.with.ensures) c.in-Ok.ensures.exact
+
+pub returns-in-Ok-clause-few : goal.returns-in-Ok-clause-few
+returns-in-Ok-clause-few g c = subst (λ made. made.lanes.lanes.table.sizes.slots < 2 ^ 64) (sym c.with.ensures) c.in-Ok.ensures.few
 
 pub returns-in-Ok-clause-messages : goal.returns-in-Ok-clause-messages
 returns-in-Ok-clause-messages g c

@@ -1,4 +1,4 @@
-use Rattle.std.proofs.Common.{◌≡◌, length, refl, subst, sym}
+use Rattle.std.proofs.Common.{◌≡◌, ◌<◌, ◌^◌, length, refl, subst, sym}
 use Rattle.iox_lanes_laws.specs.Numbered.{found_messages}
 use Rattle.iox_lanes_machine.specs.Resting.{AllBetween}
 use Rattle.iox_lanes_machine.specs.WholeReads.{CameTo}
@@ -9,6 +9,7 @@ use Rattle.iox_lanes.specs.Finding.{WasFound}
 use Rattle.iox_lanes.specs.Holding.{LanesHold}
 use Rattle.iox_lanes.specs.Joined.{IsJoined}
 use Rattle.iox_lanes.specs.Sized.{AreSized}
+use Rattle.iox_lanes.proofs.Built.{few_slots}
 use Rattle.iox_lanes.proofs.Holds.{lanes_hold}
 use Rattle.iox_lanes.proofs.Joins.{are_joined}
 use Rattle.iox_lanes.proofs.domain_lanes.open.Goals as goal
@@ -64,6 +65,14 @@ pub returns-clause-fails : goal.returns-clause-fails
 returns-clause-fails g c =
     subst (λ made. FailAsAsked c.args.domain.now made.lanes.lanes made.publishers.items) (sym c.in_ok-kept.ensures.made)
     c.in_ok-opened.ensures.fails
+
+pub returns-clause-few : goal.returns-clause-few
+returns-clause-few g c =
+    subst (λ made. made.lanes.lanes.table.sizes.slots < 2 ^ 64) (sym c.in_ok-kept.ensures.made)
+    (few_slots g.T.Words.parts (middle_words c.args.domain.now.state.ports.sizes.sequence_numbers g.U.Words.parts) g.T.Words.WORDS
+    (middle_count c.args.domain.now.state.ports.sizes.sequence_numbers g.U.Words.WORDS) c.args.domain.now
+    c.in_ok-opened.opened.publishers.items c.in_ok-opened.opened.subscribers.items c.in_ok-opened.opened.lanes
+    c.in_ok-opened.ensures.built)
 
 pub returns-clause-messages : goal.returns-clause-messages
 returns-clause-messages g c =

@@ -1,11 +1,13 @@
 use Rattle.std.proofs.Common.{subst, arith}
-use Rattle.iox_robust_steps.specs.ContainerMachine.{ContainerParts, MemberTellsStep, MindsCopies}
+use Rattle.iox_robust_steps.specs.ContainerMachine.{ContainerParts, HasFewMoves, MemberTellsStep, MindsCopies}
+use Rattle.iox_robust_steps.specs.ContainerRecovering.{TakesOutOnlyItsOwn}
 use Rattle.iox_robust_steps.specs.ContainerKept.{MembersAreKept}
 use Rattle.iox_robust_steps.specs.ContainerView.{parts_of}
 use Rattle.iox_robust_steps.proofs.ContainerCalls.{member_steps_tell}
 use Rattle.iox_robust_steps.proofs.ContainerCopies.{member_steps_mind}
 use Rattle.iox_robust_steps.proofs.ContainerKeeps.{member_steps_keep}
 use Rattle.iox_robust_steps.proofs.ContainerOrderly.{members_orderly}
+use Rattle.iox_robust_steps.proofs.ContainerRecovers.{member_steps_recover}
 use Rattle.iox_robust_steps.proofs.container.ContainerMachine.step.Goals as goal
 
 pub step-requires : goal.step-requires
@@ -33,6 +35,13 @@ returns-clause-tells c = subst (λ (m : ContainerParts). MemberTellsStep m c.arg
 pub returns-clause-copies : goal.returns-clause-copies
 returns-clause-copies c = subst (λ (m : ContainerParts). MindsCopies m c.args.step c.step.result (parts_of c.step.new.self)) c.self.view_is
     (member_steps_mind (parts_of c.self.inside.state) c.args.step c.step.result (parts_of c.step.new.self) c.step.ensures)
+
+pub returns-clause-recovers : goal.returns-clause-recovers
+returns-clause-recovers c = subst
+    (λ (m : ContainerParts). HasFewMoves (parts_of c.step.new.self) → TakesOutOnlyItsOwn m c.args.step (parts_of c.step.new.self))
+    c.self.view_is
+    (member_steps_recover (parts_of c.self.inside.state) c.args.step c.step.result (parts_of c.step.new.self) c.step.ensures
+    c.self.invariant)
 
 pub returns-clause-counted : goal.returns-clause-counted
 returns-clause-counted c =

@@ -8,3 +8,8 @@ pub returns-clause-settings_first : goal.returns-clause-settings_first
 returns-clause-settings_first g c is_there failure is =
     let told = c.create_there.ensures.settings_first failure is in
     (ap (λ reply. Some reply) told.0, told.1, told.2)
+
+pub returns-clause-locked_first : goal.returns-clause-locked_first
+returns-clause-locked_first g c is_there accepted finds =
+    let told = c.create_there.ensures.locked_first accepted finds in
+    (ap (λ reply. Some reply) told.0, told.1, told.2)

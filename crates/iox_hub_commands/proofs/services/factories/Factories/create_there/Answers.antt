@@ -1,5 +1,6 @@
-use Rattle.std.proofs.Common.{◌∙◌, None, Some, Err, refl, ap}
-use Rattle.iox_hub_commands.specs.Refusing.{create_refused}
+use Rattle.std.proofs.Common.{◌∙◌, None, Some, Err, refl, sym, ap}
+use Rattle.iox_command.specs.NegotiateBase.declared.failure.CreateFailure.TheVariants as uncreated
+use Rattle.iox_hub_commands.specs.Refusing.{create_refused, create_told}
 use Rattle.iox_hub_commands.proofs.Uncreated.{one_reason, not_accepted}
 use Rattle.iox_hub_commands.proofs.services.factories.Factories.create_there.Goals as goal
 
@@ -19,7 +20,15 @@ returns-in-Some-clause-settings_first g c failure is = (
 )
 
 pub returns-in-None-clause-creates : goal.returns-in-None-clause-creates
-returns-in-None-clause-creates g c = (None, c.in-None.ensures, c.create_accepted.ensures)
+returns-in-None-clause-creates g c = (None, c.in-None.ensures, c.create_accepted.ensures.creates)
 
 pub returns-in-None-clause-settings_first : goal.returns-in-None-clause-settings_first
 returns-in-None-clause-settings_first g c failure is = absurd (not_accepted _ failure is c.in-None.ensures)
+
+pub returns-in-Some-clause-locked_first : goal.returns-in-Some-clause-locked_first
+returns-in-Some-clause-locked_first g c accepted finds = absurd (not_accepted _ c.in-Some.failure c.in-Some.ensures accepted)
+
+pub returns-in-None-clause-locked_first : goal.returns-in-None-clause-locked_first
+returns-in-None-clause-locked_first g c accepted finds =
+    c.create_accepted.ensures.told_first (create_refused c.args.asked.now.options uncreated.HangsInCreation)
+    (sym (ap (λ found. create_told c.args.asked.now.options found) finds))

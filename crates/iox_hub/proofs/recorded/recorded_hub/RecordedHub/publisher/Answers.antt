@@ -1,0 +1,34 @@
+use Rattle.std.proofs.Common.{refl}
+use Rattle.iox_hub.specs.RecordedNames.{publisher_side}
+use Rattle.iox_hub.proofs.RecordedRuns.{publisher_recorded}
+use Rattle.iox_hub.proofs.RecordedTold.{publisher_goes_by, publisher_so}
+use Rattle.iox_hub_commands.specs.DescribeBase.Detail.{detail}
+use Rattle.iox_hub_commands.specs.DescribeBase.declared.type_detail.TypeVariant.TheVariants.{FixedSize, Dynamic}
+use Rattle.iox_hub.proofs.recorded.recorded_hub.RecordedHub.publisher.Goals as goal
+
+pub invariant_of-self : goal.invariant_of-self
+invariant_of-self g c = rw (c.told-self-inside.ensures, c.domain_of-domain.ensures)
+    (publisher_recorded (detail FixedSize g.T.ZeroCopySend.name g.T.ZeroCopySend.size g.T.ZeroCopySend.alignment)
+    (detail FixedSize g.U.ZeroCopySend.name g.U.ZeroCopySend.size g.U.ZeroCopySend.alignment)
+    (λ value. g.T.Default.is_default value) (λ header. g.U.Default.is_default header) g.B.PublisherHandlers.fixed
+    (λ handlers. g.B.Degrades.degrades handlers) (λ handlers. g.B.Decides.decides handlers) g.D.SubscriberHandler.fixed
+    (λ handler. g.D.Degrades.degrades handler)
+    c.self.inside.history.calls c.self.inside.hub c.create_publisher-answer.new.home c.args.factory.now.number.value
+    (c.args.factory.now.it.service.membership, c.args.factory.now.it.owner)
+    (let there = rw (← c.self.view_is) at c.requires in rw there refl)
+    (c.typed_calls_are_a_run.ensures.goes_on Dynamic)
+    c.args.options.now (c.typed_publishers_come_by_steps.ensures Dynamic) c.default.result c.create_publisher-answer.result
+    c.default.ensures
+    (rw (c.publisher_config-config.ensures, c.publisher_handlers.ensures, c.owner_of.ensures, c.domain_of-domain.ensures)
+    at c.create_publisher-answer.ensures) c.self.invariant)
+
+pub returns-clause-made : goal.returns-clause-made
+returns-clause-made g c = rw (c.with_number.ensures, c.publisher_of.ensures, ← c.self.view_is, c.told-self-inside.ensures)
+    (publisher_so c.self.inside.history.calls _ _ c.args.factory.now.number.value c.domain_of-domain.result c.given-number.result
+    (publisher_side c.args.options.now) c.args.options.now c.create_publisher-answer.result)
+
+pub returns-clause-number : goal.returns-clause-number
+returns-clause-number g c = rw (c.with_number.ensures, c.publisher_of.ensures, ← c.self.view_is, c.told-self-inside.ensures)
+    (publisher_goes_by c.self.inside.history.calls _ _ c.args.factory.now.number.value c.domain_of-domain.result c.given-number.result
+    (publisher_side c.args.options.now) c.args.options.now c.create_publisher-answer.result c.given-number.ensures
+    c.self.invariant.rise.1)

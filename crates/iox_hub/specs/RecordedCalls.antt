@@ -1,0 +1,51 @@
+-- What the calls of a recorded hub are told as: commands, and answers to them.
+use Rattle.std.specs.Prelude.{ℕ, ◌≡◌, ◌^◌, ◌<◌, List, [], ◌∷◌, ◌++◌, length, Option, None, Some, Result, Ok, Err}
+use Rattle.std.specs.Global.{Vec}
+use Rattle.std.specs.Vec.{vec_items}
+use Rattle.iox_command.specs.declared.command.Command.{Command}
+use Rattle.iox_command.specs.declared.command.Command.TheVariants as command
+use Rattle.iox_command.specs.declared.refusal.Refusal.{Refusal}
+use Rattle.iox_command.specs.declared.refusal.Refusal.TheVariants as refusal
+use Rattle.iox_command.specs.declared.reply.Reply.{Reply}
+use Rattle.iox_command.specs.declared.reply.Reply.TheVariants as reply
+use Rattle.iox_container.specs.NumberTable.{inserted}
+use Rattle.iox_delivery.specs.declared.kind.Slice.{Slice}
+use Rattle.iox_delivery.specs.declared.sample.Sample.{Sample}
+use Rattle.iox_delivery.specs.declared.sent.Sent.{Sent}
+use Rattle.iox_delivery.specs.declared.sent.Sent.TheVariants as sent
+use Rattle.iox_hub_commands.specs.DomainValues.declared.port_error.ReceiveError.{ReceiveError}
+use Rattle.iox_hub_commands.specs.DomainValues.declared.port_error.SendError.{SendError}
+use Rattle.iox_hub.specs.Recorded.{Calls, asked_too}
+use Rattle.iox_hub.specs.declared.recorded.named.Named.{Named}
+
+-- A subscriber received, or none stands. A sample that came goes by the next number, and is told with these values, if they fit in a
+-- vector.
+abbrev pub IsReceived : {T U : Type 0} → List T → ℕ
+    → Option (Result (Option (Named (Sample T U Slice))) ReceiveError) → Calls T → Calls T → Type 0
+IsReceived values subscriber None old new = new ≡ asked_too (command.Receive subscriber) reply.Skipped old
+IsReceived {T} values subscriber (Some (Ok (Some sample))) old new =
+    (told : Vec T) × (length values < 2 ^ 63 → vec_items told ≡ values)
+    × (new ≡ record (asked_too (command.Receive subscriber) (reply.Received old.made.samples.next told) old) {
+      made = record old.made {
+        samples = inserted old.made.samples (record { port = sample.it.port; taken = sample.it.taken });
+      };
+      received = old.received ++ values ∷ [];
+    })
+IsReceived values subscriber (Some (Ok None)) old new = new ≡ asked_too (command.Receive subscriber) reply.NothingWaits old
+IsReceived values subscriber (Some (Err why)) old new =
+    new ≡ asked_too (command.Receive subscriber) (reply.Refused (refusal.Receive why)) old
+
+-- The calls, with a command that was answered: what came is told and kept so, and why nothing came is told by this refusal. None where it
+-- was skipped.
+abbrev pub answered_as : {T S E : Type 0} → Option (Result S E) → Command T → (S → Reply T) → (E → Refusal) → (S → Calls T → Calls T)
+    → Calls T → Calls T
+answered_as None asked told refused kept calls = asked_too asked reply.Skipped calls
+answered_as (Some (Ok came)) asked told refused kept calls = kept came (asked_too asked (told came) calls)
+answered_as (Some (Err why)) asked told refused kept calls = asked_too asked (reply.Refused (refused why)) calls
+
+-- how a send is told: skipped where none may send, or none waits; to how many it went; that it waits; or why it was refused
+abbrev pub told_send : {T U : Type 0} → Option (Result (Sent T U) SendError) → Reply T
+told_send None = reply.Skipped
+told_send (Some (Ok (sent.Delivered count))) = reply.Delivered count
+told_send (Some (Ok (sent.Blocked blocked))) = reply.Blocked
+told_send (Some (Err why)) = reply.Refused (refusal.Send why)

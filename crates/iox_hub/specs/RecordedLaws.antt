@@ -1,0 +1,29 @@
+-- What a program reads of a sample is what it received, and what was put.
+use Rattle.std.specs.Prelude.{ℕ, ◌≡◌, ◌⊎◌, ◌++◌, ◌∷◌, [], List, length, false, true}
+use Rattle.std.specs.Global.{Vec}
+use Rattle.std.specs.Vec.{vec_items}
+use Rattle.iox_command.specs.declared.command.Command.{Command}
+use Rattle.iox_command.specs.declared.command.Command.TheVariants as command
+use Rattle.iox_command.specs.declared.reply.Reply.{Reply}
+use Rattle.iox_command.specs.declared.reply.Reply.TheVariants as reply
+use Rattle.iox_hub_commands.specs.DescribeBase.declared.message_type.MessageTypeDetails.{MessageTypeDetails}
+use Rattle.iox_machine.specs.Choices.{Choices}
+use Rattle.iox_machine.specs.Run.{Answers}
+use Rattle.iox_machine.specs.RunLaws.{has_begun}
+
+-- A subscriber received a sample, and after other calls that sample is read. Where the machine may answer so to all of them from the first
+-- one on, the values that are read are those that were received.
+abbrev pub ReadsAsReceived : {T : Type 0} → Choices T → Type 0
+ReadsAsReceived {T} choices = (types : MessageTypeDetails) (buffer : ℕ) (before meanwhile : List (Command T))
+    (first told : List (Reply T)) (subscriber sample : ℕ) (values read : Vec T) → length first ≡ length before
+    → Answers types choices buffer ((before ++ command.Receive subscriber ∷ []) ++ meanwhile ++ command.Read sample ∷ []) false
+    ((first ++ reply.Received sample values ∷ []) ++ told ++ reply.Values read ∷ [])
+    → vec_items read ≡ vec_items values
+
+-- These values were put: a put of them began to send; or a loan was sent, whose values its writes say.
+abbrev pub WasPut : {T : Type 0} → List T → List (Command T) → List (Reply T) → Type 0
+WasPut values (command.Put publisher given ∷ asked) (answer ∷ answers) =
+    ((given ≡ values) × (has_begun answer ≡ true)) ⊎ WasPut values asked answers
+WasPut values (command.Send loan ∷ asked) (answer ∷ answers) = (has_begun answer ≡ true) ⊎ WasPut values asked answers
+WasPut values (other ∷ asked) (answer ∷ answers) = WasPut values asked answers
+WasPut values asked answers = ⊥

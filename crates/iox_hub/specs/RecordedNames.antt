@@ -1,0 +1,63 @@
+-- What goes by numbers in a recorded hub.
+use Rattle.std.specs.Prelude.{ℕ, ◌≡◌, Option, None, Some, Result, Ok, Err}
+use Rattle.std.specs.Option.{unwrap_or}
+use Rattle.iox_command.specs.declared.port.PublisherOptions.{PublisherOptions}
+use Rattle.iox_command.specs.declared.port.SubscriberOptions.{SubscriberOptions}
+use Rattle.iox_delivery.specs.Domain.PortSettings.{publisher_defaults}
+use Rattle.iox_delivery.specs.declared.port.Port.{Port}
+use Rattle.iox_delivery.specs.declared.port_id.PortId.{PortId}
+use Rattle.iox_delivery.specs.declared.publisher.PublisherSide.{PublisherSide}
+use Rattle.iox_delivery.specs.declared.sent.Sent.{Sent}
+use Rattle.iox_delivery.specs.declared.sent.Sent.TheVariants as sent
+use Rattle.iox_delivery.specs.declared.subscriber.SubscriberSide.{SubscriberSide}
+use Rattle.iox_domain.specs.declared.domain_id.DomainId.{DomainId}
+use Rattle.iox_hub_commands.specs.declared.services.made.MadeFactory.{MadeFactory}
+use Rattle.iox_hub.specs.declared.recorded.named.Named.{Named}
+use Rattle.iox_hub.specs.declared.recorded.named.Number.{Number}
+
+-- the factory of a service that was opened, as factories go by numbers
+abbrev pub as_made : {F E : Type 0} → (F → MadeFactory) → Option (Result F E) → Option (Result MadeFactory E)
+as_made made None = None
+as_made made (Some (Ok factory)) = Some (Ok (made factory))
+as_made made (Some (Err why)) = Some (Err why)
+
+-- what was made, with its number
+abbrev pub named_by : {S E : Type 0} → Number → Option (Result S E) → Option (Result (Named S) E)
+named_by number None = None
+named_by number (Some (Ok made)) = Some (Ok (record { it = made; number = number }))
+named_by number (Some (Err why)) = Some (Err why)
+
+-- what was received, with its number
+abbrev pub received_by : {S E : Type 0} → Number → Option (Result (Option S) E) → Option (Result (Option (Named S)) E)
+received_by number None = None
+received_by number (Some (Ok (Some made))) = Some (Ok (Some (record { it = made; number = number })))
+received_by number (Some (Ok None)) = Some (Ok None)
+received_by number (Some (Err why)) = Some (Err why)
+
+-- what was handed back, with its number
+abbrev pub back_by : {S : Type 0} → Number → Result (Unit {0}) S → Result (Unit {0}) (Named S)
+back_by number (Ok done) = Ok done
+back_by number (Err it) = Err (record { it = it; number = number })
+
+-- A publisher's strategy, and how many values a loan may have at first: as the options name them, else the defaults.
+abbrev pub publisher_side : PublisherOptions → PublisherSide
+publisher_side options = record {
+  strategy = unwrap_or options.backpressure_strategy publisher_defaults.strategy;
+  initial_max_slice_len = unwrap_or options.initial_max_slice_len publisher_defaults.initial_max_slice_len;
+}
+
+-- How many messages of one publisher may wait for a subscriber: as many as the options name, else as many as the service allows.
+abbrev pub subscriber_side : ℕ → SubscriberOptions → SubscriberSide
+subscriber_side most options = record { buffer_size = unwrap_or options.buffer_size most }
+
+-- the port that came to a domain under a number, as a value with this side; or why none came
+abbrev pub port_made : {T U K S E : Type 0} → DomainId → S → Option (Result ℕ E) → Option (Result (Port T U K S) E)
+port_made domain side None = None
+port_made domain side (Some (Ok number)) =
+    Some (Ok (record { port = record { domain = domain; number = number }; side = side; of = record {} }))
+port_made domain side (Some (Err why)) = Some (Err why)
+
+-- A send that waits is one of this port.
+abbrev pub WaitsAt : {T U : Type 0} → PortId → Sent T U → Type 0
+WaitsAt port (sent.Delivered count) = Unit {0}
+WaitsAt port (sent.Blocked blocked) = blocked.port ≡ port

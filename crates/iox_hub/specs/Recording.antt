@@ -1,0 +1,188 @@
+-- What ties a hub to what was asked of it, and what calls make of that. No clause that a caller reads cites this.
+use Rattle.std.specs.Prelude.{ℕ, ◌≡◌, ◌-◌, ◌^◌, ◌<◌, ◌&&◌, Bool, true, false, List, [], length, nat_lt, Option, None, Some, Result, Ok, Err}
+use Rattle.iox_delivery.specs.Holding.{holds_message}
+use Rattle.iox_hub_base.specs.AsHome.{hub_ports}
+use Rattle.std.specs.List.{AllByRecursion}
+use Rattle.std.specs.Option.{unwrap_or}
+use Rattle.iox_delivery.specs.declared.kind.Slice.{Slice}
+use Rattle.iox_delivery.specs.declared.sample.Sample.{Sample}
+use Rattle.iox_delivery.specs.declared.sent.Sent.{Sent}
+use Rattle.iox_hub_base.specs.Hubs.{is_node}
+use Rattle.iox_hub_commands.specs.DomainValues.declared.port_error.ReceiveError.{ReceiveError}
+use Rattle.iox_hub_commands.specs.DomainValues.declared.port_error.SendError.{SendError}
+use Rattle.iox_command.specs.NegotiateBase.PublishSubscribeErrors as publish_subscribe
+use Rattle.iox_hub_base.specs.Opening.{Made as Opened}
+use Rattle.iox_hub_commands.specs.Asking.{hash_of, required_agreement, required_publish_subscribe}
+use Rattle.iox_hub_commands.specs.Either.{EitherAs, EitherJudged}
+use Rattle.iox_negotiate_table.specs.DescribeVerdict.PublishSubscribeClauses as publish_subscribe_clauses
+use Rattle.iox_negotiate_table.specs.DescribeVerdict.Verdict.{first_unmet}
+use Rattle.iox_hub_machine.specs.TypedSteps.{payload_there, told_sent}
+use Rattle.iox_hub_commands.specs.DescribeBase.Detail.{Detail}
+use Rattle.iox_hub_commands.specs.DescribeBase.declared.message_type.MessageTypeDetails.{MessageTypeDetails}
+use Rattle.iox_hub_commands.specs.DomainValues.declared.backpressure.BackpressureAction.{BackpressureAction}
+use Rattle.iox_hub_commands.specs.DomainValues.declared.backpressure.BackpressureDecision.{BackpressureDecision}
+use Rattle.iox_hub_commands.specs.DomainValues.declared.backpressure.BackpressureInfo.{BackpressureInfo}
+use Rattle.iox_hub_commands.specs.DomainValues.declared.backpressure_strategy.BackpressureStrategy.{BackpressureStrategy}
+use Rattle.iox_hub_commands.specs.DomainValues.declared.degradation.DegradationAction.{DegradationAction}
+use Rattle.iox_hub_commands.specs.DomainValues.declared.degradation.DegradationCause.{DegradationCause}
+use Rattle.iox_hub_commands.specs.DomainValues.declared.degradation.DegradationInfo.{DegradationInfo}
+use Rattle.iox_hub_base.specs.declared.hub.Hub.{Hub}
+use Rattle.iox_hub_base.specs.declared.hub.HubConfig.{HubConfig}
+use Rattle.iox_hub_commands.specs.Lives.{NumbersRise}
+use Rattle.iox_hub_commands.specs.declared.numbered_hub.NumberedHub.{NumberedHub}
+use Rattle.iox_hub_machine.specs.ArrivalLaws.{AnswersAsFixed, DecidesAsFixed}
+use Rattle.iox_hub_machine.specs.RunLaws.{AsksAmong, all_asked}
+use Rattle.iox_hub_machine.specs.TypedRuns.{HasCalled}
+use Rattle.iox_negotiate_machine.specs.Laws.{HaveOwnHashes}
+use Rattle.iox_command.specs.declared.command.Command.TheVariants as command
+use Rattle.iox_command.specs.declared.refusal.Refusal.{Refusal}
+use Rattle.iox_command.specs.declared.refusal.Refusal.TheVariants as refusal
+use Rattle.iox_command.specs.declared.command.Command.{Command}
+use Rattle.iox_command.specs.declared.reply.Reply.{Reply}
+use Rattle.iox_command.specs.declared.reply.Reply.TheVariants as reply
+use Rattle.iox_command.specs.declared.service.PublishSubscribeOptions.{PublishSubscribeOptions}
+use Rattle.iox_command.specs.declared.service.ServiceOptions.TheVariants as options
+use Rattle.iox_container.specs.NumberTable.{inserted, value_at}
+use Rattle.iox_hub_commands.specs.Reading.{values_under}
+use Rattle.iox_hub_commands.specs.DescribeBase.Attributes.{Required}
+use Rattle.iox_hub_commands.specs.NegotiateBase.declared.errors.publish_subscribe.PublishSubscribeOpenOrCreateError.{PublishSubscribeOpenOrCreateError}
+use Rattle.iox_hub_commands.specs.ServicesTables.{FactoryTable, no_factories}
+use Rattle.iox_hub_commands.specs.Tables.{no_numbers}
+use Rattle.iox_hub_commands.specs.declared.ports.made.Made.{Made}
+use Rattle.iox_hub_commands.specs.declared.services.made.MadeFactory.{MadeFactory}
+use Rattle.iox_hub.specs.Recorded.{Calls, asked_too}
+
+-- nothing was asked yet
+abbrev pub no_calls : {T : Type 0} → HubConfig → Calls T
+no_calls config = record {
+  asked = [];
+  answers = [];
+  made = record { publishers = no_numbers; subscribers = no_numbers; loans = no_numbers; samples = no_numbers };
+  factories = no_factories;
+  received = [];
+  config = config;
+}
+
+-- one call more, after which the program holds these ports, loans and samples
+abbrev pub asked_with : {T : Type 0} → Made → Command T → Reply T → Calls T → Calls T
+asked_with made asked answer calls = record (asked_too asked answer calls) { made = made }
+
+-- Each message that was received fits in a vector.
+abbrev pub AllFit : {T : Type 0} → List (List T) → Type 0
+AllFit received = AllByRecursion (λ values. length values < 2 ^ 63) received
+
+module _ {T : Type 0} where
+  -- how a send is told that may not be: skipped where none stands who may send, or no send waits to be tried again
+  abbrev pub told_sent_if : {U : Type 0} → Option (Result (Sent T U) SendError) → Reply T
+  told_sent_if None = reply.Skipped
+  told_sent_if (Some answer) = told_sent answer
+
+  -- how what a send came to is told: to how many it went, None for one that waits
+  abbrev pub told_came : Option (Result (Option ℕ) SendError) → Reply T
+  told_came None = reply.Skipped
+  told_came (Some (Ok (Some count))) = reply.Delivered count
+  told_came (Some (Ok None)) = reply.Blocked
+  told_came (Some (Err why)) = reply.Refused (refusal.Send why)
+
+-- A call is made if it may be; else nothing happens.
+abbrev pub IsDoneIf : {A H : Type 0} → Bool → (H → A → H → Type 0) → H → Option A → H → Type 0
+IsDoneIf may does old None new = (may ≡ false) × (new ≡ old)
+IsDoneIf may does old (Some answer) new = (may ≡ true) × does old answer new
+
+-- A call spends what it is handed if it may be made; else nothing happens, and that is handed back.
+abbrev pub IsDoneOrBack : {A W H : Type 0} → Bool → W → (H → A → H → Type 0) → H → Result A W → H → Type 0
+IsDoneOrBack may waits does old (Ok answer) new = does old answer new
+IsDoneOrBack may waits does old (Err back) new = (may ≡ false) × (back ≡ waits) × (new ≡ old)
+
+-- the values of a sample in a hub; none where it isn't held
+abbrev pub values_there : {T U B D : Type 0} → Sample T U Slice → Hub T U B D → List T
+values_there sample hub = unwrap_or (payload_there sample hub) []
+
+-- the values of the newest sample of a program in a hub; none where it isn't held
+abbrev pub newest_there : {T U B D : Type 0} → Calls T → Hub T U B D → List T
+newest_there calls hub = unwrap_or (values_under hub_ports (value_at calls.made.samples (calls.made.samples.next - 1)) hub) []
+
+-- whether a sample is held, and its values fit in a vector
+abbrev pub is_known : {T U B D : Type 0} → Sample T U Slice → Hub T U B D → Bool
+is_known sample hub = holds_message sample.port.number sample.taken (hub_ports sample.port.domain hub)
+    && nat_lt (length (values_there sample hub)) (2 ^ 63)
+
+-- whether what was received last, if anything was, is held and fits in a vector
+abbrev pub newest_is_known : {T U B D : Type 0} → Option (Result (Option (Sample T U Slice)) ReceiveError) → Hub T U B D → Bool
+newest_is_known None hub = true
+newest_is_known (Some (Ok (Some sample))) hub = is_known sample hub
+newest_is_known (Some (Ok None)) hub = true
+newest_is_known (Some (Err why)) hub = true
+
+-- The answer to a node that asked for a service: the number of its factory, or why there is none.
+abbrev pub told_opened : ℕ → Result MadeFactory PublishSubscribeOpenOrCreateError → Result ℕ Refusal
+told_opened next (Ok factory) = Ok next
+told_opened next (Err why) = Err (refusal.PublishSubscribeOpenOrCreate why)
+
+-- the factories then: one that was made goes by the next number
+abbrev pub factories_opened : FactoryTable → Result MadeFactory PublishSubscribeOpenOrCreateError → FactoryTable
+factories_opened table (Ok factory) = inserted table factory
+factories_opened table (Err why) = table
+
+-- A node opens a service for publishing and subscribing, or creates it, by these options. The two details are those of values and user
+-- headers, the types those of the messages.
+abbrev pub OpensOrCreates : {T U B D : Type 0} → Detail → Detail → MessageTypeDetails → ℕ → List ℕ → PublishSubscribeOptions → Required
+    → Hub T U B D → Result Opened PublishSubscribeOpenOrCreateError → Hub T U B D → Type 0
+OpensOrCreates payload user_header types node name named required old opened new =
+    EitherJudged payload user_header publish_subscribe.open_or_create_error (hash_of name (options.PublishSubscribe named)) node
+    (λ given. first_unmet (publish_subscribe_clauses.clauses (required_publish_subscribe named types required) given))
+    (required_agreement name (options.PublishSubscribe named) types required) [] old opened new
+
+-- A node opens a service for publishing and subscribing, or creates it, by these options, if that node was made. The two details are those
+-- of values and user headers, the types those of the messages; the factories are those that go by numbers before.
+abbrev pub OpensIf : {T U B D : Type 0} → Detail → Detail → MessageTypeDetails → ℕ → List ℕ → PublishSubscribeOptions → Required
+    → FactoryTable → Hub T U B D → Option (Result MadeFactory PublishSubscribeOpenOrCreateError) → Hub T U B D → Type 0
+OpensIf payload user_header types node name named required table old None new = (is_node node old.nodes ≡ false) × (new ≡ old)
+OpensIf payload user_header types node name named required table old (Some answer) new = (is_node node old.nodes ≡ true)
+    × EitherAs (options.PublishSubscribe named) payload user_header types node name required [] table old (told_opened table.next answer)
+    (factories_opened table answer) new
+
+-- the calls, with that one
+abbrev pub calls_opened : {T : Type 0} → ℕ → List ℕ → PublishSubscribeOptions → Required
+    → Option (Result MadeFactory PublishSubscribeOpenOrCreateError) → Calls T → Calls T
+calls_opened node name named required None calls =
+    asked_too (command.OpenOrCreate node name (options.PublishSubscribe named) required []) reply.Skipped calls
+calls_opened node name named required (Some (Ok factory)) calls =
+    record (asked_too (command.OpenOrCreate node name (options.PublishSubscribe named) required [])
+    (reply.FactoryMade calls.factories.next) calls) { factories = inserted calls.factories factory }
+calls_opened node name named required (Some (Err why)) calls =
+    asked_too (command.OpenOrCreate node name (options.PublishSubscribe named) required [])
+    (reply.Refused (refusal.PublishSubscribeOpenOrCreate why)) calls
+
+module _ {T U B D : Type 0} where
+  -- a hub with what its program holds by numbers
+  abbrev pub numbered : Calls T → Hub T U B D → NumberedHub T U B D
+  numbered calls hub = record {
+    hub = hub;
+    factories = record { made = calls.factories };
+    made = calls.made;
+    pledged = record { loans = 0; samples = 0 };
+  }
+
+module _ {T U B D : Type 0} (payload user_header : Detail) (types : MessageTypeDetails) (is_default : T → Type 0)
+    (is_default_header : U → Type 0) (fixed : BackpressureStrategy → Option BackpressureAction → DegradationAction → B)
+    (degrades : B → DegradationCause → DegradationInfo → DegradationAction → Type 0)
+    (decides : B → BackpressureInfo → BackpressureDecision → Type 0) (fixed_reader : DegradationAction → D)
+    (reader_degrades : D → DegradationCause → DegradationInfo → DegradationAction → Type 0) where
+  -- The calls were a run of the machine, and the hub stands for what that led to; it is as it was made, and this is true. So it is for any
+  -- names among which are those that were asked for, of which no two services share a hash.
+  abbrev pub IsRun : Bool → Calls T → Hub T U B D → Type 0
+  IsRun fit calls hub = (names : List (List ℕ)) → DecidesAsFixed fixed degrades decides → AnswersAsFixed fixed_reader reader_degrades
+      → HaveOwnHashes names → AllByRecursion (AsksAmong names) calls.asked → all_asked calls.asked < 2 ^ 56 → AllFit calls.received
+      → HasCalled payload user_header types is_default is_default_header fixed degrades decides fixed_reader reader_degrades names
+      calls.asked calls.answers (numbered calls hub)
+      × (hub.expired_connection_buffer ≡ calls.config.expired_connection_buffer)
+      × (fit ≡ true)
+
+  -- That, and the numbers of what the program holds rise; the hub is told apart as it was made; and if this is true, each message that was
+  -- received fits in a vector.
+  pub record IsRecorded (fit : Bool) (calls : Calls T) (hub : Hub T U B D) : Type 0 where
+    pub rise : NumbersRise (numbered calls hub)
+    pub id : hub.table.id ≡ calls.config.id
+    pub all_fit : fit ≡ true → AllFit calls.received
+    pub run : IsRun fit calls hub

@@ -1,0 +1,488 @@
+//! What calls of a recorded hub do to the hub, and how things get their numbers.
+ghost use Rattle.std.specs.Prelude.{◌≡◌, ◌&&◌, [], Some, IfOk, is_ok};
+ghost use Rattle.std.specs.Prelude.{List};
+ghost use Rattle.std.specs.Global.{Vec};
+ghost use Rattle.std.specs.Option.{unwrap_or};
+ghost use Rattle.std.specs.Result.{result_map_both, result_ok};
+ghost use Rattle.iox_command.specs.declared.command.Command.TheVariants as command;
+ghost use Rattle.iox_hub_commands.specs.DescribeBase.Detail.{detail};
+ghost use Rattle.iox_hub_commands.specs.DescribeBase.declared.type_detail.TypeVariant.TheVariants.{FixedSize};
+ghost use Rattle.iox_delivery.specs.Holding.{publisher_blocked, subscriber_stands};
+ghost use Rattle.iox_delivery.specs.Publishing.{RetriesSend};
+ghost use Rattle.iox_delivery.specs.Slices.{SendsSlice};
+ghost use Rattle.iox_delivery.specs.Subscribing.{ReceivesSample};
+ghost use Rattle.iox_hub_base.specs.AsHome.{hub_ports, with_hub_ports};
+ghost use Rattle.iox_hub_base.specs.DescribeBase.Hash.{service_hash_of};
+ghost use Rattle.iox_hub_base.specs.DescribeSettings.Agreement.{agreement};
+ghost use Rattle.iox_hub_base.specs.Negotiate.Negotiation.{Either};
+ghost use Rattle.iox_hub_base.specs.Opening.{OpensInHub, lacking_either};
+ghost use Rattle.iox_negotiate_table.specs.Stepped.{SteppedSight};
+ghost use Rattle.iox_delivery.specs.Domain.PortSettings.{publisher_defaults};
+ghost use Rattle.iox_hub_commands.specs.Asked.{types_of};
+ghost use Rattle.iox_hub_commands.specs.DescribeBase.Attributes.{Required};
+ghost use Rattle.iox_hub_commands.specs.Calls.{may_lend};
+ghost use Rattle.iox_hub_commands.specs.CommandSteps.{publisher_may_decide, publisher_may_degrade, subscriber_may_degrade};
+ghost use Rattle.iox_hub_commands.specs.Naming.{publisher_config, subscriber_config};
+ghost use Rattle.iox_hub_commands.specs.ServicesTables.{FactoryTable};
+ghost use Rattle.iox_hub_commands.specs.DescribeSettings.declared.static_config.Settings.TheVariants as settings;
+ghost use Rattle.iox_hub_commands.specs.DescribeSettings.declared.static_config.publish_subscribe.StaticConfig.{StaticConfig};
+ghost use Rattle.iox_hub_commands.specs.Services.{domain_of_factory, owner_of_factory};
+ghost use Rattle.iox_hub_commands.specs.declared.services.made.MadeFactory.TheVariants as made_factory;
+ghost use Rattle.iox_negotiate_table.specs.Describe.Within.{HasForm};
+ghost use Rattle.iox_hub.specs.Recorded.{Calls, asked_too};
+ghost use Rattle.iox_hub.specs.RecordedNames.{as_made, back_by, named_by, port_made};
+ghost use Rattle.iox_hub.specs.RecordedNames.{publisher_side, received_by, subscriber_side};
+ghost use Rattle.iox_hub.specs.Recording.{IsDoneIf, IsDoneOrBack, OpensIf, OpensOrCreates, calls_opened};
+ghost use Rattle.iox_hub.specs.Recording.{is_known, newest_is_known, told_came, told_sent_if};
+
+use crate::recorded::history::History;
+use crate::recorded::named::{Named, Number};
+use iox_command::{PublishSubscribeOptions, PublisherOptions, SubscriberOptions};
+use iox_delivery::{BlockedSend, PortId, Sent, slices as slice};
+use iox_describe::pattern::PublishSubscribe;
+use iox_describe_base::{AttributeVerifier, ServiceName, ZeroCopySend};
+use iox_domain::DomainId;
+use iox_domain::ports::{PublisherConfig, SubscriberConfig};
+use iox_domain::settings::PublisherSettings;
+use iox_domain_values::{
+    PortOwner, PublisherCreateError, ReceiveError, SendError, SubscriberCreateError,
+};
+use iox_hub_base::{Hub, HubBuilder, PortFactory};
+use iox_hub_commands::services::requests::{message_types, publish_subscribe};
+use iox_hub_commands::{PublisherHandlers, SubscriberHandler, most_loans};
+use iox_negotiate::{Builder, Negotiated, ServiceBuilder};
+use iox_negotiate_base::errors::PublishSubscribeOpenOrCreateError;
+use iox_queues_base::Words;
+use std::alloc::Global;
+
+// A publisher lends slots for these values, writes and sends them, if it may lend.
+pub(crate) fn put_if<
+    T: Words + ZeroCopySend + Default,
+    U: Copy + ZeroCopySend + Default,
+    B: PublisherHandlers,
+    D: SubscriberHandler,
+>(
+    hub: &mut Hub<T, U, B, D>,
+    alloc: Global,
+    publisher: &slice::Publisher<T, U>,
+    values: &[T],
+) -> Option<Result<Sent<T, U>, SendError>>
+    ensures { IsDoneIf (may_lend hub_ports publisher.now.port hub.old) (SendsSlice hub_ports with_hub_ports
+        (publisher_may_degrade (λ handlers. B.degrades handlers)) (publisher_may_decide (λ handlers. B.decides handlers))
+        publisher.now.port values.now) hub.old result hub.new }
+{
+    if !publisher.holds(hub) {
+        return None;
+    }
+    if publisher.is_blocked(hub) {
+        return None;
+    }
+    Some(publisher.send_slice(alloc, hub, values))
+}
+
+// A send is tried again if it waits, else handed back.
+pub(crate) fn retry_if<
+    T: Words + ZeroCopySend + Default,
+    U: Copy + ZeroCopySend + Default,
+    B: PublisherHandlers,
+    D: SubscriberHandler,
+>(
+    hub: &mut Hub<T, U, B, D>,
+    blocked: BlockedSend<T, U>,
+    elapsed_ns: u64,
+) -> Result<Result<Sent<T, U>, SendError>, BlockedSend<T, U>>
+    ensures { IsDoneOrBack (publisher_blocked blocked.port.number (hub_ports blocked.port.domain hub.old)) blocked
+        (RetriesSend hub_ports with_hub_ports (publisher_may_decide (λ handlers. B.decides handlers)) blocked.port elapsed_ns)
+        hub.old result hub.new }
+{
+    if blocked.holds(hub) {
+        Ok(blocked.retry(hub, elapsed_ns))
+    } else {
+        Err(blocked)
+    }
+}
+
+// A subscriber receives, if it stands.
+pub(crate) fn receive_if<
+    T: Words + ZeroCopySend + Default,
+    U: Copy + ZeroCopySend + Default,
+    B: PublisherHandlers,
+    D: SubscriberHandler,
+>(
+    hub: &mut Hub<T, U, B, D>,
+    alloc: Global,
+    subscriber: &slice::Subscriber<T, U>,
+) -> Option<Result<Option<slice::Sample<T, U>>, ReceiveError>>
+    ensures { IsDoneIf (subscriber_stands subscriber.now.port.number (hub_ports subscriber.now.port.domain hub.old))
+        (ReceivesSample hub_ports with_hub_ports (subscriber_may_degrade (λ handler. D.degrades handler)) subscriber.now.port)
+        hub.old result hub.new }
+{
+    if subscriber.holds(hub) {
+        Some(subscriber.receive(alloc, hub))
+    } else {
+        None
+    }
+}
+
+// Whether it is known that all messages fit in vectors, this one too.
+pub(crate) fn newest_is_known<
+    T: Words + ZeroCopySend + Default,
+    U: Copy + ZeroCopySend + Default,
+    B: PublisherHandlers,
+    D: SubscriberHandler,
+>(
+    fit: bool,
+    answer: &Option<Result<Option<slice::Sample<T, U>>, ReceiveError>>,
+    hub: &Hub<T, U, B, D>,
+) -> bool
+    ensures { result ≡ (fit && newest_is_known answer.now hub.now) }
+{
+    match answer {
+        Some(Ok(Some(sample))) => fit && is_known(sample, hub),
+        _ => fit,
+    }
+}
+
+// Whether a message is held, and fits in a vector.
+pub(crate) fn is_known<
+    T: Words + ZeroCopySend + Default,
+    U: Copy + ZeroCopySend + Default,
+    B: PublisherHandlers,
+    D: SubscriberHandler,
+>(sample: &slice::Sample<T, U>, hub: &Hub<T, U, B, D>) -> bool
+    ensures { result ≡ is_known sample.now hub.now }
+{
+    sample.holds(hub) && sample.payload(hub).len() < 9_223_372_036_854_775_808
+}
+
+// The history, where a publisher of this number was asked to send these values.
+pub(crate) fn told_put<T: Words + ZeroCopySend + Default, U: Copy + ZeroCopySend + Default>(
+    history: &History<T>,
+    number: &Number,
+    answer: &Option<Result<Sent<T, U>, SendError>>,
+    values: &[T],
+) -> History<T>
+    ghost sent: { List T }
+    requires { values.now ≡ sent }
+    ensures { result.calls ≡ asked_too (command.Put number.now.value values.now) (told_sent_if answer.now) history.now.calls }
+{
+    let _values = values;
+    let came = put_came(answer);
+    History::told(history, number, &came, &())
+}
+
+// The history that its caller says, where a subscriber of this number received so, and the hub is this then.
+pub(crate) fn told_received<
+    T: Words + ZeroCopySend + Default,
+    U: Copy + ZeroCopySend + Default,
+    B: PublisherHandlers,
+    D: SubscriberHandler,
+>(
+    history: &History<T>,
+    number: &Number,
+    _answer: &Option<Result<Option<slice::Sample<T, U>>, ReceiveError>>,
+    _hub: &Hub<T, U, B, D>,
+) -> History<T>
+    ghost calls: { Calls T }
+    ensures { result.calls ≡ calls }
+{
+    History::told(history, number, &(), &())
+}
+
+// A node of a hub opens a service, or creates it, if it was made; and the history then.
+pub(crate) fn opened<
+    T: Words + ZeroCopySend + Default,
+    U: Copy + ZeroCopySend + Default,
+    B: PublisherHandlers,
+    D: SubscriberHandler,
+>(
+    hub: &mut Hub<T, U, B, D>,
+    history: &History<T>,
+    alloc: Global,
+    node: u64,
+    name: ServiceName,
+    options: &PublishSubscribeOptions,
+    attributes: AttributeVerifier,
+) -> (
+    Option<Result<PortFactory<PublishSubscribe>, PublishSubscribeOpenOrCreateError>>,
+    History<T>,
+)
+    ghost required: { Required }
+    requires attributes { attributes ≡ required }
+    ensures told { result.1.calls ≡ calls_opened node name options.now required
+        (as_made (λ it. made_factory.PublishSubscribe it) result.0) history.now.calls }
+    ensures opens { OpensIf (detail FixedSize T.name T.size T.alignment) (detail FixedSize U.name U.size U.alignment)
+        (types_of T.name T.size T.alignment U.name U.size U.alignment) node name options.now required history.now.calls.factories hub.old
+        (as_made (λ it. made_factory.PublishSubscribe it) result.0) hub.new }
+{
+    let answer = open_if(hub, alloc, node, name, options, attributes);
+    let history = History::told(history, &(node, name, *options), &answer, &());
+    (answer, history)
+}
+
+// A node opens a service, or creates it, if that node was made.
+pub(crate) fn open_if<
+    T: Words + ZeroCopySend + Default,
+    U: Copy + ZeroCopySend + Default,
+    B: PublisherHandlers,
+    D: SubscriberHandler,
+>(
+    hub: &mut Hub<T, U, B, D>,
+    alloc: Global,
+    node: u64,
+    name: ServiceName,
+    options: &PublishSubscribeOptions,
+    attributes: AttributeVerifier,
+) -> Option<Result<PortFactory<PublishSubscribe>, PublishSubscribeOpenOrCreateError>>
+    ensures { (table : FactoryTable) → OpensIf (detail FixedSize T.name T.size T.alignment) (detail FixedSize U.name U.size U.alignment)
+        (types_of T.name T.size T.alignment U.name U.size U.alignment) node name options.now attributes table hub.old
+        (as_made (λ it. made_factory.PublishSubscribe it) result) hub.new }
+{
+    if !hub.has_node(node) {
+        return None;
+    }
+    let builder = Builder::of_hub(hub.id(), node, name);
+    Some(opens_or_creates(hub, alloc, builder, options, attributes))
+}
+
+// A node opens a service, or creates it.
+pub(crate) fn opens_or_creates<
+    T: Words + ZeroCopySend + Default,
+    U: Copy + ZeroCopySend + Default,
+    B: PublisherHandlers,
+    D: SubscriberHandler,
+>(
+    hub: &mut Hub<T, U, B, D>,
+    alloc: Global,
+    builder: Builder,
+    options: &PublishSubscribeOptions,
+    attributes: AttributeVerifier,
+) -> Result<PortFactory<PublishSubscribe>, PublishSubscribeOpenOrCreateError>
+    requires { builder.hub ≡ hub.old.table.id }
+    ensures opens { OpensOrCreates (detail FixedSize T.name T.size T.alignment) (detail FixedSize U.name U.size U.alignment)
+        (types_of T.name T.size T.alignment U.name U.size U.alignment) builder.node builder.name options.now
+        attributes hub.old
+        (result_map_both (λ factory. (factory.service.membership, factory.owner)) (λ error. error) result) hub.new }
+    ensures form { IfOk result (λ factory. HasForm factory.service.membership.service.description) }
+{
+    let requirement = publish_subscribe(options, message_types::<T, U>());
+    let asked = builder.with_requirement::<PublishSubscribe>(requirement);
+    let answer = opens_as_asked(hub, alloc, asked, attributes);
+    shows_form(&answer);
+    answer
+}
+
+// A service of a pattern is opened, or created, as a builder asks.
+fn opens_as_asked<P: Negotiated, T: Words + ZeroCopySend, U: Copy + ZeroCopySend, B: Drop, D: Drop>(
+    hub: &mut Hub<T, U, B, D>,
+    alloc: Global,
+    builder: ServiceBuilder<P>,
+    attributes: AttributeVerifier,
+) -> Result<PortFactory<P>, P::OpenOrCreateError>
+    requires { builder.hub ≡ hub.old.table.id }
+    ensures { OpensInHub (detail FixedSize T.name T.size T.alignment) (detail FixedSize U.name U.size U.alignment)
+        (λ was_new. P.open_or_create_error (lacking_either was_new))
+        (λ before came after. Either SteppedSight before.table.id (service_hash_of P.pattern builder.name) builder.node
+        (λ given. P.verdict (P.with_attributes builder.requirement attributes) given)
+        (agreement builder.name (service_hash_of P.pattern builder.name)
+        (P.settings (P.adjusted (P.asked (P.with_attributes builder.requirement attributes))))
+        (P.attributes (P.with_attributes builder.requirement attributes)).pairs)
+        (P.IsWithinLimits (P.adjusted (P.asked (P.with_attributes builder.requirement attributes))))
+        (P.IsHistoryTooLong (P.adjusted (P.asked (P.with_attributes builder.requirement attributes)))) P.open_or_create_error
+        before came after) [] hub.old
+        (result_map_both (λ factory. (factory.service.membership, factory.owner)) (λ error. error) result) hub.new }
+{
+    builder.open_or_create_with_attributes_in(alloc, attributes, hub, Vec::new(alloc))
+}
+
+// The description of a factory is one, whoever agreed on it.
+pub(crate) fn shows_form<E>(answer: &Result<PortFactory<PublishSubscribe>, E>)
+    ensures { IfOk answer.now (λ factory. HasForm factory.service.membership.service.description) }
+{
+    if let Ok(factory) = answer {
+        factory.description();
+    }
+}
+
+// The domain of a factory's ports.
+pub(crate) fn domain_of(factory: &PortFactory<PublishSubscribe>) -> DomainId
+    ensures { result ≡ domain_of_factory (factory.now.service.membership, factory.now.owner) }
+{
+    DomainId {
+        hub: factory.hub(),
+        service: factory.number(),
+    }
+}
+
+// Whose a factory's ports are.
+pub(crate) fn owner_of(factory: &PortFactory<PublishSubscribe>) -> PortOwner
+    ensures { result ≡ owner_of_factory (factory.now.service.membership, factory.now.owner) }
+{
+    PortOwner {
+        number: factory.owner(),
+        node_id: factory.node(),
+    }
+}
+
+// What a publisher of slices is made with.
+pub(crate) fn publisher_config(owner: PortOwner, options: &PublisherOptions) -> PublisherConfig
+    ensures { result ≡ publisher_config owner options.now }
+{
+    let defaults = PublisherSettings::default();
+    PublisherConfig {
+        owner,
+        max_loaned_samples: most_loans(options),
+        values: first_length(options),
+        unit: 1,
+        allocation: options.allocation_strategy.unwrap_or(defaults.allocation),
+        first_sequence: defaults.first_sequence,
+    }
+}
+
+// How many values a loan may have at first.
+pub(crate) fn first_length(options: &PublisherOptions) -> usize
+    ensures { result ≡ unwrap_or options.now.initial_max_slice_len publisher_defaults.initial_max_slice_len }
+{
+    match options.initial_max_slice_len {
+        Some(length) => length as usize,
+        None => PublisherSettings::default().initial_max_slice_len,
+    }
+}
+
+// What a subscriber is made with.
+pub(crate) fn subscriber_config(owner: PortOwner, options: &SubscriberOptions) -> SubscriberConfig
+    ensures { result ≡ subscriber_config owner options.now }
+{
+    SubscriberConfig {
+        owner,
+        buffer_size: match options.buffer_size {
+            Some(size) => Some(size as usize),
+            None => None,
+        },
+    }
+}
+
+// How many messages of one publisher may wait for a subscriber of a service.
+pub(crate) fn most_waiting(factory: &PortFactory<PublishSubscribe>) -> usize
+    ensures { (config : StaticConfig) → factory.now.service.membership.service.description.settings ≡ settings.PublishSubscribe config
+        → result ≡ config.subscriber_max_buffer_size }
+{
+    factory.static_config().subscriber_max_buffer_size as usize
+}
+
+// The publisher that came under a number to a domain, as a value.
+pub(crate) fn publisher_of<T: Copy, U: Copy>(
+    domain: DomainId,
+    options: &PublisherOptions,
+    answer: Option<Result<u64, PublisherCreateError>>,
+) -> Option<Result<slice::Publisher<T, U>, PublisherCreateError>>
+    ensures { result ≡ port_made domain (publisher_side options.now) answer }
+{
+    match answer {
+        Some(Ok(number)) => Some(Ok(slice::Publisher::of_port(
+            PortId { domain, number },
+            options
+                .backpressure_strategy
+                .unwrap_or(PublisherSettings::default().strategy),
+            first_length(options),
+        ))),
+        Some(Err(why)) => Some(Err(why)),
+        None => None,
+    }
+}
+
+// The subscriber that came under a number to a domain, as a value.
+pub(crate) fn subscriber_of<T: Copy, U: Copy>(
+    domain: DomainId,
+    options: &SubscriberOptions,
+    most: usize,
+    answer: Option<Result<u64, SubscriberCreateError>>,
+) -> Option<Result<slice::Subscriber<T, U>, SubscriberCreateError>>
+    ensures { result ≡ port_made domain (subscriber_side most options.now) answer }
+{
+    match answer {
+        Some(Ok(number)) => Some(Ok(slice::Subscriber::of_port(
+            PortId { domain, number },
+            match options.buffer_size {
+                Some(size) => size as usize,
+                None => most,
+            },
+        ))),
+        Some(Err(why)) => Some(Err(why)),
+        None => None,
+    }
+}
+
+// What was made, with the number by which it goes.
+pub(crate) fn with_number<S, E>(
+    answer: Option<Result<S, E>>,
+    number: Number,
+) -> Option<Result<Named<S>, E>>
+    ensures { result ≡ named_by number answer }
+{
+    match answer {
+        Some(Ok(it)) => Some(Ok(Named { it, number })),
+        Some(Err(why)) => Some(Err(why)),
+        None => None,
+    }
+}
+
+// What was received, with the number by which it goes.
+pub(crate) fn received_with_number<S, E>(
+    answer: Option<Result<Option<S>, E>>,
+    number: Number,
+) -> Option<Result<Option<Named<S>>, E>>
+    ensures { result ≡ received_by number answer }
+{
+    match answer {
+        Some(Ok(Some(it))) => Some(Ok(Some(Named { it, number }))),
+        Some(Ok(None)) => Some(Ok(None)),
+        Some(Err(why)) => Some(Err(why)),
+        None => None,
+    }
+}
+
+// What was handed back, with the number by which it goes.
+pub(crate) fn back_with_number<S>(left: Result<(), S>, number: Number) -> Result<(), Named<S>>
+    ensures { result ≡ back_by number left }
+{
+    match left {
+        Ok(()) => Ok(()),
+        Err(it) => Err(Named { it, number }),
+    }
+}
+
+// What a send came to, without the send that waits.
+fn put_came<T: Copy, U: Copy>(
+    answer: &Option<Result<Sent<T, U>, SendError>>,
+) -> Option<Result<Option<usize>, SendError>>
+    ensures { told_came result ≡ told_sent_if answer.now }
+{
+    match answer {
+        Some(Ok(Sent::Delivered(count))) => Some(Ok(Some(*count))),
+        Some(Ok(Sent::Blocked(_))) => Some(Ok(None)),
+        Some(Err(why)) => Some(Err(*why)),
+        None => None,
+    }
+}
+
+// What a retry came to, without the send that waits.
+pub(crate) fn retry_came<T: Copy, U: Copy>(
+    answer: &Result<Result<Sent<T, U>, SendError>, BlockedSend<T, U>>,
+) -> Option<Result<Option<usize>, SendError>>
+    ensures { told_came result ≡ told_sent_if (result_ok answer.now) }
+{
+    match answer {
+        Ok(Ok(Sent::Delivered(count))) => Some(Ok(Some(*count))),
+        Ok(Ok(Sent::Blocked(_))) => Some(Ok(None)),
+        Ok(Err(why)) => Some(Err(*why)),
+        Err(_) => None,
+    }
+}
+
+// Whether a port left.
+pub(crate) fn has_left<S>(left: &Result<(), S>) -> bool
+    ensures { result ≡ is_ok left.now }
+{
+    left.is_ok()
+}

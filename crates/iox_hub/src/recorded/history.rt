@@ -1,0 +1,30 @@
+//! What was asked of a hub, and what it answered, which only proofs read.
+ghost use Rattle.std.specs.Prelude.{◌≡◌};
+ghost use Rattle.iox_hub.specs.Recorded.{Calls};
+
+use std::marker::{Model, PhantomData};
+
+/// What was asked of a hub, and what it answered. It takes no memory, and nothing is done with it at run time.
+///
+/// This port's own.
+#[derive(Drop)]
+pub(crate) struct History<T> {
+    of: PhantomData<T>,
+    pub(crate) ghost calls: { Calls T },
+}
+
+impl<T> Model for History<T> {
+    ghost use Rattle.std.specs.Borrow.{ftrue};
+
+    ghost also_owns = { λ history. ftrue };
+}
+
+impl<T> History<T> {
+    // The history that its caller says: from what was before, what was asked, what was answered, and what the hub is then.
+    pub(crate) fn told<A, B, C, D>(_before: &A, _asked: &B, _answer: &C, _after: &D) -> History<T>
+        ghost calls: { Calls T }
+        ensures { result.calls ≡ calls }
+    {
+        History { of: PhantomData }
+    }
+}

@@ -1,0 +1,15 @@
+//! What a recorded hub comes to, in other words than its calls. Each law is the contract of a function that does nothing.
+ghost use Rattle.iox_machine.specs.Choices.{as_named};
+ghost use Rattle.iox_hub.specs.RecordedLaws.{ReadsAsReceived};
+
+use iox_hub_commands::{FixedDegradation, FixedHandlers};
+use iox_machine::samples_read_the_same;
+
+/// What is read of a sample is what was received, whatever was asked between. `RecordedHub::payload` says that the machine may answer so to
+/// the whole record with the command `Read` behind it; the receive is one of the record's commands, with as many answers before it as
+/// commands.
+pub fn samples_read_as_received<T: Default>()
+    ensures { ReadsAsReceived (as_named T.is_default) }
+{
+    samples_read_the_same::<T, FixedHandlers, FixedDegradation>();
+}

@@ -1,0 +1,39 @@
+//! Ports, factories and samples with the numbers by which the machine has them.
+ghost use Rattle.std.specs.Prelude.{ℕ, ◌≡◌};
+
+use std::marker::Model;
+
+/// A number that only proofs read. It takes no memory.
+///
+/// This port's own.
+#[derive(Drop)]
+pub struct Number {
+    pub ghost value: { ℕ },
+}
+
+impl Model for Number {
+    ghost use Rattle.std.specs.Borrow.{ftrue};
+
+    ghost also_owns = { λ number. ftrue };
+}
+
+impl Number {
+    // The number that its caller says, from what is at hand.
+    pub(crate) fn given<A>(_from: &A) -> Number
+        ghost value: { ℕ }
+        ensures { result.value ≡ value }
+    {
+        Number {}
+    }
+}
+
+/// A port, a factory or a sample of a recorded hub, and its number there, which only proofs read.
+///
+/// This port's own.
+#[derive(Drop)]
+pub struct Named<S> {
+    /// What it is.
+    pub it: S,
+    /// By which number commands name it.
+    pub number: Number,
+}

@@ -1,0 +1,487 @@
+//! A hub that records what is asked of it, and what it answers, for proofs alone.
+ghost use Rattle.std.specs.Prelude.{◌≡◌, ◌+◌, ◌<◌, ◌^◌, ◌++◌, ◌∷◌, [], true, false, Some, IfSome, IfOk, IfErr, IsOkAnd, IsSome};
+ghost use Rattle.std.specs.Prelude.{MatchResult, length};
+ghost use Rattle.std.specs.List.{AllByRecursion};
+ghost use Rattle.std.specs.Global.{Vec};
+ghost use Rattle.std.specs.Result.{result_ok};
+ghost use Rattle.std.specs.Vec.{vec_items};
+ghost use Rattle.iox_command.specs.declared.command.Command.TheVariants as command;
+ghost use Rattle.iox_command.specs.declared.port.PortNumber.TheVariants as port_number;
+ghost use Rattle.iox_command.specs.declared.reply.Reply.TheVariants as reply;
+ghost use Rattle.iox_command.specs.declared.refusal.Refusal.TheVariants as refusal;
+ghost use Rattle.iox_command.specs.declared.service.ServiceOptions.TheVariants as service_options;
+ghost use Rattle.iox_container.specs.NumberTable.{inserted, removed, value_at};
+ghost use Rattle.iox_hub_commands.specs.Asked.{types_of};
+ghost use Rattle.iox_hub_commands.specs.Replies.{given_up_reply};
+ghost use Rattle.iox_hub_commands.specs.DescribeSettings.declared.static_config.Settings.TheVariants as settings;
+ghost use Rattle.iox_hub_commands.specs.DescribeSettings.declared.static_config.publish_subscribe.StaticConfig.{StaticConfig};
+ghost use Rattle.iox_hub_commands.specs.Tables.{no_numbers, port_under};
+ghost use Rattle.iox_hub_commands.specs.declared.services.made.MadeFactory.TheVariants as made_factory;
+ghost use Rattle.iox_machine.specs.Choices.{as_named};
+ghost use Rattle.iox_machine.specs.Run.{Answers};
+ghost use Rattle.iox_hub.specs.Recorded.{AreFollowed, asked_too};
+ghost use Rattle.iox_hub.specs.RecordedCalls.{IsReceived, answered_as, told_send};
+ghost use Rattle.iox_hub.specs.RecordedLaws.{WasPut};
+ghost use Rattle.iox_hub.specs.RecordedNames.{WaitsAt};
+ghost use Rattle.iox_hub.specs.RecordedNames.{publisher_side, subscriber_side};
+
+use crate::recorded::calls;
+use crate::recorded::history::History;
+use crate::recorded::named::{Named, Number};
+use iox_command::{HubError, PublishSubscribeOptions, PublisherOptions, SubscriberOptions};
+use iox_delivery::kind::Slice;
+use iox_delivery::{BlockedSend, Sent, slices as slice};
+use iox_describe::pattern::PublishSubscribe;
+use iox_describe_base::{AttributeVerifier, ServiceName, ZeroCopySend};
+use iox_domain::calls::{create_publisher, create_subscriber};
+use iox_domain_values::{PublisherCreateError, ReceiveError, SendError, SubscriberCreateError};
+use iox_hub_base::{Hub, HubConfig, NodeHandle, PortFactory};
+use iox_hub_commands::{
+    FixedDegradation, FixedHandlers, NamedSlots, PublisherHandlers, SubscriberHandler,
+    publisher_handlers, subscriber_handler,
+};
+use iox_hub_machine::typed::{
+    typed_calls_are_a_run, typed_nodes_are_steps, typed_openings_are_steps,
+    typed_publishers_come_by_steps, typed_publishers_follow_by_steps, typed_puts_are_steps,
+    typed_receives_are_steps, typed_samples_are_read_by_steps, typed_sends_go_on_by_steps,
+    typed_subscribers_come_by_steps, typed_subscribers_follow_by_steps, what_is_held_may_be_used,
+};
+use iox_machine::messages_were_sent;
+use iox_negotiate_base::errors::PublishSubscribeOpenOrCreateError;
+use iox_queues_base::Words;
+use std::alloc::Global;
+use std::marker::Model;
+
+/// A hub of slices, whose proofs know what was asked of it, in the words of commands, and what it answered.
+///
+/// Each call says which command it is, and what it is answered: one that can't be made is told as a command that is skipped. That these are
+/// a run of the machine says `answers_as_machine`. At run time it is a hub, and whether all that was received fits in a vector. This port's
+/// own.
+#[derive(Drop)]
+pub struct RecordedHub<
+    T: Words + ZeroCopySend + Default,
+    U: Copy + ZeroCopySend + Default,
+    B: PublisherHandlers = FixedHandlers,
+    D: SubscriberHandler = FixedDegradation,
+> {
+    hub: Hub<T, U, B, D>,
+    history: History<T>,
+    // Whether it is known that each message that was received fits in a vector.
+    fit: bool,
+}
+
+impl<
+    T: Words + ZeroCopySend + Default,
+    U: Copy + ZeroCopySend + Default,
+    B: PublisherHandlers,
+    D: SubscriberHandler,
+> Model for RecordedHub<T, U, B, D> {
+    ghost use Rattle.iox_domain.specs.Fitting.{asked_types};
+    ghost use Rattle.iox_hub_commands.specs.DescribeBase.Detail.{detail};
+    ghost use Rattle.iox_hub_commands.specs.DescribeBase.declared.type_detail.TypeVariant.TheVariants.{FixedSize, Dynamic};
+    ghost use Rattle.iox_hub.specs.Recorded.{HubRecord};
+    ghost use Rattle.iox_hub.specs.Recording.{IsRecorded, newest_there};
+
+    ghost Value = { HubRecord T };
+
+    ghost view = { λ recorded. record {
+      calls = recorded.history.calls;
+      newest = newest_there recorded.history.calls recorded.hub;
+    } };
+
+    ghost invariant = { λ recorded. IsRecorded (detail FixedSize T.name T.size T.alignment) (detail FixedSize U.name U.size U.alignment)
+        (asked_types Dynamic (detail FixedSize T.name T.size T.alignment) (detail FixedSize U.name U.size U.alignment)) T.is_default
+        U.is_default B.fixed (λ handlers. B.degrades handlers) (λ handlers. B.decides handlers) D.fixed (λ handler. D.degrades handler)
+        recorded.fit recorded.history.calls recorded.hub };
+}
+
+impl<
+    T: Words + ZeroCopySend + Default,
+    U: Copy + ZeroCopySend + Default,
+    B: PublisherHandlers,
+    D: SubscriberHandler,
+> RecordedHub<T, U, B, D> {
+    /// A hub without nodes and services, of which nothing was asked. It takes no memory.
+    /// Example: `let mut hub = RecordedHub::<u64, ()>::new(alloc, config);`
+    pub fn new(alloc: Global, config: HubConfig) -> Self
+        ensures begun { result.calls ≡ record {
+          asked = [];
+          answers = [];
+          made = record { publishers = no_numbers; subscribers = no_numbers; loans = no_numbers; samples = no_numbers };
+          factories = no_numbers;
+          received = [];
+          config = config;
+        } }
+    {
+        typed_calls_are_a_run::<T, U, B, D>();
+        RecordedHub {
+            hub: Hub::new(alloc, config),
+            history: History::told(&config, &(), &(), &()),
+            fit: true,
+        }
+    }
+
+    /// Nothing happens. What was asked and answered is a run of a new machine, by the premises in the definition.
+    /// Example: `hub.answers_as_machine();`
+    pub fn answers_as_machine(&self)
+        ensures answers { AreFollowed B.fixed (λ handlers. B.degrades handlers) (λ handlers. B.decides handlers) D.fixed
+            (λ handler. D.degrades handler) self.now.calls
+            → Answers (types_of T.name T.size T.alignment U.name U.size U.alignment)
+            (as_named T.is_default) self.now.calls.config.expired_connection_buffer self.now.calls.asked false self.now.calls.answers }
+    {
+        let _ = &self.hub;
+    }
+
+    /// Whether it is known that each message that was received fits in a vector, one of the premises. By `AreFollowed` it is: a slice of
+    /// 2^63 values or more was never received, and each sample that came was held then.
+    /// Example: `let is_known = hub.received_fit();`
+    pub fn received_fit(&self) -> bool
+        ensures fit { result ≡ true → AllByRecursion (λ values. length values < 2 ^ 63) self.now.calls.received }
+        ensures known { AreFollowed B.fixed (λ handlers. B.degrades handlers) (λ handlers. B.decides handlers) D.fixed
+            (λ handler. D.degrades handler) self.now.calls → result ≡ true }
+    {
+        self.fit
+    }
+
+    /// One more node: the command `Node`. It is always made.
+    /// Example: `let Ok(node) = hub.new_node() else { return None; };`
+    pub fn new_node(&mut self) -> Result<NodeHandle, HubError>
+        ensures node { IsOkAnd result (λ node. self.new.calls ≡ asked_too command.Node (reply.NodeMade node.number) self.old.calls) }
+        ensures here { IfOk result (λ node. node.hub ≡ self.new.calls.config.id) }
+    {
+        typed_calls_are_a_run::<T, U, B, D>();
+        typed_nodes_are_steps::<T, U, B, D>();
+        let answer = self.hub.new_node();
+        self.history = History::told(&self.history, &(), &answer, &());
+        answer
+    }
+
+    /// A node opens the service of a name, as the options ask, or creates it where none stands: the command `OpenOrCreate`, with no steps
+    /// of nodes outside the hub. The node is one of this hub. None, and the command is skipped, where none of its number was made.
+    ///
+    /// Refused as the machine refuses it.
+    /// Example: `let Some(Ok(service)) = hub.open_or_create(alloc, &node, name, &options, AttributeVerifier::new()) else { return None; };`
+    pub fn open_or_create(
+        &mut self,
+        alloc: Global,
+        node: &NodeHandle,
+        name: ServiceName,
+        options: &PublishSubscribeOptions,
+        attributes: AttributeVerifier,
+    ) -> Option<Result<Named<PortFactory<PublishSubscribe>>, PublishSubscribeOpenOrCreateError>>
+        requires { node.now.hub ≡ self.old.calls.config.id }
+        ensures opened { self.new.calls ≡ answered_as result
+            (command.OpenOrCreate node.now.number name (service_options.PublishSubscribe options.now) attributes [])
+            (λ factory. reply.FactoryMade self.old.calls.factories.next) refusal.PublishSubscribeOpenOrCreate
+            (λ factory calls. record calls { factories = inserted calls.factories (made_factory.PublishSubscribe factory.it) })
+            self.old.calls }
+        ensures number { IfSome result (λ answer. IfOk answer (λ factory. (factory.number.value ≡ self.old.calls.factories.next)
+            × (value_at self.new.calls.factories factory.number.value ≡ Some (made_factory.PublishSubscribe factory.it)))) }
+    {
+        typed_calls_are_a_run::<T, U, B, D>();
+        typed_openings_are_steps::<T, U, B, D>();
+        let number = Number::given(&self.history);
+        let (answer, history) = calls::opened(
+            &mut self.hub,
+            &self.history,
+            alloc,
+            node.number(),
+            name,
+            options,
+            attributes,
+        );
+        self.history = history;
+        calls::with_number(answer, number)
+    }
+
+    /// A publisher of a service comes, as the options ask: the command `Publisher`. None, and the command is skipped, where the service
+    /// isn't here.
+    ///
+    /// Refused as the machine refuses it.
+    /// Example: `let Some(Ok(publisher)) = hub.publisher(alloc, &service, &options) else { return None; };`
+    pub fn publisher(
+        &mut self,
+        alloc: Global,
+        factory: &Named<PortFactory<PublishSubscribe>>,
+        options: &PublisherOptions,
+    ) -> Option<Result<Named<slice::Publisher<T, U>>, PublisherCreateError>>
+        requires { value_at self.old.calls.factories factory.now.number.value ≡ Some (made_factory.PublishSubscribe factory.now.it) }
+        ensures made { self.new.calls ≡ answered_as result (command.Publisher factory.now.number.value options.now)
+            (λ publisher. reply.PublisherMade self.old.calls.made.publishers.next) refusal.Publisher
+            (λ publisher calls. record calls {
+              made = record calls.made {
+                publishers = inserted calls.made.publishers (record { port = publisher.it.port; holds_slices = true });
+              };
+            }) self.old.calls }
+        ensures number { IfSome result (λ answer. IfOk answer (λ publisher.
+            (publisher.number.value ≡ self.old.calls.made.publishers.next)
+            × (value_at self.new.calls.made.publishers publisher.number.value
+            ≡ Some (record { port = publisher.it.port; holds_slices = true }))
+            × (publisher.it.side ≡ publisher_side options.now))) }
+    {
+        let domain = calls::domain_of(&factory.it);
+        let number = Number::given(&self.history);
+        let config = calls::publisher_config(calls::owner_of(&factory.it), options);
+        let slots = NamedSlots {
+            slots: options.preallocated_samples,
+        };
+        typed_calls_are_a_run::<T, U, B, D>();
+        typed_publishers_come_by_steps::<T, U, NamedSlots, B, D>(&slots);
+        let answer = create_publisher(
+            &mut self.hub,
+            alloc,
+            domain,
+            config,
+            U::default(),
+            &slots,
+            publisher_handlers(options),
+        );
+        self.history = History::told(&self.history, &factory.number, &answer, &(domain, *options));
+        calls::with_number(calls::publisher_of(domain, options, answer), number)
+    }
+
+    /// A subscriber of a service comes, as the options ask: the command `Subscriber`. None, and the command is skipped, where the service
+    /// isn't here.
+    ///
+    /// Refused as the machine refuses it.
+    /// Example: `let Some(Ok(subscriber)) = hub.subscriber(alloc, &service, &options) else { return None; };`
+    pub fn subscriber(
+        &mut self,
+        alloc: Global,
+        factory: &Named<PortFactory<PublishSubscribe>>,
+        options: &SubscriberOptions,
+    ) -> Option<Result<Named<slice::Subscriber<T, U>>, SubscriberCreateError>>
+        requires { value_at self.old.calls.factories factory.now.number.value ≡ Some (made_factory.PublishSubscribe factory.now.it) }
+        ensures made { self.new.calls ≡ answered_as result (command.Subscriber factory.now.number.value options.now)
+            (λ subscriber. reply.SubscriberMade self.old.calls.made.subscribers.next) refusal.Subscriber
+            (λ subscriber calls. record calls {
+              made = record calls.made {
+                subscribers = inserted calls.made.subscribers subscriber.it.port;
+              };
+            }) self.old.calls }
+        ensures number { IfSome result (λ answer. IfOk answer (λ subscriber.
+            (subscriber.number.value ≡ self.old.calls.made.subscribers.next)
+            × (value_at self.new.calls.made.subscribers subscriber.number.value ≡ Some subscriber.it.port))) }
+        ensures side { (most : StaticConfig)
+            → factory.now.it.service.membership.service.description.settings ≡ settings.PublishSubscribe most
+            → IfSome result (λ answer. IfOk answer (λ subscriber.
+            subscriber.it.side ≡ subscriber_side most.subscriber_max_buffer_size options.now)) }
+    {
+        let domain = calls::domain_of(&factory.it);
+        let number = Number::given(&self.history);
+        typed_calls_are_a_run::<T, U, B, D>();
+        typed_subscribers_come_by_steps::<T, U, B, D>();
+        let config = calls::subscriber_config(calls::owner_of(&factory.it), options);
+        let answer = create_subscriber(
+            &mut self.hub,
+            alloc,
+            domain,
+            config,
+            subscriber_handler(options),
+        );
+        self.history = History::told(&self.history, &factory.number, &answer, &(domain, *options));
+        calls::with_number(
+            calls::subscriber_of(domain, options, calls::most_waiting(&factory.it), answer),
+            number,
+        )
+    }
+
+    /// A publisher lends slots for these values, writes and sends them: the command `Put`. None, and the command is skipped, where the
+    /// publisher doesn't stand, or a send of it waits.
+    ///
+    /// Refused as the machine refuses it.
+    /// Example: `let sent = hub.send_slice(alloc, &publisher, &[7, 8])?;`
+    pub fn send_slice(
+        &mut self,
+        alloc: Global,
+        publisher: &Named<slice::Publisher<T, U>>,
+        values: &[T],
+    ) -> Option<Result<Sent<T, U>, SendError>>
+        requires { port_under (value_at self.old.calls.made.publishers publisher.now.number.value) ≡ Some publisher.now.it.port }
+        ensures sent { self.new.calls ≡ asked_too (command.Put publisher.now.number.value values.now) (told_send result) self.old.calls }
+        ensures waits { IfSome result (λ answer. IfOk answer (WaitsAt publisher.now.it.port)) }
+    {
+        typed_calls_are_a_run::<T, U, B, D>();
+        typed_puts_are_steps::<T, U, Slice, B, D>();
+        let answer = calls::put_if(&mut self.hub, alloc, &publisher.it, values);
+        self.history = calls::told_put(&self.history, &publisher.number, &answer, values);
+        answer
+    }
+
+    /// A send of a publisher that waits is tried again: the command `Retry`. It is handed back, and the command is skipped, where none
+    /// waits.
+    ///
+    /// Refused as the machine refuses it.
+    /// Example: `let sent = hub.retry(&publisher, blocked, 1_000)?;`
+    pub fn retry(
+        &mut self,
+        publisher: &Named<slice::Publisher<T, U>>,
+        blocked: BlockedSend<T, U>,
+        elapsed_ns: u64,
+    ) -> Result<Result<Sent<T, U>, SendError>, BlockedSend<T, U>>
+        requires made { port_under (value_at self.old.calls.made.publishers publisher.now.number.value) ≡ Some publisher.now.it.port }
+        requires waits { blocked.port ≡ publisher.now.it.port }
+        ensures sent { self.new.calls ≡ asked_too (command.Retry publisher.now.number.value elapsed_ns) (told_send (result_ok result))
+            self.old.calls }
+        ensures waits { MatchResult result (λ answer. IfOk answer (WaitsAt publisher.now.it.port)) (λ back. back ≡ blocked) }
+    {
+        typed_calls_are_a_run::<T, U, B, D>();
+        typed_sends_go_on_by_steps::<T, U, Slice, B, D>();
+        let answer = calls::retry_if(&mut self.hub, blocked, elapsed_ns);
+        let came = calls::retry_came(&answer);
+        self.history = History::told(&self.history, &publisher.number, &came, &elapsed_ns);
+        answer
+    }
+
+    /// A send of a publisher that waits is given up: the command `GiveUp`. The answer is to how many it went; None, and the command is
+    /// skipped, where none waits.
+    /// Example: `let delivered = hub.give_up(&publisher, blocked)?;`
+    pub fn give_up(
+        &mut self,
+        publisher: &Named<slice::Publisher<T, U>>,
+        blocked: BlockedSend<T, U>,
+    ) -> Option<usize>
+        requires made { port_under (value_at self.old.calls.made.publishers publisher.now.number.value) ≡ Some publisher.now.it.port }
+        requires waits { blocked.port ≡ publisher.now.it.port }
+        ensures given_up { self.new.calls ≡ asked_too (command.GiveUp publisher.now.number.value) (given_up_reply result) self.old.calls }
+    {
+        typed_calls_are_a_run::<T, U, B, D>();
+        typed_sends_go_on_by_steps::<T, U, Slice, B, D>();
+        let answer = blocked.drop_with(&mut self.hub);
+        self.history = History::told(&self.history, &publisher.number, &answer, &());
+        answer
+    }
+
+    /// A subscriber receives the next message, if one waits: the command `Receive`. None, and the command is skipped, where the subscriber
+    /// doesn't stand: never by `AreFollowed`.
+    ///
+    /// Refused as the machine refuses it.
+    /// Example: `let Some(Ok(Some(sample))) = hub.receive(alloc, &subscriber) else { return None; };`
+    pub fn receive(
+        &mut self,
+        alloc: Global,
+        subscriber: &Named<slice::Subscriber<T, U>>,
+    ) -> Option<Result<Option<Named<slice::Sample<T, U>>>, ReceiveError>>
+        requires { value_at self.old.calls.made.subscribers subscriber.now.number.value ≡ Some subscriber.now.it.port }
+        ensures received { IsReceived self.new.newest subscriber.now.number.value result self.old.calls self.new.calls }
+        ensures number { IfSome result (λ answer. IfOk answer (λ some. IfSome some (λ sample.
+            (sample.number.value ≡ self.old.calls.made.samples.next)
+            × (value_at self.new.calls.made.samples sample.number.value
+            ≡ Some (record { port = sample.it.port; taken = sample.it.taken }))))) }
+        ensures stands { AreFollowed B.fixed (λ handlers. B.degrades handlers) (λ handlers. B.decides handlers) D.fixed
+            (λ handler. D.degrades handler) self.old.calls → IsSome result }
+    {
+        typed_calls_are_a_run::<T, U, B, D>();
+        typed_receives_are_steps::<T, U, Slice, B, D>();
+        what_is_held_may_be_used::<T, U, B, D>();
+        let number = Number::given(&self.history);
+        let answer = calls::receive_if(&mut self.hub, alloc, &subscriber.it);
+        self.fit = calls::newest_is_known(self.fit, &answer, &self.hub);
+        self.history = calls::told_received(&self.history, &subscriber.number, &answer, &self.hub);
+        calls::received_with_number(answer, number)
+    }
+
+    /// The values of a sample that is held: what the command `Read` is answered. They were put before, and that send began. None where the
+    /// sample isn't held: never by `AreFollowed`, whatever ports left. No call is recorded.
+    /// Example: `let values = hub.payload(&sample)?;`
+    pub fn payload(&self, sample: &Named<slice::Sample<T, U>>) -> Option<&[T]>
+        requires { value_at self.now.calls.made.samples sample.now.number.value
+            ≡ Some (record { port = sample.now.it.port; taken = sample.now.it.taken }) }
+        ensures gives { IfSome result (λ values. sample.now.number.value + 1 ≡ self.now.calls.made.samples.next
+            → values.now ≡ self.now.newest) }
+        ensures reads { IfSome result (λ values. AreFollowed B.fixed (λ handlers. B.degrades handlers) (λ handlers. B.decides handlers)
+            D.fixed (λ handler. D.degrades handler)
+            (record self.now.calls { asked = self.now.calls.asked ++ command.Read sample.now.number.value ∷ [] })
+            → length values.now < 2 ^ 63 → (told : Vec T) × (vec_items told ≡ values.now)
+            × Answers (types_of T.name T.size T.alignment U.name U.size U.alignment)
+            (as_named T.is_default) self.now.calls.config.expired_connection_buffer
+            (self.now.calls.asked ++ command.Read sample.now.number.value ∷ []) false
+            (self.now.calls.answers ++ reply.Values told ∷ [])) }
+        ensures put { IfSome result (λ values. AreFollowed B.fixed (λ handlers. B.degrades handlers) (λ handlers. B.decides handlers)
+            D.fixed (λ handler. D.degrades handler)
+            (record self.now.calls { asked = self.now.calls.asked ++ command.Read sample.now.number.value ∷ [] })
+            → length values.now < 2 ^ 63 → WasPut values.now self.now.calls.asked self.now.calls.answers) }
+        ensures held { AreFollowed B.fixed (λ handlers. B.degrades handlers) (λ handlers. B.decides handlers) D.fixed
+            (λ handler. D.degrades handler) self.now.calls → IsSome result }
+    {
+        typed_calls_are_a_run::<T, U, B, D>();
+        typed_samples_are_read_by_steps::<T, U, Slice, B, D>();
+        what_is_held_may_be_used::<T, U, B, D>();
+        messages_were_sent::<T, FixedHandlers, FixedDegradation>();
+        if !sample.it.holds(&self.hub) {
+            return None;
+        }
+        Some(sample.it.payload(&self.hub))
+    }
+
+    /// A sample is released: the command `Release`. It is told as done, and its number is spent. The answer is whether it was held: it was,
+    /// by `AreFollowed`, whatever ports left.
+    /// Example: `hub.release(sample);`
+    pub fn release(&mut self, sample: Named<slice::Sample<T, U>>) -> bool
+        requires { value_at self.old.calls.made.samples sample.number.value
+            ≡ Some (record { port = sample.it.port; taken = sample.it.taken }) }
+        ensures released { self.new.calls ≡ record (asked_too (command.Release sample.number.value) reply.Done self.old.calls) {
+          made = record self.old.calls.made { samples = removed self.old.calls.made.samples sample.number.value };
+        } }
+        ensures held { AreFollowed B.fixed (λ handlers. B.degrades handlers) (λ handlers. B.decides handlers) D.fixed
+            (λ handler. D.degrades handler) self.old.calls → result ≡ true }
+    {
+        typed_calls_are_a_run::<T, U, B, D>();
+        typed_samples_are_read_by_steps::<T, U, Slice, B, D>();
+        what_is_held_may_be_used::<T, U, B, D>();
+        let Named { it, number } = sample;
+        let was_held = it.drop_with(&mut self.hub);
+        self.history = History::told(&self.history, &number, &was_held, &());
+        was_held
+    }
+
+    /// A subscriber leaves: the command `Leave`. It is handed back where it doesn't stand.
+    /// Example: `let stays = hub.end_subscriber(subscriber).err();`
+    pub fn end_subscriber(
+        &mut self,
+        subscriber: Named<slice::Subscriber<T, U>>,
+    ) -> Result<(), Named<slice::Subscriber<T, U>>>
+        requires { value_at self.old.calls.made.subscribers subscriber.number.value ≡ Some subscriber.it.port }
+        ensures back { IfErr result (λ back. back ≡ subscriber) }
+        ensures left { MatchResult result
+            (λ done. self.new.calls
+            ≡ record (asked_too (command.Leave (port_number.Subscriber subscriber.number.value)) reply.Done self.old.calls) {
+              made = record self.old.calls.made { subscribers = removed self.old.calls.made.subscribers subscriber.number.value };
+            })
+            (λ back. self.new.calls
+            ≡ asked_too (command.Leave (port_number.Subscriber subscriber.number.value)) reply.Skipped self.old.calls) }
+    {
+        typed_calls_are_a_run::<T, U, B, D>();
+        typed_subscribers_follow_by_steps::<T, U, Slice, B, D>();
+        let Named { it, number } = subscriber;
+        let left = it.drop_with(&mut self.hub);
+        let gone = calls::has_left(&left);
+        self.history = History::told(&self.history, &number, &gone, &());
+        calls::back_with_number(left, number)
+    }
+
+    /// A publisher leaves: the command `Leave`. It is handed back where it doesn't stand, or a send of it waits.
+    /// Example: `let stays = hub.end_publisher(publisher).err();`
+    pub fn end_publisher(
+        &mut self,
+        publisher: Named<slice::Publisher<T, U>>,
+    ) -> Result<(), Named<slice::Publisher<T, U>>>
+        requires { port_under (value_at self.old.calls.made.publishers publisher.number.value) ≡ Some publisher.it.port }
+        ensures back { IfErr result (λ back. back ≡ publisher) }
+        ensures left { MatchResult result
+            (λ done. self.new.calls
+            ≡ record (asked_too (command.Leave (port_number.Publisher publisher.number.value)) reply.Done self.old.calls) {
+              made = record self.old.calls.made { publishers = removed self.old.calls.made.publishers publisher.number.value };
+            })
+            (λ back. self.new.calls
+            ≡ asked_too (command.Leave (port_number.Publisher publisher.number.value)) reply.Skipped self.old.calls) }
+    {
+        typed_calls_are_a_run::<T, U, B, D>();
+        typed_publishers_follow_by_steps::<T, U, Slice, B, D>();
+        let Named { it, number } = publisher;
+        let left = it.drop_with(&mut self.hub);
+        let gone = calls::has_left(&left);
+        self.history = History::told(&self.history, &number, &gone, &());
+        calls::back_with_number(left, number)
+    }
+}

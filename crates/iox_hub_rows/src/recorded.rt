@@ -1,0 +1,239 @@
+//! A recorded hub, called as a program calls it: its answers, and that what it received is known to fit.
+ghost use Rattle.std.specs.Prelude.{◌≡◌, ◌++◌, ◌∷◌, [], Some, IfSome};
+ghost use Rattle.iox_command.specs.declared.command.Command.TheVariants as command;
+ghost use Rattle.iox_hub_commands.specs.Container.NumberTable.{value_at};
+ghost use Rattle.iox_hub_commands.specs.Tables.{port_under};
+ghost use Rattle.iox_hub_commands.specs.declared.services.made.MadeFactory.TheVariants as made_factory;
+ghost use Rattle.iox_hub.specs.Recorded.{AreFollowed};
+ghost use Rattle.iox_hub.specs.RecordedLaws.{WasPut};
+
+use iox_command::{PublishSubscribeOptions, PublisherOptions, SubscriberOptions};
+use iox_hub::prelude::*;
+use iox_hub::recorded::{Named, RecordedHub};
+use iox_hub_commands::{PublisherHandlers, SubscriberHandler};
+use std::alloc::Global;
+use std::process::Abort;
+
+// A recorded hub of messages of numbers.
+type Recorded = RecordedHub<u64, ()>;
+
+// A service where one message may wait, and none is dropped for a new one.
+const SERVICE: PublishSubscribeOptions = PublishSubscribeOptions {
+    max_subscribers: None,
+    max_publishers: None,
+    max_nodes: None,
+    subscriber_max_buffer_size: Some(1),
+    subscriber_max_borrowed_samples: None,
+    history_size: None,
+    enable_safe_overflow: Some(false),
+    sequence_numbers: None,
+};
+
+// Its sends wait where a mailbox is full.
+const PUBLISHER: PublisherOptions = PublisherOptions {
+    max_loaned_samples: None,
+    backpressure_strategy: Some(BackpressureStrategy::RetryUntilDelivered),
+    preallocated_samples: None,
+    initial_max_slice_len: Some(4),
+    allocation_strategy: None,
+    backpressure_handler: None,
+    degradation_handler: None,
+};
+
+// Nothing is named.
+const SUBSCRIBER: SubscriberOptions = SubscriberOptions {
+    buffer_size: None,
+    degradation_handler: None,
+};
+
+// Whether values are sent to so many subscribers at once.
+fn is_sent(
+    alloc: Global,
+    hub: &mut Recorded,
+    publisher: &Named<slice::Publisher<u64, ()>>,
+    values: &[u64],
+    count: usize,
+) -> bool
+    requires { port_under (value_at hub.old.calls.made.publishers publisher.now.number.value) ≡ Some publisher.now.it.port }
+    ensures publishers { hub.new.calls.made.publishers ≡ hub.old.calls.made.publishers }
+    ensures subscribers { hub.new.calls.made.subscribers ≡ hub.old.calls.made.subscribers }
+{
+    match hub.send_slice(alloc, publisher, values) {
+        Some(Ok(Sent::Delivered(delivered))) => delivered == count,
+        Some(Ok(Sent::Blocked(blocked))) => {
+            let _ = hub.give_up(publisher, blocked);
+            false
+        }
+        Some(Err(_)) => false,
+        None => false,
+    }
+}
+
+// The values of a sample. They were put, by `AreFollowed`: no two services of the names that are asked for share a hash, commands are
+// fewer than 2^56, what was received before fits, and who is made of fixed actions decides by these.
+fn put_values<'a, B: PublisherHandlers, D: SubscriberHandler>(
+    hub: &'a RecordedHub<u64, (), B, D>,
+    sample: &Named<slice::Sample<u64, ()>>,
+) -> Option<&'a [u64]>
+    requires { value_at hub.now.calls.made.samples sample.now.number.value
+        ≡ Some (record { port = sample.now.it.port; taken = sample.now.it.taken }) }
+    ensures put { IfSome result (λ values. AreFollowed B.fixed (λ handlers. B.degrades handlers) (λ handlers. B.decides handlers)
+        D.fixed (λ handler. D.degrades handler)
+        (record hub.now.calls { asked = hub.now.calls.asked ++ command.Read sample.now.number.value ∷ [] })
+        → WasPut values.now hub.now.calls.asked hub.now.calls.answers) }
+{
+    let values = hub.payload(sample)?;
+    if values.len() < 9_223_372_036_854_775_808 {
+        Some(values)
+    } else {
+        None
+    }
+}
+
+// Whether a subscriber receives these values, and releases them.
+fn is_received(
+    alloc: Global,
+    hub: &mut Recorded,
+    subscriber: &Named<slice::Subscriber<u64, ()>>,
+    values: &[u64],
+) -> bool
+    requires { value_at hub.old.calls.made.subscribers subscriber.now.number.value ≡ Some subscriber.now.it.port }
+    ensures publishers { hub.new.calls.made.publishers ≡ hub.old.calls.made.publishers }
+    ensures subscribers { hub.new.calls.made.subscribers ≡ hub.old.calls.made.subscribers }
+{
+    match hub.receive(alloc, subscriber) {
+        Some(Ok(Some(sample))) => {
+            let is = match put_values(hub, &sample) {
+                Some(read) => read == values,
+                None => false,
+            };
+            hub.release(sample) && is
+        }
+        Some(Ok(None)) => false,
+        Some(Err(_)) => false,
+        None => false,
+    }
+}
+
+// Whether a send waits at the full mailbox, and waits still when it is tried again.
+fn is_waiting(
+    alloc: Global,
+    hub: &mut Recorded,
+    publisher: &Named<slice::Publisher<u64, ()>>,
+    values: &[u64],
+) -> bool
+    requires { port_under (value_at hub.old.calls.made.publishers publisher.now.number.value) ≡ Some publisher.now.it.port }
+    ensures publishers { hub.new.calls.made.publishers ≡ hub.old.calls.made.publishers }
+    ensures subscribers { hub.new.calls.made.subscribers ≡ hub.old.calls.made.subscribers }
+{
+    match hub.send_slice(alloc, publisher, values) {
+        Some(Ok(Sent::Blocked(blocked))) => match hub.retry(publisher, blocked, 1) {
+            Ok(Ok(Sent::Blocked(blocked))) => hub.give_up(publisher, blocked) == Some(0),
+            Ok(Ok(Sent::Delivered(_))) => false,
+            Ok(Err(_)) => false,
+            Err(blocked) => {
+                let _ = hub.give_up(publisher, blocked);
+                false
+            }
+        },
+        Some(Ok(Sent::Delivered(_))) => false,
+        Some(Err(_)) => false,
+        None => false,
+    }
+}
+
+// Whether messages go from a publisher to a subscriber in turn, one of which finds no room.
+fn exchange(
+    alloc: Global,
+    hub: &mut Recorded,
+    publisher: &Named<slice::Publisher<u64, ()>>,
+    subscriber: &Named<slice::Subscriber<u64, ()>>,
+) -> bool
+    requires publisher { port_under (value_at hub.old.calls.made.publishers publisher.now.number.value) ≡ Some publisher.now.it.port }
+    requires subscriber { value_at hub.old.calls.made.subscribers subscriber.now.number.value ≡ Some subscriber.now.it.port }
+    ensures publishers { hub.new.calls.made.publishers ≡ hub.old.calls.made.publishers }
+    ensures subscribers { hub.new.calls.made.subscribers ≡ hub.old.calls.made.subscribers }
+{
+    if !is_sent(alloc, hub, publisher, &[7, 8], 1) {
+        return false;
+    }
+    if !is_received(alloc, hub, subscriber, &[7, 8]) {
+        return false;
+    }
+    if !is_sent(alloc, hub, publisher, &[9], 1) {
+        return false;
+    }
+    if !is_waiting(alloc, hub, publisher, &[10]) {
+        return false;
+    }
+    is_received(alloc, hub, subscriber, &[9])
+}
+
+// Whether a publisher leaves.
+fn publisher_leaves(hub: &mut Recorded, publisher: Named<slice::Publisher<u64, ()>>) -> bool
+    requires { port_under (value_at hub.old.calls.made.publishers publisher.number.value) ≡ Some publisher.it.port }
+    ensures { hub.new.calls.made.subscribers ≡ hub.old.calls.made.subscribers }
+{
+    match hub.end_publisher(publisher) {
+        Ok(()) => true,
+        Err(publisher) => {
+            let _ = publisher.it.into_port();
+            false
+        }
+    }
+}
+
+// Whether a subscriber leaves.
+fn subscriber_leaves(hub: &mut Recorded, subscriber: Named<slice::Subscriber<u64, ()>>) -> bool
+    requires { value_at hub.old.calls.made.subscribers subscriber.number.value ≡ Some subscriber.it.port }
+{
+    match hub.end_subscriber(subscriber) {
+        Ok(()) => true,
+        Err(subscriber) => {
+            let _ = subscriber.it.into_port();
+            false
+        }
+    }
+}
+
+// Whether ports of the service are made as the options ask, exchange messages, and leave.
+fn converse(
+    alloc: Global,
+    hub: &mut Recorded,
+    service: &Named<PortFactory<PublishSubscribe>>,
+) -> bool
+    requires { value_at hub.old.calls.factories service.now.number.value ≡ Some (made_factory.PublishSubscribe service.now.it) }
+{
+    let Some(Ok(publisher)) = hub.publisher(alloc, service, &PUBLISHER) else {
+        return false;
+    };
+    let Some(Ok(subscriber)) = hub.subscriber(alloc, service, &SUBSCRIBER) else {
+        let _ = publisher_leaves(hub, publisher);
+        return false;
+    };
+    let is_asked = publisher.it.initial_max_slice_len() == 4 && subscriber.it.buffer_size() == 1;
+    let goes = exchange(alloc, hub, &publisher, &subscriber);
+    let fits = hub.received_fit();
+    let publisher_left = publisher_leaves(hub, publisher);
+    let subscriber_left = subscriber_leaves(hub, subscriber);
+    is_asked && goes && fits && publisher_left && subscriber_left
+}
+
+fn goes(alloc: Global) -> bool {
+    let mut hub = Recorded::new(alloc, HubConfig::default());
+    let Ok(node) = hub.new_node() else {
+        return false;
+    };
+    let Ok(name) = ServiceName::new(b"odometry") else {
+        return false;
+    };
+    match hub.open_or_create(alloc, &node, name, &SERVICE, AttributeVerifier::new()) {
+        Some(Ok(service)) => converse(alloc, &mut hub, &service),
+        _ => false,
+    }
+}
+
+#[test]
+fn calls_are_made(rt: HostRuntime) {
+    assert!(&rt; goes(rt.alloc()));
+}

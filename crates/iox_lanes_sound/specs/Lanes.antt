@@ -1,0 +1,60 @@
+-- When the lanes of a domain stand for the service of the machine for which its ports do, and what follows for calls in turn.
+use Rattle.std.specs.Prelude.{ℕ, ◌≡◌, false, List, [], ◌∷◌, Some}
+use Rattle.iox_command.specs.DomainValues.Actions.{decision_of}
+use Rattle.iox_command.specs.NegotiateBase.DescribeBase.declared.message_type.MessageTypeDetails.{MessageTypeDetails}
+use Rattle.iox_domain.specs.DomainValues.declared.handlers.Handlers.{Handlers}
+use Rattle.iox_domain.specs.DomainPorts.declared.attached.Taken.{Taken}
+use Rattle.iox_domain.specs.Kept.{kept_under}
+use Rattle.iox_domain.specs.Roomy.{AreRoomy}
+use Rattle.iox_domain.specs.declared.domain.Domain.{Domain}
+use Rattle.iox_domain_machine.specs.Naming.{Naming}
+use Rattle.iox_domain_machine.specs.Standing.{StandsFor}
+use Rattle.iox_domain_machine.specs.Tables.{LentSlot}
+use Rattle.iox_lanes_machine.specs.LanesParties.declared.call.Call.{Call}
+use Rattle.iox_lanes_machine.specs.LanesParties.declared.call.Party.{Party}
+use Rattle.iox_lanes_machine.specs.World.{World}
+use Rattle.iox_lanes_opening.specs.Deciding.{fixed_answer}
+use Rattle.iox_lanes_service.specs.Naming.{LaneNaming}
+use Rattle.iox_lanes_service.specs.Standing.{LanesStandFor}
+use Rattle.iox_lanes_service.specs.TurnLaws.{GoInTurn, IsRun, LaneNumbers}
+use Rattle.iox_lanes_sound.specs.Having.{AreReadBack, lane_names}
+use Rattle.iox_machine.specs.Choices.{Choices}
+use Rattle.iox_machine.specs.Service.{Publisher, Service}
+use Rattle.iox_machine.specs.State.{State}
+use Rattle.iox_machine.specs.Table.{at}
+
+-- Where a full mailbox doesn't let its oldest message go: what the strategy and the action come to that are kept for a publisher may be
+-- chosen for the machine's publisher of its name, when it finds a mailbox full.
+abbrev pub DecideAsKept : {T U X Y D : Type 0} {F : X → Type 0} {G : Y → Type 0} → Choices T → Naming → Domain T U (Handlers X Y F G) D
+    → Service T → Type 0
+DecideAsKept {T} {U} {X} {Y} {D} {F} {G} choices names domain service =
+    domain.state.ports.sizes.enable_safe_overflow ≡ false
+    → (number : ℕ) (handlers : Handlers X Y F G) (publisher : Publisher T)
+    → kept_under number domain.state.publisher_handlers ≡ Some handlers
+    → at (names.publisher number) service.publishers ≡ Some publisher
+    → choices.publisher_decides (names.publisher number) 0 0 (decision_of publisher.strategy publisher.handler)
+    (decision_of handlers.strategy (fixed_answer handlers.backpressure))
+
+-- The lanes of a domain, whose publishers and subscribers have these numbers by their places, stand for each service of the machine for
+-- which its ports do, where these are in order, the words of messages give their values back, and the machine's publishers may decide so.
+abbrev pub StandAsPorts : {T U X Y D : Type 0} {F : X → Type 0} {G : Y → Type 0} → Choices T → (T → List ℕ) → (List ℕ → T)
+    → Domain T U (Handlers X Y F G) D → World → List ℕ → List ℕ → Type 0
+StandAsPorts {T} choices payload_words value domain lanes senders readers = (names : Naming) (lent : List (ℕ × LentSlot))
+    (held : List (ℕ × Taken)) (buffer : ℕ) (service : Service T) → StandsFor names lent held buffer domain.state.ports service
+    → AreRoomy domain.state.ports → AreReadBack payload_words value domain.state.ports → DecideAsKept choices names domain service
+    → LanesStandFor choices value (lane_names names domain.state.ports.sizes.sequence_numbers senders readers lanes) [] [] lanes service
+
+-- the numbers that the machine has for what lanes have before their first step: no loan is out, and no sample
+abbrev pub begun_numbers : LaneNaming → LaneNumbers
+begun_numbers names = record { names = names; lent = []; held = [] }
+
+-- Then calls that go in turn from these lanes on are a run of a machine whose one service that is.
+abbrev pub TurnsGoOnAsPorts : {T U X Y D : Type 0} {F : X → Type 0} {G : Y → Type 0} → Choices T → MessageTypeDetails → ℕ → (T → List ℕ)
+    → (List ℕ → T) → Domain T U (Handlers X Y F G) D → World → List ℕ → List ℕ → Type 0
+TurnsGoOnAsPorts {T} choices types most_buffered payload_words value domain lanes senders readers = (names : Naming)
+    (lent : List (ℕ × LentSlot)) (held : List (ℕ × Taken)) (buffer : ℕ) (service : Service T)
+    → StandsFor names lent held buffer domain.state.ports service
+    → AreRoomy domain.state.ports → AreReadBack payload_words value domain.state.ports → DecideAsKept choices names domain service
+    → (state : State T) (calls : List (Party × Call)) (n : World) → state.services ≡ service ∷ [] → GoInTurn lanes calls n
+    → IsRun choices value types most_buffered
+    (begun_numbers (lane_names names domain.state.ports.sizes.sequence_numbers senders readers lanes)) lanes state calls n
