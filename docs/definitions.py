@@ -48,6 +48,20 @@ TYPED = {
         "answers_as_machine": "answers",
     }
 }
+# The clauses by which lanes in turn answer so.
+IN_TURN = {
+    ("iox_lanes_service", "LanesInTurn"): {
+        "new": "begun",
+        "answers_as_machine": "answers",
+        "loan": "lent",
+        "write": "written",
+        "send": "sent",
+        "drop_loan": "dropped",
+        "receive": "received",
+        "read": "read",
+        "release": "released",
+    },
+}
 
 
 def without_comments(text, mark):
@@ -235,12 +249,20 @@ def headline(known):
     return asked, f"They reach {len(found)} definitions: {machine} of `iox_machine`, {line} of `iox_line`, and {others} of other crates."
 
 
-def typed(known, asked):
-    """Returns the sentence that says how many definitions are reached with the clauses of typed calls, of each type that there is."""
-    methods = {it: list(of_methods(*it, names)) for it, names in TYPED.items()}
+def methods_named(asked, types):
+    """Returns the names of those of these types that there are, and what is asked for with what their methods' clauses name."""
+    methods = {it: list(of_methods(*it, names)) for it, names in types.items()}
     more = {it for found in methods.values() for uses, text in found for it in uses.reached(text)}
-    names = ", ".join(f"`{owner}`" for (_, owner), found in methods.items() if found)
-    return names and f"With the clauses of typed calls, the methods of {names}, they reach {len(closure(known, asked | more))} definitions."
+    return ", ".join(f"`{owner}`" for (_, owner), found in methods.items() if found), asked | more
+
+
+def typed(known, asked):
+    """Returns the sentences that say how many definitions are reached with the clauses of typed calls, and with those of lanes in turn."""
+    names, asked = methods_named(asked, TYPED)
+    sentence = names and f"With the clauses of typed calls, the methods of {names}, they reach {len(closure(known, asked))} definitions."
+    names, asked = methods_named(asked, IN_TURN)
+    turns = names and f"With those of lanes in turn, the methods of {names}, they reach {len(closure(known, asked))} definitions."
+    return [it for it in (sentence, turns) if it]
 
 
 def reached(known, all_of_them=False):
@@ -329,7 +351,7 @@ def main(words):
     for it in strange:
         print(it)
     asked, counts = headline(known)
-    counted = [it for it in (counts, typed(known, asked)) if it not in PAGE.read_text()]
+    counted = [it for it in (counts, *typed(known, asked)) if it not in PAGE.read_text()]
     for it in counted:
         print(f"not on the page: {it}")
     print(f"{len(wanted)} definitions reached, {len(missing)} of them not listed; {len(extra)} listed and not reached, {len(strange)} unknown")

@@ -1,5 +1,5 @@
 -- The names that commands ask for, and how many steps they name.
-use Rattle.std.proofs.Common.{◌≡◌, ℕ, ◌+◌, suc, List, [], ◌∷◌, ◌++◌, refl, arith}
+use Rattle.std.proofs.Common.{◌≡◌, ℕ, ◌+◌, suc, List, [], ◌∷◌, ◌++◌, refl, ap, arith}
 use Rattle.std.specs.List.{AllByRecursion, IsAmong}
 use Rattle.iox_command.specs.declared.command.Command.{Command}
 use Rattle.iox_command.specs.declared.command.Command.TheVariants as command
@@ -44,6 +44,18 @@ module _ {T : Type 0} where
   pub all_among : (commands : List (Command T)) → AllByRecursion (AsksAmong (names_in commands)) commands
   all_among [] = tt
   all_among (asked ∷ more) = (its_own asked more, all_wider asked more more (all_among more))
+
+  -- to read a sample asks for no name
+  pub names_read : (commands : List (Command T)) (sample : ℕ) → names_in (commands ++ command.Read sample ∷ []) ≡ names_in commands
+  names_read [] sample = refl
+  names_read (command.Create node name options attributes steps ∷ more) sample =
+      ap (λ (names : List (List ℕ)). name ∷ names) (names_read more sample)
+  names_read (command.Open node name options required steps ∷ more) sample =
+      ap (λ (names : List (List ℕ)). name ∷ names) (names_read more sample)
+  names_read (command.OpenOrCreate node name options required steps ∷ more) sample =
+      ap (λ (names : List (List ℕ)). name ∷ names) (names_read more sample)
+  names_read (command.Foreign pattern name steps ∷ more) sample = ap (λ (names : List (List ℕ)). name ∷ names) (names_read more sample)
+  names_read (other ∷ more) sample = names_read more sample
 
   pub both_asked : (first rest : List (Command T)) → all_asked (first ++ rest) ≡ all_asked first + all_asked rest
   both_asked [] rest = omega arith

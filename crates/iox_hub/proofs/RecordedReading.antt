@@ -1,5 +1,5 @@
 -- A run of commands, cut where a sample came and where it was read.
-use Rattle.std.proofs.Common.{◌≡◌, ◌∙◌, ℕ, ◌+◌, List, [], ◌∷◌, ◌++◌, length, refl, sym, ap, subst, arith, append-nil, length-append}
+use Rattle.std.proofs.Common.{◌≡◌, ◌∙◌, ℕ, List, [], ◌∷◌, ◌++◌, length, refl, sym, ap, subst, arith, append-nil, length-append}
 use Rattle.std.specs.Vec.{vec_items}
 use Rattle.std.specs.Global.{Vec}
 use Rattle.iox_command.specs.declared.command.Command.{Command}

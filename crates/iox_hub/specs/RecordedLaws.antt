@@ -1,5 +1,5 @@
 -- What a program reads of a sample is what it received, and what was put.
-use Rattle.std.specs.Prelude.{ℕ, ◌≡◌, ◌⊎◌, ◌++◌, ◌∷◌, [], List, length, false, true}
+use Rattle.std.specs.Prelude.{ℕ, ◌≡◌, ◌⊎◌, ◌+◌, ◌<◌, ◌^◌, ◌++◌, ◌∷◌, [], List, length, Option, false, true}
 use Rattle.std.specs.Global.{Vec}
 use Rattle.std.specs.Vec.{vec_items}
 use Rattle.iox_command.specs.declared.command.Command.{Command}
@@ -7,6 +7,15 @@ use Rattle.iox_command.specs.declared.command.Command.TheVariants as command
 use Rattle.iox_command.specs.declared.reply.Reply.{Reply}
 use Rattle.iox_command.specs.declared.reply.Reply.TheVariants as reply
 use Rattle.iox_hub_commands.specs.DescribeBase.declared.message_type.MessageTypeDetails.{MessageTypeDetails}
+use Rattle.iox_hub_commands.specs.DomainValues.declared.backpressure.BackpressureAction.{BackpressureAction}
+use Rattle.iox_hub_commands.specs.DomainValues.declared.backpressure.BackpressureDecision.{BackpressureDecision}
+use Rattle.iox_hub_commands.specs.DomainValues.declared.backpressure.BackpressureInfo.{BackpressureInfo}
+use Rattle.iox_hub_commands.specs.DomainValues.declared.backpressure_strategy.BackpressureStrategy.{BackpressureStrategy}
+use Rattle.iox_hub_commands.specs.DomainValues.declared.degradation.DegradationAction.{DegradationAction}
+use Rattle.iox_hub_commands.specs.DomainValues.declared.degradation.DegradationCause.{DegradationCause}
+use Rattle.iox_hub_commands.specs.DomainValues.declared.degradation.DegradationInfo.{DegradationInfo}
+use Rattle.iox_hub.specs.Recorded.{AreFollowed, Calls}
+use Rattle.iox_hub_machine.specs.RunLaws.{all_asked}
 use Rattle.iox_machine.specs.Choices.{Choices}
 use Rattle.iox_machine.specs.Run.{Answers}
 use Rattle.iox_machine.specs.RunLaws.{has_begun}
@@ -19,6 +28,14 @@ ReadsAsReceived {T} choices = (types : MessageTypeDetails) (buffer : ℕ) (befor
     → Answers types choices buffer ((before ++ command.Receive subscriber ∷ []) ++ meanwhile ++ command.Read sample ∷ []) false
     ((first ++ reply.Received sample values ∷ []) ++ told ++ reply.Values read ∷ [])
     → vec_items read ≡ vec_items values
+
+-- What calls stand on, they stand on with one sample read more, if they are few enough.
+abbrev pub ReadsAreFollowed : (T : Type 0) → {B D : Type 0} → (BackpressureStrategy → Option BackpressureAction → DegradationAction → B)
+    → (B → DegradationCause → DegradationInfo → DegradationAction → Type 0) → (B → BackpressureInfo → BackpressureDecision → Type 0)
+    → (DegradationAction → D) → (D → DegradationCause → DegradationInfo → DegradationAction → Type 0) → Type 0
+ReadsAreFollowed T fixed degrades decides fixed_reader reader_degrades = (calls : Calls T) (sample : ℕ)
+    → AreFollowed fixed degrades decides fixed_reader reader_degrades calls → all_asked calls.asked + 1 < 2 ^ 56
+    → AreFollowed fixed degrades decides fixed_reader reader_degrades (record calls { asked = calls.asked ++ command.Read sample ∷ [] })
 
 -- These values were put: a put of them began to send; or a loan was sent, whose values its writes say.
 abbrev pub WasPut : {T : Type 0} → List T → List (Command T) → List (Reply T) → Type 0

@@ -105,7 +105,7 @@ module _ {V : Type 0} where
           found ∙ ap (λ (it : ℕ × V). Some it.1) (same_entry table once place.0 index (entry.0, v) entry place.1 is refl)
 
   -- a number above all has nothing
-  none_above : (table : List (ℕ × V)) (most number : ℕ) → ((index : ℕ) (entry : ℕ × V) → slice_get table index ≡ Some entry
+  pub none_above : (table : List (ℕ × V)) (most number : ℕ) → ((index : ℕ) (entry : ℕ × V) → slice_get table index ≡ Some entry
       → entry.0 ≤ most) → most < number → at number table ≡ None
   none_above table most number all above = by (at number table) refl
     where
@@ -117,7 +117,7 @@ module _ {V : Type 0} where
           absurd (omega (arith, low, above))
 
 -- a vector of values, where they fit
-vector_of : {T : Type 0} (values : List T) → length values < 2 ^ 63 → (made : Vec T) × (vec_items made ≡ values)
+pub vector_of : {T : Type 0} (values : List T) → length values < 2 ^ 63 → (made : Vec T) × (vec_items made ≡ values)
 vector_of values fits = (
   record {
     ptr = null_ptr;
@@ -130,6 +130,15 @@ vector_of values fits = (
   },
   refl,
 )
+
+-- words and slots are as many as before
+pub sizes_stay : (m n : World) (party : Party) (asking : Call) → IsInTurn m party asking n → n.table.sizes ≡ m.table.sizes
+sizes_stay m n (Publisher place) asking t =
+    let there = publisher_there m place asking (slice_get m.publishers place) refl t.begins.0 in
+    (publishers_stay_in_turn m n place asking there.0 t there.1).0.sizes
+sizes_stay m n (Subscriber place) asking t =
+    let there = subscriber_there m place asking (slice_get m.subscribers place) refl t.begins.0 in
+    (subscribers_stay_in_turn m n place asking there.0 t there.1).0.sizes
 
 -- ---- one call
 
@@ -490,15 +499,6 @@ module _ {T : Type 0} (choices : Choices T) (value : List ℕ → T) (types : Me
     one_step (Subscriber place) (call.Release slot) t = releases place slot t
 
   -- ---- many
-
-  -- words and slots are as many as before
-  sizes_stay : (m n : World) (party : Party) (asking : Call) → IsInTurn m party asking n → n.table.sizes ≡ m.table.sizes
-  sizes_stay m n (Publisher place) asking t =
-      let there = publisher_there m place asking (slice_get m.publishers place) refl t.begins.0 in
-      (publishers_stay_in_turn m n place asking there.0 t there.1).0.sizes
-  sizes_stay m n (Subscriber place) asking t =
-      let there = subscriber_there m place asking (slice_get m.subscribers place) refl t.begins.0 in
-      (subscribers_stay_in_turn m n place asking there.0 t there.1).0.sizes
 
   pub turns_are_runs : TurnsAreRuns choices value types buffer
   turns_are_runs old m n service state [] s are alone small goes = record {

@@ -22,3 +22,6 @@ pub mod Using
 pub mod Lending
 pub mod Beginning
 pub mod Chaining
+pub mod GhostSteps
+pub mod Turns
+pub mod SampleTurns

@@ -5,3 +5,5 @@ pub mod Standing
 pub mod Laws
 pub mod NewLanes
 pub mod TurnLaws
+pub mod InTurn
+pub mod Turning

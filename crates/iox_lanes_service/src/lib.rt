@@ -5,6 +5,9 @@
 //! meant by it, is answered as the call is, and has a service then for which the lanes stand. What sends and receives do first in the
 //! machine, they find done: no list of ports changes on lanes, so an update finds nothing new.
 //!
+//! [`LanesInTurn`] are lanes whose calls go in turn. They record, for proofs alone, which commands were asked and what was answered:
+//! a run of the machine, said in its words alone.
+//!
 //! The functions here do nothing: the contract of each is a law of the definitions. A proof cites a law by a call of its function; what
 //! it states is then among the facts of the caller:
 //!
@@ -22,6 +25,13 @@ ghost use Rattle.iox_lanes_service.specs.NewLanes.{NewLanesStand};
 ghost use Rattle.iox_lanes_service.specs.Laws.{LoansAreSteps, SendsAreSteps};
 ghost use Rattle.iox_lanes_service.specs.TurnLaws.{TurnsAreRuns};
 
+mod history;
+pub mod in_turn;
+pub mod number;
+mod seen;
+mod turn;
+
+pub use in_turn::{LanesInTurn, TurnLoan, TurnSample};
 use iox_domain_values::{Decides, Degrades};
 
 /// Lanes that were made stand, before their first step, for a service at which at least as many ports came, with the same sizes: they

@@ -1,8 +1,8 @@
 //! What a recorded hub comes to, in other words than its calls. Each law is the contract of a function that does nothing.
 ghost use Rattle.iox_machine.specs.Choices.{as_named};
-ghost use Rattle.iox_hub.specs.RecordedLaws.{ReadsAsReceived};
+ghost use Rattle.iox_hub.specs.RecordedLaws.{ReadsAreFollowed, ReadsAsReceived};
 
-use iox_hub_commands::{FixedDegradation, FixedHandlers};
+use iox_hub_commands::{FixedDegradation, FixedHandlers, PublisherHandlers, SubscriberHandler};
 use iox_machine::samples_read_the_same;
 
 /// What is read of a sample is what was received, whatever was asked between. `RecordedHub::payload` says that the machine may answer so to
@@ -13,3 +13,10 @@ pub fn samples_read_as_received<T: Default>()
 {
     samples_read_the_same::<T, FixedHandlers, FixedDegradation>();
 }
+
+/// What calls stand on (`AreFollowed`), they stand on with one sample read more, where they and the steps that they name are fewer than
+/// 2^56 - 1. So who knows it of the calls knows the premise of `RecordedHub::payload`.
+pub fn reads_are_followed<T, B: PublisherHandlers, D: SubscriberHandler>()
+    ensures { ReadsAreFollowed T B.fixed (λ handlers. B.degrades handlers) (λ handlers. B.decides handlers) D.fixed
+        (λ handler. D.degrades handler) }
+{}

@@ -1,0 +1,73 @@
+-- What was asked of lanes in turn, and what they answered.
+use Rattle.std.specs.Prelude.{ℕ, suc, ◌≡◌, ◌<◌, ◌≤◌, true, false, List, [], ◌∷◌, ◌++◌, length, None, Some}
+use Rattle.iox_command.specs.DomainValues.Actions.{decision_of}
+use Rattle.iox_command.specs.DomainValues.declared.backpressure.BackpressureDecision.TheVariants.{DiscardData}
+use Rattle.iox_command.specs.declared.command.Command.{Command}
+use Rattle.iox_command.specs.declared.reply.Reply.{Reply}
+use Rattle.iox_lanes_machine.specs.QueuesSteps.Ends.{overflows}
+use Rattle.iox_lanes_machine.specs.Made.{listed}
+use Rattle.iox_lanes_machine.specs.declared.sizes.LaneSizes.{LaneSizes}
+use Rattle.iox_lanes_service.specs.Naming.{LaneLoan, LaneSample}
+use Rattle.iox_machine.specs.PortList.{those}
+use Rattle.iox_machine.specs.Service.{Publisher, Service, Subscriber, mailbox}
+use Rattle.iox_machine.specs.State.{State}
+use Rattle.iox_machine.specs.Table.{at}
+
+-- What was asked of lanes of some sizes, one whole call after the other, in the words of commands, and what was answered to each. And how
+-- many loans and samples were made so far, and which go by numbers.
+pub record Turns : Type 0 where
+  pub sizes : LaneSizes
+  pub asked : List (Command (List ℕ))
+  pub answers : List (Reply (List ℕ))
+  pub loans : ℕ
+  pub samples : ℕ
+  pub lent : List (ℕ × LaneLoan)
+  pub held : List (ℕ × LaneSample)
+
+-- one command more, which was answered so
+abbrev pub turned : Command (List ℕ) → Reply (List ℕ) → Turns → Turns
+turned asked answer turns = record turns { asked = turns.asked ++ asked ∷ []; answers = turns.answers ++ answer ∷ [] }
+
+-- A publisher that came, and is connected to each subscriber, before it lends and sends. It numbers no messages, and where mailboxes may be
+-- full it discards.
+pub record ComesToSend (sizes : LaneSizes) (service : Service (List ℕ)) (publisher : Publisher (List ℕ)) : Type 0 where
+  pub stands : publisher.stands ≡ true
+  pub free : publisher.blocked ≡ None
+  pub seen : publisher.seen ≡ service.subscriber_list.changes
+  pub most_loans : publisher.max_loaned_samples ≡ sizes.most_loans
+  pub slots : publisher.slots ≡ sizes.slots
+  pub room : 1 ≤ publisher.room
+  pub connected : those publisher.connected ≡ listed (λ place. suc place) sizes.subscribers
+  pub last : publisher.last_sequence ≡ None
+  pub history : publisher.history ≡ []
+  pub ahead : publisher.first ≤ publisher.next
+  pub discards : service.settings.enable_safe_overflow ≡ false → decision_of publisher.strategy publisher.handler ≡ DiscardData
+
+-- A subscriber that came, and is connected to each publisher.
+pub record ComesToReceive (sizes : LaneSizes) (service : Service (List ℕ)) (subscriber : Subscriber) : Type 0 where
+  pub stands : subscriber.stands ≡ true
+  pub seen : subscriber.seen ≡ service.publisher_list.changes
+  pub done : subscriber.again ≡ false
+  pub expired : length subscriber.expired ≡ 0
+  pub connected : those subscriber.connected ≡ listed (λ place. suc place) sizes.publishers
+
+-- The machine from which lanes go on: it has one service, with the same sizes, at which at least as many ports came as they have. The port
+-- at a place goes by the number after it. Nothing was lent or sent yet.
+pub record BeginsTurns (sizes : LaneSizes) (state : State (List ℕ)) : Type 0 where
+  pub service : Service (List ℕ)
+  pub alone : state.services ≡ service ∷ []
+  pub publishers : (place : ℕ) → place < sizes.publishers
+      → (publisher : Publisher (List ℕ)) × (at (suc place) service.publishers ≡ Some publisher) × ComesToSend sizes service publisher
+  pub subscribers : (place : ℕ) → place < sizes.subscribers
+      → (subscriber : Subscriber) × (at (suc place) service.subscribers ≡ Some subscriber) × ComesToReceive sizes service subscriber
+  pub history : service.settings.history_size ≡ sizes.history
+  pub most_borrowed : service.settings.subscriber_max_borrowed_samples ≡ sizes.most_borrowed
+  pub kind : overflows sizes.kind ≡ service.settings.enable_safe_overflow
+  pub mailboxes : (one other : ℕ) → one < sizes.publishers → other < sizes.subscribers
+      → service.mailboxes (suc one) (suc other) ≡ Some (record { limit = sizes.buffer; waiting = []; borrowed = [] })
+  pub others : (one other : ℕ) → one < sizes.publishers → ((place : ℕ) → place < sizes.subscribers → suc place ≡ other → ⊥)
+      → ((mailbox (suc one) other service).waiting ≡ []) × ((mailbox (suc one) other service).borrowed ≡ [])
+  pub loans : service.loans ≡ []
+  pub samples : service.samples ≡ []
+  pub no_loans : state.made.loans ≡ 0
+  pub no_samples : state.made.samples ≡ 0

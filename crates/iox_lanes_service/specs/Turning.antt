@@ -1,0 +1,154 @@
+-- What lanes in turn record, and what ties the record to the lanes.
+use Rattle.std.specs.Prelude.{Option, None, Some, Result, Ok, Err, ⊤}
+use Rattle.std.specs.Prelude.{ℕ, ◌+◌, ◌≡◌, ◌<◌, ◌≤◌, ◌^◌, suc, Bool, false, List, [], ◌∷◌, ◌++◌, length, slice_get}
+use Rattle.std.specs.Global.{Vec}
+use Rattle.iox_command.specs.DomainValues.declared.port_error.LoanError.{LoanError}
+use Rattle.iox_command.specs.DomainValues.declared.port_error.LoanError.TheVariants as refused
+use Rattle.iox_command.specs.DomainValues.declared.port_error.ReceiveError.{ReceiveError}
+use Rattle.iox_command.specs.DomainValues.declared.port_error.ReceiveError.TheVariants.{ExceedsMaxBorrows}
+use Rattle.iox_command.specs.DomainValues.declared.port_error.SendError.{SendError}
+use Rattle.iox_command.specs.DomainValues.declared.port_error.SendError.TheVariants as error
+use Rattle.iox_command.specs.declared.command.Command.{Command}
+use Rattle.iox_command.specs.declared.command.Command.TheVariants as command
+use Rattle.iox_command.specs.declared.refusal.Refusal.TheVariants as refusal
+use Rattle.iox_command.specs.declared.reply.Reply.{Reply}
+use Rattle.iox_command.specs.declared.reply.Reply.TheVariants as reply
+use Rattle.iox_command.specs.NegotiateBase.DescribeBase.declared.message_type.MessageTypeDetails.{MessageTypeDetails}
+use Rattle.iox_lanes_machine.specs.LanesBase.declared.calls.route.Route.{Route}
+use Rattle.iox_lanes_machine.specs.LanesBase.declared.calls.subscriber.Receipt.{Receipt}
+use Rattle.iox_lanes_machine.specs.LanesBase.declared.calls.subscriber.Receipt.TheVariants as receipt
+use Rattle.iox_lanes_machine.specs.LanesParties.Parties.{SubscriberLaneState}
+use Rattle.iox_lanes_machine.specs.LanesParties.declared.call.Answer.{Answer}
+use Rattle.iox_lanes_machine.specs.LanesParties.declared.call.Call.{Call}
+use Rattle.iox_lanes_machine.specs.LanesParties.declared.call.FinishedCall.{FinishedCall}
+use Rattle.iox_lanes_machine.specs.LanesParties.declared.call.Party.{Party}
+use Rattle.iox_lanes_machine.specs.LanesParties.declared.call.SendAnswer.{SendAnswer}
+use Rattle.iox_lanes_machine.specs.LanesParties.declared.call.SendAnswer.TheVariants as sent
+use Rattle.iox_lanes_machine.specs.LanesParties.declared.publisher.slot_book.LoanAnswer.{LoanAnswer}
+use Rattle.iox_lanes_machine.specs.LanesParties.declared.publisher.slot_book.LoanAnswer.TheVariants as loan
+use Rattle.iox_lanes_machine.specs.Resting.{AllBetween}
+use Rattle.iox_lanes_machine.specs.WholeReads.{CameTo}
+use Rattle.iox_lanes_machine.specs.World.{World}
+use Rattle.iox_lanes_laws.specs.Turns.{GoesToEnd, IsInTurn}
+use Rattle.iox_lanes_service.specs.declared.turn.Turn.{Turn}
+use Rattle.iox_lanes_service.specs.declared.turn.Turn.TheVariants as turn
+use Rattle.iox_lanes_service.specs.InTurn.{BeginsTurns, Turns, turned}
+use Rattle.iox_lanes_service.specs.declared.in_turn.TurnLoan.{TurnLoan}
+use Rattle.iox_lanes_service.specs.declared.in_turn.TurnSample.{TurnSample}
+use Rattle.iox_lanes_service.specs.declared.number.TurnNumber.{TurnNumber}
+use Rattle.iox_lanes_service.specs.Naming.{LaneNaming, LaneLoan, LaneSample}
+use Rattle.iox_lanes_service.specs.Standing.{LanesStandFor}
+use Rattle.iox_lanes_service.specs.TurnLaws.{AreMade}
+use Rattle.iox_machine.specs.Choices.{Choices, as_named}
+use Rattle.iox_machine.specs.Run.{Runs}
+use Rattle.iox_machine.specs.Service.{Service}
+use Rattle.iox_machine.specs.State.{State}
+use Rattle.iox_machine.specs.Table.{removed}
+
+-- a publisher lent this slot, as the next loan
+abbrev pub slot_lent : ℕ → ℕ → Turns → Turns
+slot_lent place slot turns = record (turned (command.LoanUninit (suc place) 1) (reply.LoanMade (turns.loans + 1)) turns) {
+  loans = turns.loans + 1;
+  lent = turns.lent ++ (turns.loans + 1, record { publisher = place; slot = slot }) ∷ [];
+}
+
+-- a loan was spent: it goes by no number then
+abbrev pub loan_spent : ℕ → Command (List ℕ) → Reply (List ℕ) → Turns → Turns
+loan_spent number asked answer turns = record (turned asked answer turns) { lent = removed number turns.lent }
+
+-- a subscriber received this slot of a publisher, with these values, as the next sample
+abbrev pub sample_taken : ℕ → ℕ → ℕ → Vec (List ℕ) → Turns → Turns
+sample_taken publisher subscriber slot values turns =
+    record (turned (command.Receive (suc subscriber)) (reply.Received (turns.samples + 1) values) turns) {
+      samples = turns.samples + 1;
+      held = turns.held
+          ++ (turns.samples + 1, record { publisher = publisher; subscriber = subscriber; slot = slot }) ∷ [];
+    }
+
+-- for each port it is chosen what was named
+abbrev pub turn_choices : Choices (List ℕ)
+turn_choices = as_named (λ words. ⊤)
+
+-- The publisher at a place goes by the number after it, and so does the subscriber; sends don't number their messages.
+abbrev pub turn_names : LaneNaming
+turn_names = record { publisher = λ place. suc place; subscriber = λ place. suc place; message = λ slot. 0; numbered = false }
+
+-- from where a party was to where it is, it went on, so that who ends its call here ends it there
+abbrev pub LeadsOn : Party → World → World → Type 0
+LeadsOn party m n = (last : World) (more : ℕ) → GoesToEnd party more n last → (all : ℕ) × GoesToEnd party all m last
+
+-- a call was made in turn, and this is its answer
+pub record TurnEnds (m : World) (party : Party) (asking : Call) (given : Answer) (n : World) : Type 0 where
+  pub in_turn : IsInTurn m party asking n
+  pub call : FinishedCall
+  pub ended : slice_get n.finished (length m.finished) ≡ Some call
+  pub answered : call.answer ≡ given
+
+-- how a turn came out: it changed nothing; it stopped within its call, after which nothing is said; or it ended
+abbrev pub TakesTurn : World → Party → Call → Turn → World → Type 0
+TakesTurn m party asking turn.NotBegun n = n ≡ m
+TakesTurn m party asking turn.Stuck n = ⊤
+TakesTurn m party asking (turn.Ended given) n = TurnEnds m party asking given n
+
+-- the numbers of loans and samples, and the names of ports, where messages have these names
+abbrev pub named_so : (ℕ → ℕ) → LaneNaming
+named_so message = record turn_names { message = message }
+
+-- the lanes stand for the one service that the machine has, by the numbers of the record
+pub record TurnsStand (turns : Turns) (m : World) (state : State (List ℕ)) : Type 0 where
+  pub service : Service (List ℕ)
+  pub alone : state.services ≡ service ∷ []
+  pub message : ℕ → ℕ
+  pub stands : LanesStandFor turn_choices (λ words. words) (named_so message) turns.lent turns.held m service
+  pub made : AreMade (record { names = named_so message; lent = turns.lent; held = turns.held }) state.made
+  pub loans : state.made.loans ≡ turns.loans
+  pub samples : state.made.samples ≡ turns.samples
+
+-- lanes go on from here: they came to here, nobody is inside a call, and slots have numbers below 2^64
+pub record TurnsGoOn (m : World) : Type 0 where
+  pub came : CameTo m
+  pub between : AllBetween m
+  pub small : m.table.sizes.slots < 2 ^ 64
+
+-- no number of a loan or of a sample is above the number of those that were made
+pub record NumbersLow (turns : Turns) : Type 0 where
+  pub loans : (index : ℕ) (entry : ℕ × LaneLoan) → slice_get turns.lent index ≡ Some entry → entry.0 ≤ turns.loans
+  pub samples : (index : ℕ) (entry : ℕ × LaneSample) → slice_get turns.held index ≡ Some entry → entry.0 ≤ turns.samples
+
+-- What was asked and answered is a run of the machine; and as long as no turn got stuck, lanes stand for what the machine has then.
+pub record AreTurns (stuck : Bool) (turns : Turns) (m : World) : Type 0 where
+  pub runs : (types : MessageTypeDetails) (buffer : ℕ) (state : State (List ℕ)) → BeginsTurns turns.sizes state
+      → (after : State (List ℕ)) × Runs types turn_choices buffer turns.asked state turns.answers after
+      × (stuck ≡ false → TurnsStand turns m after)
+  pub goes : stuck ≡ false → TurnsGoOn m
+  pub low : NumbersLow turns
+
+-- what a publisher at a place lent, by this number, or why it lent nothing
+abbrev pub lent_as : ℕ → LoanAnswer → TurnNumber → Result TurnLoan LoanError
+lent_as place (loan.Slot slot) number = Ok (record { publisher = place; slot = slot; number = number })
+lent_as place loan.ExceedsMaxLoans number = Err refused.ExceedsMaxLoans
+lent_as place loan.OutOfMemory number = Err refused.OutOfMemory
+
+-- the record where a publisher was asked for a loan, and this was its answer
+abbrev pub loaned : ℕ → LoanAnswer → Turns → Turns
+loaned place (loan.Slot slot) turns = slot_lent place slot turns
+loaned place loan.ExceedsMaxLoans turns =
+    turned (command.LoanUninit (suc place) 1) (reply.Refused (refusal.Loan refused.ExceedsMaxLoans)) turns
+loaned place loan.OutOfMemory turns =
+    turned (command.LoanUninit (suc place) 1) (reply.Refused (refusal.Loan refused.OutOfMemory)) turns
+
+-- what a publisher tells of a send: how many mailboxes took the message, or that it couldn't deliver
+abbrev pub sent_as : SendAnswer → Result ℕ SendError
+sent_as (sent.Delivered delivery) = Ok delivery.taken
+sent_as (sent.UnableToDeliver delivery) = Err error.UnableToDeliver
+
+-- what a receive gave to a subscriber at a place, by this number, or why it gave nothing
+abbrev pub taken_as : ℕ → Receipt → TurnNumber → Result (Option TurnSample) ReceiveError
+taken_as place (receipt.Taken at slot) number = Ok (Some (record { subscriber = place; slot = slot; number = number }))
+taken_as place receipt.Nothing number = Ok None
+taken_as place receipt.ExceedsMaxBorrows number = Err ExceedsMaxBorrows
+
+-- a route of a subscriber, by its place
+abbrev pub lane_route : ℕ → Option SubscriberLaneState → Option Route
+lane_route at None = None
+lane_route at (Some lane) = slice_get lane.port.routes at

@@ -1,0 +1,429 @@
+//! Lanes whose calls go in turn, and which record, for proofs alone, what is asked and answered.
+ghost use Rattle.std.specs.Prelude.{ℕ, ◌≡◌, ◌+◌, ◌<◌, ◌∷◌, ◌++◌, [], ⊤, suc, Some, MatchBool, MatchOption, MatchResult, IfOk, IfSome, drop};
+ghost use Rattle.iox_command.specs.NegotiateBase.DescribeBase.declared.message_type.MessageTypeDetails.{MessageTypeDetails};
+ghost use Rattle.iox_command.specs.declared.command.Command.TheVariants as command;
+ghost use Rattle.iox_command.specs.declared.reply.Reply.TheVariants as reply;
+ghost use Rattle.iox_command.specs.declared.refusal.Refusal.TheVariants as refusal;
+ghost use Rattle.iox_lanes_service.specs.InTurn.{BeginsTurns, turned};
+ghost use Rattle.iox_machine.specs.Choices.{as_named};
+ghost use Rattle.iox_lanes_service.specs.Turning.{lent_as, sent_as, taken_as};
+ghost use Rattle.iox_machine.specs.Run.{Runs};
+ghost use Rattle.iox_machine.specs.State.{State};
+ghost use Rattle.iox_machine.specs.Table.{at, removed};
+ghost use Rattle.std.specs.Global.{Vec};
+ghost use Rattle.std.specs.Vec.{vec_items};
+ghost use Rattle.std.specs.Prelude.{List};
+
+use crate::history::TurnHistory;
+use crate::number::TurnNumber;
+use crate::seen::Seen;
+use crate::turn::{Turn, take_turn};
+use iox_domain_values::{LoanError, ReceiveError, SendError};
+use iox_lanes_base::calls::Receipt;
+use iox_lanes_machine::{LaneSizes, Lanes};
+use iox_lanes_parties::publisher::LoanAnswer;
+use iox_lanes_parties::{Answer, Call, Party, SendAnswer};
+use std::alloc::{AllocError, Global};
+use std::marker::Model;
+
+/// A loan of lanes in turn, by its publisher's place and its slot; its number, by which commands name it, only proofs read.
+///
+/// This port's own.
+#[derive(Drop)]
+pub struct TurnLoan {
+    /// The place of its publisher.
+    pub publisher: usize,
+    /// Its slot.
+    pub slot: u64,
+    /// By which number commands name it.
+    pub number: TurnNumber,
+}
+
+/// A sample of lanes in turn, by its subscriber's place and its slot; its number, by which commands name it, only proofs read.
+///
+/// This port's own.
+#[derive(Drop)]
+pub struct TurnSample {
+    /// The place of its subscriber.
+    pub subscriber: usize,
+    /// Its slot.
+    pub slot: u64,
+    /// By which number commands name it.
+    pub number: TurnNumber,
+}
+
+/// Lanes whose calls go in turn, one whole call after the other. Proofs know what was asked, in the words of commands, and what was
+/// answered.
+///
+/// Each call says which command it is, and what it is answered. It answers None, and nothing is recorded, where it doesn't fit, or where
+/// memory or steps ran out within it: then no call is made any more. That these are a run of the machine says `answers_as_machine`. This
+/// port's own.
+#[derive(Drop)]
+pub struct LanesInTurn {
+    lanes: Lanes,
+    // Whether a call ran out of memory or steps.
+    stuck: bool,
+    history: TurnHistory,
+}
+
+impl Model for LanesInTurn {
+    ghost use Rattle.iox_lanes_service.specs.InTurn.{Turns};
+    ghost use Rattle.iox_lanes_service.specs.Turning.{AreTurns};
+
+    ghost Value = { Turns };
+
+    ghost view = { λ it. it.history.turns };
+
+    ghost invariant = { λ it. AreTurns it.stuck it.history.turns it.lanes };
+}
+
+impl LanesInTurn {
+    /// Lanes of these sizes, of which nothing was asked. It fails only where an allocation fails.
+    /// Example: `let mut lanes = LanesInTurn::new(alloc, sizes)?;`
+    pub fn new(alloc: Global, sizes: LaneSizes) -> Result<LanesInTurn, AllocError>
+        requires { 0 < sizes.buffer }
+        ensures begun { IfOk result (λ lanes. lanes ≡ record {
+          sizes = sizes;
+          asked = [];
+          answers = [];
+          loans = 0;
+          samples = 0;
+          lent = [];
+          held = [];
+        }) }
+    {
+        if sizes.buffer >= 1 << 61
+            || sizes.most_borrowed >= 1 << 61
+            || sizes.subscribers >= 1 << 61
+        {
+            return Err(AllocError);
+        }
+        if sizes.publishers.checked_mul(sizes.slots).is_none() {
+            return Err(AllocError);
+        }
+        Ok(LanesInTurn {
+            lanes: Lanes::new(alloc, sizes)?,
+            stuck: false,
+            history: TurnHistory::told(&sizes, &(), &()),
+        })
+    }
+
+    /// Nothing happens. What was asked and answered is a run of the machine, from where it has one service, at which as many ports came as
+    /// these lanes have, and nothing was lent or sent.
+    /// Example: `lanes.answers_as_machine();`
+    pub fn answers_as_machine(&self)
+        ensures answers { (types : MessageTypeDetails) (buffer : ℕ) (state : State (List ℕ)) → BeginsTurns self.now.sizes state
+            → (after : State (List ℕ)) × Runs types (as_named (λ words. ⊤)) buffer self.now.asked state self.now.answers after }
+    {
+        let _ = &self.lanes;
+    }
+
+    /// The publisher at a place lends a slot for one value: the command `LoanUninit`.
+    ///
+    /// Refused where as many loans are out as may be, or each slot is in use.
+    /// Example: `let loan = lanes.loan(0)?;`
+    pub fn loan(&mut self, publisher: usize) -> Option<Result<TurnLoan, LoanError>>
+        ensures lent { MatchOption result (self.new ≡ self.old) (λ answer. MatchResult answer
+            (λ loan. self.new ≡ record (turned (command.LoanUninit (suc publisher) 1) (reply.LoanMade (self.old.loans + 1)) self.old) {
+              loans = self.old.loans + 1;
+              lent = self.old.lent ++ (self.old.loans + 1, record { publisher = publisher; slot = loan.slot }) ∷ [];
+            })
+            (λ why. self.new ≡ turned (command.LoanUninit (suc publisher) 1) (reply.Refused (refusal.Loan why)) self.old)) }
+        ensures number { MatchOption result (Unit {0}) (λ answer. IfOk answer (λ loan. (loan.publisher ≡ publisher)
+            × (loan.number.value ≡ self.old.loans + 1)
+            × (at loan.number.value self.new.lent ≡ Some (record { publisher = publisher; slot = loan.slot })))) }
+    {
+        if self.stuck {
+            return None;
+        }
+        match take_turn(
+            &mut self.lanes,
+            Party::Publisher(publisher),
+            Call::LoanUninit,
+        ) {
+            Turn::NotBegun => None,
+            Turn::Ended(Answer::Lent(given)) => {
+                let number = TurnNumber::given(&self.history);
+                self.history = TurnHistory::told(&self.history, &publisher, &given);
+                Some(lent_as(publisher, given, number))
+            }
+            _ => {
+                self.stuck = true;
+                None
+            }
+        }
+    }
+
+    /// A loan's publisher writes these words of payload into it, and keeps these of the user header for its send: the command `Fill`.
+    /// Whether it did: false, too, where they aren't as many as the lanes' sizes say.
+    /// Example: `let is_written = lanes.write(&loan, payload, user_header);`
+    pub fn write(&mut self, loan: &TurnLoan, payload: Vec<u64>, user_header: Vec<u64>) -> bool
+        requires { at loan.now.number.value self.old.lent ≡ Some (record { publisher = loan.now.publisher; slot = loan.now.slot }) }
+        ensures written { MatchBool result
+            (self.new ≡ turned (command.Fill loan.now.number.value (payload.items ∷ [])) reply.Done self.old) (self.new ≡ self.old) }
+    {
+        if self.stuck {
+            return false;
+        }
+        let history = TurnHistory::told(&self.history, &loan.number, &payload);
+        match take_turn(
+            &mut self.lanes,
+            Party::Publisher(loan.publisher),
+            Call::Write {
+                loan: loan.slot,
+                payload,
+                user_header,
+            },
+        ) {
+            Turn::NotBegun => false,
+            Turn::Ended(Answer::Written) => {
+                self.history = history;
+                true
+            }
+            _ => {
+                self.stuck = true;
+                false
+            }
+        }
+    }
+
+    /// A loan that is written is sent, and goes by no number then: the command `Send`. None where it isn't written.
+    ///
+    /// Refused where the publisher fails at full mailboxes, and one refused the message.
+    /// Example: `let taken = lanes.send(&loan)?;`
+    pub fn send(&mut self, loan: &TurnLoan) -> Option<Result<u64, SendError>>
+        requires { at loan.now.number.value self.old.lent ≡ Some (record { publisher = loan.now.publisher; slot = loan.now.slot }) }
+        ensures sent { MatchOption result (self.new ≡ self.old) (λ answer. MatchResult answer
+            (λ taken. self.new ≡ record (turned (command.Send loan.now.number.value) (reply.Delivered taken) self.old) {
+              lent = removed loan.now.number.value self.old.lent;
+            })
+            (λ why. self.new ≡ record (turned (command.Send loan.now.number.value) (reply.Refused (refusal.Send why)) self.old) {
+              lent = removed loan.now.number.value self.old.lent;
+            })) }
+    {
+        if self.stuck {
+            return None;
+        }
+        match take_turn(
+            &mut self.lanes,
+            Party::Publisher(loan.publisher),
+            Call::Send { loan: loan.slot },
+        ) {
+            Turn::NotBegun => None,
+            Turn::Ended(Answer::Sent(given)) => {
+                self.history = TurnHistory::told(&self.history, &loan.number, &given);
+                Some(sent_as(given))
+            }
+            _ => {
+                self.stuck = true;
+                None
+            }
+        }
+    }
+
+    /// A loan is given up, and goes by no number then: the command `Drop`. Whether it was.
+    /// Example: `let is_dropped = lanes.drop_loan(&loan);`
+    pub fn drop_loan(&mut self, loan: &TurnLoan) -> bool
+        requires { at loan.now.number.value self.old.lent ≡ Some (record { publisher = loan.now.publisher; slot = loan.now.slot }) }
+        ensures dropped { MatchBool result
+            (self.new ≡ record (turned (command.Drop loan.now.number.value) reply.Done self.old) {
+              lent = removed loan.now.number.value self.old.lent;
+            })
+            (self.new ≡ self.old) }
+    {
+        if self.stuck {
+            return false;
+        }
+        match take_turn(
+            &mut self.lanes,
+            Party::Publisher(loan.publisher),
+            Call::DropLoan { loan: loan.slot },
+        ) {
+            Turn::NotBegun => false,
+            Turn::Ended(Answer::Dropped) => {
+                self.history = TurnHistory::told(&self.history, &loan.number, &());
+                true
+            }
+            _ => {
+                self.stuck = true;
+                false
+            }
+        }
+    }
+
+    /// The subscriber at a place receives: the command `Receive`.
+    ///
+    /// Refused where it has borrowed as many samples as it may.
+    /// Example: `let sample = lanes.receive(0)?;`
+    pub fn receive(&mut self, subscriber: usize) -> Option<Result<Option<TurnSample>, ReceiveError>>
+        ensures received { MatchOption result (self.new ≡ self.old) (λ answer. MatchResult answer
+            (λ came. MatchOption came (self.new ≡ turned (command.Receive (suc subscriber)) reply.NothingWaits self.old)
+            (λ sample. (publisher : ℕ) × (values : Vec (List ℕ))
+            × (self.new ≡ record (turned (command.Receive (suc subscriber)) (reply.Received (self.old.samples + 1) values) self.old) {
+              samples = self.old.samples + 1;
+              held = self.old.held
+                  ++ (self.old.samples + 1, record { publisher = publisher; subscriber = subscriber; slot = sample.slot }) ∷ [];
+            })))
+            (λ why. self.new ≡ turned (command.Receive (suc subscriber)) (reply.Refused (refusal.Receive why)) self.old)) }
+        ensures number { MatchOption result (Unit {0}) (λ answer. IfOk answer (λ came. IfSome came (λ sample.
+            (sample.subscriber ≡ subscriber) × (sample.number.value ≡ self.old.samples + 1)
+            × ((publisher : ℕ) × (at sample.number.value self.new.held
+            ≡ Some (record { publisher = publisher; subscriber = subscriber; slot = sample.slot })))))) }
+    {
+        if self.stuck {
+            return None;
+        }
+        let seen = Seen::of(&self.lanes);
+        match take_turn(
+            &mut self.lanes,
+            Party::Subscriber(subscriber),
+            Call::Receive,
+        ) {
+            Turn::NotBegun => None,
+            Turn::Ended(Answer::Received(given)) => {
+                let number = TurnNumber::given(&self.history);
+                self.history = TurnHistory::told(&self.history, &seen, &(subscriber, given));
+                Some(taken_as(subscriber, given, number))
+            }
+            _ => {
+                self.stuck = true;
+                None
+            }
+        }
+    }
+
+    /// A sample is read: the command `Read`. The words of its payload, if memory is found for them.
+    /// Example: `let words = lanes.read(alloc, &sample)?;`
+    pub fn read(
+        &mut self,
+        alloc: Global,
+        sample: &TurnSample,
+    ) -> Option<Result<Vec<u64>, AllocError>>
+        requires { (publisher : ℕ) × (at sample.now.number.value self.old.held
+            ≡ Some (record { publisher = publisher; subscriber = sample.now.subscriber; slot = sample.now.slot })) }
+        ensures read { MatchOption result (self.new ≡ self.old) (λ answer. (values : Vec (List ℕ))
+            × (self.new ≡ turned (command.Read sample.now.number.value) (reply.Values values) self.old)
+            × IfOk answer (λ words. vec_items values ≡ words.items ∷ [])) }
+    {
+        if self.stuck {
+            return None;
+        }
+        match take_turn(
+            &mut self.lanes,
+            Party::Subscriber(sample.subscriber),
+            Call::Read {
+                sample: sample.slot,
+            },
+        ) {
+            Turn::NotBegun => None,
+            Turn::Ended(Answer::Read { from }) => {
+                let words = payload_read(&self.lanes, from);
+                let copied = Vec::from_slice(alloc, words);
+                self.history = TurnHistory::told(&self.history, &sample.number, &words);
+                Some(copied)
+            }
+            _ => {
+                self.stuck = true;
+                None
+            }
+        }
+    }
+
+    /// A sample is released, and goes by no number then: the command `Release`. Whether it was.
+    /// Example: `let is_released = lanes.release(&sample);`
+    pub fn release(&mut self, sample: &TurnSample) -> bool
+        requires { (publisher : ℕ) × (at sample.now.number.value self.old.held
+            ≡ Some (record { publisher = publisher; subscriber = sample.now.subscriber; slot = sample.now.slot })) }
+        ensures released { MatchBool result
+            (self.new ≡ record (turned (command.Release sample.now.number.value) reply.Done self.old) {
+              held = removed sample.now.number.value self.old.held;
+            })
+            (self.new ≡ self.old) }
+    {
+        if self.stuck {
+            return false;
+        }
+        match take_turn(
+            &mut self.lanes,
+            Party::Subscriber(sample.subscriber),
+            Call::Release {
+                sample: sample.slot,
+            },
+        ) {
+            Turn::NotBegun => false,
+            Turn::Ended(Answer::Released(true)) => {
+                self.history = TurnHistory::told(&self.history, &sample.number, &());
+                true
+            }
+            _ => {
+                self.stuck = true;
+                false
+            }
+        }
+    }
+}
+
+// What a publisher at a place lent, by this number, or why it lent nothing.
+fn lent_as(publisher: usize, given: LoanAnswer, number: TurnNumber) -> Result<TurnLoan, LoanError>
+    ensures { result ≡ lent_as publisher given number }
+{
+    match given {
+        LoanAnswer::Slot(slot) => Ok(TurnLoan {
+            publisher,
+            slot,
+            number,
+        }),
+        LoanAnswer::ExceedsMaxLoans => Err(LoanError::ExceedsMaxLoans),
+        LoanAnswer::OutOfMemory => Err(LoanError::OutOfMemory),
+    }
+}
+
+// What a publisher tells of a send.
+fn sent_as(given: SendAnswer) -> Result<u64, SendError>
+    ensures { result ≡ sent_as given }
+{
+    match given {
+        SendAnswer::Delivered(delivery) => Ok(delivery.taken),
+        SendAnswer::UnableToDeliver(_) => Err(SendError::UnableToDeliver),
+    }
+}
+
+// What a receive gave to a subscriber at a place, by this number, or why it gave nothing.
+fn taken_as(
+    subscriber: usize,
+    given: Receipt,
+    number: TurnNumber,
+) -> Result<Option<TurnSample>, ReceiveError>
+    ensures { result ≡ taken_as subscriber given number }
+{
+    match given {
+        Receipt::Taken { slot, .. } => Ok(Some(TurnSample {
+            subscriber,
+            slot,
+            number,
+        })),
+        Receipt::Nothing => Ok(None),
+        Receipt::ExceedsMaxBorrows => Err(ReceiveError::ExceedsMaxBorrows),
+    }
+}
+
+// What lies behind so many words.
+fn behind(words: &[u64], count: usize) -> &[u64]
+    ensures { result.now ≡ drop count words.now }
+{
+    match words.get(count..) {
+        Some(rest) => rest,
+        None => &[],
+    }
+}
+
+// The words of the payload that a read gave, behind header and user header.
+fn payload_read(lanes: &Lanes, from: usize) -> &[u64]
+    ensures { result.now ≡ drop lanes.now.table.sizes.user_header_words (drop 3 (drop from lanes.now.read)) }
+{
+    let words = behind(lanes.words_read(), from);
+    behind(
+        behind(words, 3),
+        lanes.table().sizes().user_header_words as usize,
+    )
+}

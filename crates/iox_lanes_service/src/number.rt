@@ -1,0 +1,28 @@
+//! By which numbers commands name what lanes in turn lend.
+ghost use Rattle.std.specs.Prelude.{ℕ, ◌≡◌};
+
+use std::marker::Model;
+
+/// A number that only proofs read. It takes no memory.
+///
+/// This port's own.
+#[derive(Drop)]
+pub struct TurnNumber {
+    pub ghost value: { ℕ },
+}
+
+impl Model for TurnNumber {
+    ghost use Rattle.std.specs.Borrow.{ftrue};
+
+    ghost also_owns = { λ number. ftrue };
+}
+
+impl TurnNumber {
+    // The number that its caller says, from what is at hand.
+    pub(crate) fn given<A>(_from: &A) -> TurnNumber
+        ghost value: { ℕ }
+        ensures { result.value ≡ value }
+    {
+        TurnNumber {}
+    }
+}

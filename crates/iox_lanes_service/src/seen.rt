@@ -1,0 +1,29 @@
+//! What lanes were before a call, which only proofs read.
+ghost use Rattle.std.specs.Prelude.{◌≡◌};
+ghost use Rattle.iox_lanes_machine.specs.World.{World};
+
+use std::marker::Model;
+
+/// Lanes as they were. It takes no memory, and nothing is done with it at run time.
+///
+/// This port's own.
+#[derive(Drop)]
+pub(crate) struct Seen {
+    pub(crate) ghost lanes: { World },
+}
+
+impl Model for Seen {
+    ghost use Rattle.std.specs.Borrow.{ftrue};
+
+    ghost also_owns = { λ seen. ftrue };
+}
+
+impl Seen {
+    // The lanes that its caller says, from what is at hand.
+    pub(crate) fn of<A>(_from: &A) -> Seen
+        ghost lanes: { World }
+        ensures { result.lanes ≡ lanes }
+    {
+        Seen {}
+    }
+}
