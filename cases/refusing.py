@@ -1,4 +1,4 @@
-"""What programs do where memory ends: each request for memory that one makes is refused in turn; and how much stack the hub's program needs.
+"""What programs do where memory ends, where each request for memory is refused in turn; and how much stack the hub's program needs.
 
 A library that is laid before the program makes a further process at each request, which meets that one refused and goes on to its end. Its
 replies are as with memory to spare; or the line at which the request is made is refused, which did nothing but what others had done before;
@@ -325,7 +325,7 @@ def what_is_told_without_memory_comes_before_want_of_it():
 
 
 def refusals_in(tests, library, name):
-    """Has each of the first requests of a test refused in turn. Returns how often it failed for it; where it fails otherwise, that differs."""
+    """Has each of the first requests of a test refused in turn. Returns how often it failed for it; any other failure differs."""
     failed = 0
     with tempfile.TemporaryDirectory(prefix="iox-check-") as folder:
         for number, ended, _ in run(tests, library, Path(folder), b"", each=True, words=[name], most=MOST)[:MOST]:

@@ -354,7 +354,8 @@ def main(words):
     counted = [it for it in (counts, *typed(known, asked)) if it not in PAGE.read_text()]
     for it in counted:
         print(f"not on the page: {it}")
-    print(f"{len(wanted)} definitions reached, {len(missing)} of them not listed; {len(extra)} listed and not reached, {len(strange)} unknown")
+    print(f"{len(wanted)} definitions reached, {len(missing)} of them not listed")
+    print(f"{len(extra)} listed and not reached, {len(strange)} unknown")
     return 1 if missing or extra or strange or counted else 0
 
 
