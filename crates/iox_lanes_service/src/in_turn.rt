@@ -78,7 +78,8 @@ impl Model for LanesInTurn {
 }
 
 impl LanesInTurn {
-    /// Lanes of these sizes, of which nothing was asked. It fails only where an allocation fails.
+    /// Lanes of these sizes, of which nothing was asked. It fails where an allocation fails. Refused as that are 2^61 or more subscribers, or
+    /// messages that may wait or be borrowed, and 2^64 or more slots.
     /// Example: `let mut lanes = LanesInTurn::new(alloc, sizes)?;`
     pub fn new(alloc: Global, sizes: LaneSizes) -> Result<LanesInTurn, AllocError>
         requires { 0 < sizes.buffer }
