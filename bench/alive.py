@@ -7,23 +7,23 @@ Usage: bench/alive.py [--count] [PROGRAM [WORD]]     (PROGRAM is crates/iox/out/
 It is asked about all rows, or about those whose name has the word.
 
 Each figure is the least of three runs of a script, less the least of three of its beginning alone, for each line behind that. With
-`--count` it is instructions, of one run each, as callgrind of valgrind counts them: these tell the same on a busy machine. An
-instruction that repeats itself over bytes would count once a byte, so the C library is told to clear and copy without it.
+`--count` it is instructions, of one run each, as callgrind of valgrind counts them: these tell the same on a busy machine.
 """
-import os
 import re
 import subprocess
 import sys
 import time
 from pathlib import Path
 
+# What is imported leaves nothing in the work tree.
+sys.dont_write_bytecode = True
+from callgrind import counted
+
 WORDS = [it for it in sys.argv[1:] if it != "--count"]
 PROGRAM = Path(WORDS[0] if WORDS else Path(__file__).resolve().parent.parent / "crates" / "iox" / "out" / "iox").resolve()
 IS_COUNTING, WORD = "--count" in sys.argv, (WORDS[1:] or [""])[0]
 # Counting takes some fifty times as long, so so much less of what is behind is counted.
 A_COUNT = 20
-# Clearing and copying by instructions of 32 bytes.
-WITHOUT_REPEATS = "glibc.cpu.x86_rep_stosb_threshold=1000000000:glibc.cpu.x86_rep_movsb_threshold=1000000000"
 # How many lines a row measures, but for those whose lines walk many ports.
 LINES = 300_000
 
@@ -48,10 +48,7 @@ def seconds(script):
 
 def instructions(script):
     """The instructions of one run."""
-    words = ["valgrind", "--tool=callgrind", "--callgrind-out-file=/dev/null", PROGRAM]
-    how = {"stdout": subprocess.DEVNULL, "stderr": subprocess.PIPE, "env": {**os.environ, "GLIBC_TUNABLES": WITHOUT_REPEATS}}
-    ran = subprocess.run(words, input=script.encode(), check=True, **how)
-    return int(re.search(rb"Collected : (\d+)", ran.stderr)[1])
+    return counted([PROGRAM], script.encode())[0]
 
 
 def tell(what, beginning, behind, unit=1):

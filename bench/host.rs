@@ -1,5 +1,26 @@
-//! What a Rattle library asks of its host: memory. Each benchmark in Rust takes it in by `#[path]`.
+//! What a Rattle library asks of its host, memory, and what of a bench is counted. Each benchmark in Rust takes it in by `#[path]`.
 use std::alloc::{Layout, alloc, dealloc, realloc};
+
+/// What is counted: its name, and a run of so many rounds.
+pub type Row = (String, Box<dyn Fn(u64) -> u64>);
+
+pub fn row(name: String, run: impl Fn(u64) -> u64 + 'static) -> Row {
+    (name, Box::new(run))
+}
+
+/// Where the program was called as `PROGRAM count ROW ROUNDS`, makes so many rounds of that row, and prints its name; past the last row it
+/// prints nothing. Returns whether it was called so.
+pub fn is_counted(rows: impl IntoIterator<Item = Row>) -> bool {
+    let words: Vec<String> = std::env::args().skip(1).collect();
+    let ["count", at, rounds] = words.iter().map(String::as_str).collect::<Vec<_>>()[..] else {
+        return false;
+    };
+    if let Some((name, run)) = rows.into_iter().nth(at.parse().unwrap()) {
+        std::hint::black_box(run(rounds.parse().unwrap()));
+        println!("{name}");
+    }
+    true
+}
 
 /// What an allocation answers to a Rattle library.
 #[repr(C)]

@@ -16,6 +16,11 @@ import subprocess
 import sys
 import tempfile
 import time
+from pathlib import Path
+
+# What is imported leaves nothing in the work tree.
+sys.dont_write_bytecode = True
+from callgrind import counted
 
 HERE = os.path.dirname(os.path.abspath(__file__))
 SIZES = (10**4, 10**5, 10**6)
@@ -68,26 +73,6 @@ def kilobytes(program, path):
             ["/usr/bin/time", "-f", "%M", program], stdin=source, stdout=subprocess.DEVNULL, stderr=subprocess.PIPE
         )
     return int(run.stderr.split()[-1])
-
-
-# An instruction that repeats itself over bytes would count once a byte, so the C library is told to clear and copy without it.
-WITHOUT_REPEATS = "glibc.cpu.x86_rep_stosb_threshold=1000000000:glibc.cpu.x86_rep_movsb_threshold=1000000000"
-
-
-def instructions(program, path):
-    """How many instructions a run takes, as valgrind counts them."""
-    with open(path, "rb") as source:
-        run = subprocess.run(
-            ["valgrind", "--tool=callgrind", "--callgrind-out-file=/dev/null", program],
-            stdin=source,
-            stdout=subprocess.DEVNULL,
-            stderr=subprocess.PIPE,
-            env={**os.environ, "GLIBC_TUNABLES": WITHOUT_REPEATS},
-        )
-    for line in run.stderr.decode().splitlines():
-        if "Collected :" in line:
-            return int(line.split()[-1])
-    sys.exit("valgrind gave no count")
 
 
 def check_replies(program, path, lines):
@@ -144,7 +129,7 @@ def main():
             print(f"{name}: ns a line at 10^4, 10^5, 10^6:", *(f"{cost:.1f}" for cost in costs))
             print(f"{name}: a line of 10^6 costs {costs[2] / costs[0]:.2f} times a line of 10^4, by the clock")
         if shutil.which("valgrind"):
-            counts = [instructions(program, os.path.join(folder, f"lines-{lines}")) / lines for lines in SIZES]
+            counts = [counted([program], Path(folder, f"lines-{lines}").read_bytes())[0] / lines for lines in SIZES]
             print("program: instructions a line at 10^4, 10^5, 10^6:", *(f"{count:.1f}" for count in counts))
             print(f"program: a line of 10^6 costs {counts[2] / counts[0]:.3f} times a line of 10^4, in instructions")
 

@@ -94,7 +94,18 @@ leave p1
 loan p1 1
 leave s1
 receive s1
+create n1 ev C
+create n1 rr C
+create n1 ps A
+create n1 ps A @a=b
+create n1 ps A |2 register:x1
+create n1 ps A nodes=16777216
+create n1 ev C
+create n1 rr C
 """
+# A node of others comes into a service of three nodes at the first access of a node of the hub. Where it is in, one node more finds room.
+COMING = b"open n1 ev E |1 register:x2"
+BESIDE = b"foreign ev E lock:x1 publish:x1:nodes=3\n" + COMING + b"\nopen n2 ev E\nopen n3 ev E\n"
 REFUSER = r"""
 #define _GNU_SOURCE
 #include <fcntl.h>
@@ -199,7 +210,7 @@ class Row:
         return [answer(machine) if i == at else machine.answer(line) for i, line in enumerate(self.lines)]
 
     def refused(self, at):
-        """Yields the replies where the line is refused: others had done their first steps, so many as the refusal came after."""
+        """Yields the replies where the line is refused, and how many of their steps others had done when the refusal came."""
         try:
             command = read_command(self.lines[at])
         except Faulty:
@@ -213,7 +224,7 @@ class Row:
                         machine.names.act(tuple(service), *step)
                     return told
 
-                yield self.said(at, answer)
+                yield count, self.said(at, answer)
 
     def unconnected(self, at):
         """Yields the replies where one of the connections isn't made that the line makes."""
@@ -237,7 +248,8 @@ class Row:
     def ways(self, at):
         """Each way in which all lines may be answered, with what it is called."""
         if at not in self.known:
-            self.known[at] = [("refused", it) for it in self.refused(at)] + [("unconnected", it) for it in self.unconnected(at)]
+            self.known[at] = [("refused late" if count else "refused", it) for count, it in self.refused(at)]
+            self.known[at] += [("unconnected", it) for it in self.unconnected(at)]
         return self.known[at]
 
     def judge(self, at, status, got, said):
@@ -319,9 +331,25 @@ def what_is_told_without_memory_comes_before_want_of_it():
     with tempfile.TemporaryDirectory(prefix="iox-check-") as folder:
         met = {(at, what) for at, _, what in outcomes(program, refuser_in(folder), NEEDING_NONE)}
     told = [at for at, it in enumerate(replies(NEEDING_NONE)) if it == "skip" or it.startswith("err")]
-    expect((len(told), [at for at in told if (at, "refused") in met]), (40, []))
+    expect((len(told), [at for at in told if {(at, "refused"), (at, "refused late")} & met]), (46, []))
     # One line further it is found wanting.
     expect((NEEDING_NONE.splitlines().index(b"create n1 ps A"), "refused") in met, True)
+
+
+@case_of_program
+def want_of_room_for_a_service_is_told_before_any_step_of_its_line():
+    wanted, found = Wanted(), []
+    program = wanted.proved if wanted.proved.exists() else wanted.unproved
+    with tempfile.TemporaryDirectory(prefix="iox-check-") as folder:
+        library = refuser_in(folder)
+        # Beside a factory there is room for another.
+        for before in (b"", b"create n1 ev D\n"):
+            script = b"node\n" * 3 + before + BESIDE
+            line = script.splitlines().index(COMING)
+            found.append(Counter(what for at, _, what in outcomes(program, library, script) if at == line))
+    first, second = found
+    expect((first["refused"] > second["refused"], first["refused late"] - second["refused late"]), (True, 0))
+    expect_in("refused late", second)
 
 
 def refusals_in(tests, library, name):

@@ -35,6 +35,10 @@ fn main() {
         row("service_hash", hash_rounds, 50_000),
         row("verdict", verdict_rounds, 200_000),
     ];
+    let counted = rows.iter().map(|it| (it.name, it.run));
+    if host::is_counted(counted.map(|(name, run)| host::row(name.to_string(), move |n| unsafe { run(n) }))) {
+        return;
+    }
     for _ in 0..31 {
         for row in &mut rows {
             let begin = Instant::now();

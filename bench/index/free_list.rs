@@ -129,6 +129,12 @@ fn main() {
         ("two and two", |c, n| unsafe { index_pairs(c, n) }, list_pairs),
         ("eight and eight, each", |c, n| unsafe { index_bursts(c, 8, n / 8) }, |c, n| list_bursts(c, 8, n / 8)),
     ];
+    let counted = |(name, set, list): (&str, Side, Side)| {
+        [host::row(format!("{name}: index set"), move |n| set(256, n)), host::row(format!("{name}: free list"), move |n| list(256, n))]
+    };
+    if host::is_counted(kinds.into_iter().flat_map(counted)) {
+        return;
+    }
     let mut rows = Vec::new();
     for (name, set, list) in kinds {
         for capacity in [16, 256, 4_096, 65_536] {

@@ -97,24 +97,35 @@ fn nanoseconds(run: impl Fn(u64) -> u64, rounds: u64) -> (f64, u64) {
 }
 
 /// The two in turn, so that other load on the machine meets both; the best of 31 short runs counts.
-fn row(name: &str, capacity: usize, map: impl Fn(u64) -> u64, slab: impl Fn(u64) -> u64) {
+fn row(name: &str, capacity: usize, map: Side, slab: Side) {
     let rounds = 2_000_000;
     let (mut ours, mut plain) = (f64::MAX, f64::MAX);
     for _ in 0..31 {
-        let (time, one) = nanoseconds(&slab, rounds);
+        let (time, one) = nanoseconds(|n| slab(capacity, n), rounds);
         plain = plain.min(time);
-        let (time, other) = nanoseconds(&map, rounds);
+        let (time, other) = nanoseconds(|n| map(capacity, n), rounds);
         ours = ours.min(time);
         assert_eq!(one, other, "both give the same keys");
     }
     println!("{name}, capacity {capacity}: slot map {ours:.2} ns, slab {plain:.2} ns, quotient {:.2}", ours / plain);
 }
 
+type Side = fn(usize, u64) -> u64;
+
 fn main() {
-    for capacity in [16, 256, 4_096, 65_536] {
-        row("remove and insert", capacity, |n| unsafe { slot_map_rounds(capacity, n) }, |n| slab_rounds(capacity, n));
+    let kinds: [(&str, Side, Side); 2] = [
+        ("remove and insert", |c, n| unsafe { slot_map_rounds(c, n) }, slab_rounds),
+        ("two and two", |c, n| unsafe { slot_map_pairs(c, n) }, slab_pairs),
+    ];
+    let counted = |(name, map, slab): (&str, Side, Side)| {
+        [host::row(format!("{name}: slot map"), move |n| map(256, n)), host::row(format!("{name}: slab"), move |n| slab(256, n))]
+    };
+    if host::is_counted(kinds.into_iter().flat_map(counted)) {
+        return;
     }
-    for capacity in [16, 256, 4_096, 65_536] {
-        row("two and two", capacity, |n| unsafe { slot_map_pairs(capacity, n) }, |n| slab_pairs(capacity, n));
+    for (name, map, slab) in kinds {
+        for capacity in [16, 256, 4_096, 65_536] {
+            row(name, capacity, map, slab);
+        }
     }
 }

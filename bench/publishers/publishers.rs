@@ -272,7 +272,19 @@ fn best(runs: usize, rounds: u64, cycle: impl Fn() -> u64) -> (f64, u64) {
 }
 
 fn main() {
-    for (slots, subscribers, values, rounds) in [(8, 1, 1, 1_000_000), (8_192, 1, 1, 1_000_000), (20, 4, 1, 300_000), (8, 1, 512, 200_000)] {
+    let cases = [(8, 1, 1, 1_000_000), (8_192, 1, 1, 1_000_000), (20, 4, 1, 300_000), (8, 1, 512, 200_000)];
+    let counted = |(slots, subscribers, values, _)| {
+        let name = format!("{slots} slots, {subscribers} subscribers, {} bytes", 8 * values);
+        [
+            host::row(format!("{name}: ours"), move |n| unsafe { publisher_cycle(slots, subscribers, values, n) }),
+            host::row(format!("{name}: plain"), move |n| plain_cycle(slots, subscribers, values, n)),
+            host::row(format!("{name}: atomics"), move |n| atomic_cycle(slots, subscribers, values, n)),
+        ]
+    };
+    if host::is_counted(cases.into_iter().flat_map(counted)) {
+        return;
+    }
+    for (slots, subscribers, values, rounds) in cases {
         let ours = best(9, rounds, || unsafe { publisher_cycle(slots, subscribers, values, rounds) });
         let plain = best(9, rounds, || plain_cycle(slots, subscribers, values, rounds));
         let atomic = best(9, rounds, || atomic_cycle(slots, subscribers, values, rounds));

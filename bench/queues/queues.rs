@@ -153,7 +153,7 @@ const TURNS: usize = 31;
 const ROUNDS: u64 = 1_000_000;
 
 /// Both sides in turn, the best of each.
-fn compare(name: &str, ours: unsafe extern "C" fn(u64) -> u64, theirs: fn(u64) -> u64) {
+fn compare((name, ours, theirs): Sides) {
     let (mut best_ours, mut best_theirs) = (f64::MAX, f64::MAX);
     for _ in 0..TURNS {
         let (ours, our_sum) = time(|| unsafe { ours(black_box(ROUNDS)) }, ROUNDS);
@@ -211,13 +211,25 @@ fn median(times: &mut [f64]) -> f64 {
     times[times.len() / 2]
 }
 
+/// What is compared: its name, ours and theirs.
+type Sides = (&'static str, unsafe extern "C" fn(u64) -> u64, fn(u64) -> u64);
+
 fn main() {
+    let sides: [Sides; 5] = [
+        ("plain: pop and push", plain_rounds, ring_rounds),
+        ("plain: push into a full queue, overflowing", plain_overflows, ring_overflows),
+        ("shared: pop and push", shared_rounds, shared_ring_rounds),
+        ("shared, overflowing: pop and push", shared_over_rounds, shared_ring_over_rounds),
+        ("shared: push into a full queue, overflowing", shared_overflows, shared_ring_overflows),
+    ];
+    let counted = |(name, ours, theirs): Sides| {
+        [host::row(format!("{name}: ours"), move |n| unsafe { ours(n) }), host::row(format!("{name}: Rust"), theirs)]
+    };
+    if host::is_counted(sides.into_iter().flat_map(counted)) {
+        return;
+    }
     println!("{:44} {:>9}  {:>9}  quotient", "", "Rattle", "Rust");
-    compare("plain: pop and push", plain_rounds, ring_rounds);
-    compare("plain: push into a full queue, overflowing", plain_overflows, ring_overflows);
-    compare("shared: pop and push", shared_rounds, shared_ring_rounds);
-    compare("shared, overflowing: pop and push", shared_over_rounds, shared_ring_over_rounds);
-    compare("shared: push into a full queue, overflowing", shared_overflows, shared_ring_overflows);
+    sides.into_iter().for_each(compare);
     let Some(path) = std::env::args().nth(1) else {
         return;
     };

@@ -124,8 +124,19 @@ fn best(runs: usize, rounds: u64, cycle: impl Fn() -> u64) -> (f64, u64) {
 }
 
 fn main() {
+    let cases = [(8, 1), (8_192, 1), (12, 4), (8_192, 4)];
+    let counted = |(slots, connections)| {
+        let name = format!("{slots} slots, {connections} connections");
+        [
+            host::row(format!("{name}: ours"), move |n| unsafe { slots_cycle(slots, connections, n) }),
+            host::row(format!("{name}: plain"), move |n| plain_cycle(slots, connections, n)),
+        ]
+    };
+    if host::is_counted(cases.into_iter().flat_map(counted)) {
+        return;
+    }
     println!("slots connections   ours ns  plain ns  quotient");
-    for (slots, connections) in [(8, 1), (8_192, 1), (12, 4), (8_192, 4)] {
+    for (slots, connections) in cases {
         let rounds = 1_000_000;
         let ours = best(9, rounds, || unsafe { slots_cycle(slots, connections, rounds) });
         let plain = best(9, rounds, || plain_cycle(slots, connections, rounds));

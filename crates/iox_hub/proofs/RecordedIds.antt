@@ -1,5 +1,5 @@
 -- No call of a hub changes what tells it apart.
-use Rattle.std.proofs.Common.{◌≡◌, ◌∙◌, ℕ, Bool, true, false, List, [], length, Option, None, Some, Result, Ok, Err, ap, refl}
+use Rattle.std.proofs.Common.{◌≡◌, ◌∙◌, ℕ, Bool, true, false, List, [], length, Option, None, Some, Result, Ok, Err, ap, inl, inr, refl}
 use Rattle.iox_command.specs.declared.service.PublishSubscribeOptions.{PublishSubscribeOptions}
 use Rattle.iox_command.specs.declared.service.ServiceOptions.TheVariants as options
 use Rattle.iox_delivery.specs.Publishing.{RetriesSend, changed_at}
@@ -112,7 +112,7 @@ module _ {T U B D : Type 0} where
   enters_keeps : (payload user_header : Detail) (member : Membership) (entered : Result Opened Bool) (old new : Hub T U B D)
       → Enters payload user_header member old entered new → new.table.id ≡ old.table.id
   enters_keeps payload user_header member (Ok made) old new (made_is, opens, is) = ap (λ hub. hub.table.id) is
-  enters_keeps payload user_header member (Err was_new) old new (is, ((closed, closes), same)) =
+  enters_keeps payload user_header member (Err was_new) old new (is, wants, ((closed, closes), same)) =
       sights-keep closes.made old.table new.table closes.went
 
   settles_keeps : {E : Type 0} (payload user_header : Detail) (lacking : Bool → E) (member : Result Membership E) (old new : Hub T U B D)
@@ -127,7 +127,9 @@ module _ {T U B D : Type 0} where
       (answer : Result ℕ Refusal)
       → EitherAs (options.PublishSubscribe named) payload user_header types node name required [] table old answer after new
       → new.table.id ≡ old.table.id
-  either_keeps payload user_header types node name named required table after old new answer (opened, opens, numbers) =
+  either_keeps payload user_header types node name named required table after old new answer (opened, inr (can, is, same), numbers) =
+      same_id same
+  either_keeps payload user_header types node name named required table after old new answer (opened, inl opens, numbers) =
       settles_keeps payload user_header _ opens.answer (record old { table = opens.mid.table }) new opened opens.settled
       ∙ went-keeps opens.negotiated.negotiated.done.made (record { table = old.table; lists = [] }) opens.mid
       opens.negotiated.negotiated.done.went

@@ -5,6 +5,8 @@ pub mod Lawful
 mod Rising
 mod Placed
 mod Searched
+mod Counted
+mod Lacking
 pub mod Negotiated
 pub mod OpenedWell
 pub mod SameTable

@@ -1,5 +1,6 @@
--- Values by rising number, each in a box: what stands at a place, comes there and goes from there.
-use Rattle.std.proofs.Common.{ℕ, zero, suc, ◌≡◌, ◌<◌, ◌≤◌, List, [], ◌∷◌, length, get_or, set, cond, Some, refl, sym, ap, subst, ◌∙◌, arith}
+-- Values by rising number, in boxes or not: what stands at a place, comes there and goes from there.
+use Rattle.std.proofs.Common.{ℕ, zero, suc, ◌≡◌, ◌<◌, ◌≤◌, List, [], ◌∷◌, length, get_or, map, set, cond, Some, refl, sym}
+use Rattle.std.proofs.Common.{ap, subst, ◌∙◌, arith}
 use Rattle.std.proofs.lemmas.List.{get_or-map, length-map}
 use Rattle.std.proofs.lemmas.Map.Keys.{below_from_sorted, sorted_tail}
 use Rattle.std.proofs.lemmas.Map.Made.{keys_of-map_values}
@@ -13,6 +14,10 @@ use Rattle.std.specs.declared.boxed.Box.{Box}
 use Rattle.std.specs.declared.cmp.Ordering.TheVariants.{Less, Equal, Greater}
 use Rattle.iox_hub_base.specs.Unboxed.{unboxed}
 
+-- what is in a box
+abbrev pub in_box : {X Z : Type 0} → Box X Z → X
+in_box boxed = boxed.value
+
 module _ (number : ℕ) where
   here : (key : ℕ) → key ≡ number → nat_cmp number key ≡ Equal
   here key same = sym (nat_cmp_is number key Equal (sym same))
@@ -20,9 +25,9 @@ module _ (number : ℕ) where
   behind : (key : ℕ) → key < number → nat_cmp number key ≡ Greater
   behind key below = sym (nat_cmp_is number key Greater below)
 
-module _ {X Z : Type 0} where
+module _ {V : Type 0} where
   -- the number at a place behind the first is above the first
-  pub first_below : (first : ℕ × Box X Z) (rest : List (ℕ × Box X Z)) (place : ℕ) (default : ℕ × Box X Z)
+  pub first_below : (first : ℕ × V) (rest : List (ℕ × V)) (place : ℕ) (default : ℕ × V)
       → IsStrictlySortedBy nat_cmp (keys_of (first ∷ rest)) → place < length rest → first.0 < (get_or rest place default).0
   first_below first rest place default rising within =
       omega (
@@ -32,88 +37,93 @@ module _ {X Z : Type 0} where
         get_or-map (λ entry. entry.0) rest place default 0 within,
       )
 
-  tail : (first : ℕ × Box X Z) (rest : List (ℕ × Box X Z)) → IsStrictlySortedBy nat_cmp (keys_of (first ∷ rest))
+  tail : (first : ℕ × V) (rest : List (ℕ × V)) → IsStrictlySortedBy nat_cmp (keys_of (first ∷ rest))
       → IsStrictlySortedBy nat_cmp (keys_of rest)
   tail first rest rising = sorted_tail nat_cmp first.0 (keys_of rest) rising
 
+module _ {V X : Type 0} (value : V → X) where
+  -- what is seen of values under numbers
+  abbrev seen : List (ℕ × V) → List (ℕ × X)
+  seen entries = map (λ entry. (entry.0, value entry.1)) entries
+
   module _ (number : ℕ) where
     -- what stands at the place of its number is found
-    pub lookup-place : (place : ℕ) (entry : ℕ × Box X Z) (entries : List (ℕ × Box X Z)) → IsStrictlySortedBy nat_cmp (keys_of entries)
+    pub lookup-place : (place : ℕ) (entry : ℕ × V) (entries : List (ℕ × V)) → IsStrictlySortedBy nat_cmp (keys_of entries)
         → place < length entries → HoldsAt (λ entry. entry.0 ≡ number) entries place → entry ≡ get_or entries place entry
-        → lookup (is_at (nat_cmp number)) (unboxed entries) ≡ Some entry.1.value
+        → lookup (is_at (nat_cmp number)) (seen entries) ≡ Some (value entry.1)
     lookup-place place entry [] rising within found stands = absurd (omega arith)
     lookup-place zero entry (first ∷ rest) rising within found stands =
-        ap (λ order. cond (is_eq order) (Some first.1.value) (lookup (is_at (nat_cmp number)) (unboxed rest)))
-        (here number first.0 (found entry)) ∙ ap (λ entry. Some entry.1.value) (sym stands)
+        ap (λ order. cond (is_eq order) (Some (value first.1)) (lookup (is_at (nat_cmp number)) (seen rest)))
+        (here number first.0 (found entry)) ∙ ap (λ entry. Some (value entry.1)) (sym stands)
     lookup-place (suc place) entry (first ∷ rest) rising within found stands =
-        ap (λ order. cond (is_eq order) (Some first.1.value) (lookup (is_at (nat_cmp number)) (unboxed rest)))
+        ap (λ order. cond (is_eq order) (Some (value first.1)) (lookup (is_at (nat_cmp number)) (seen rest)))
         (behind number first.0 (omega (arith, first_below first rest place entry rising (omega arith), found entry)))
         ∙ lookup-place place entry rest (tail first rest rising) (omega arith) found stands
 
     -- it goes from there when its number goes
-    pub remove-place : (place : ℕ) (default : ℕ × Box X Z) (entries : List (ℕ × Box X Z)) → IsStrictlySortedBy nat_cmp (keys_of entries)
+    pub remove-place : (place : ℕ) (default : ℕ × V) (entries : List (ℕ × V)) → IsStrictlySortedBy nat_cmp (keys_of entries)
         → place < length entries → HoldsAt (λ entry. entry.0 ≡ number) entries place
-        → unboxed (remove entries place) ≡ remove_entry (is_at (nat_cmp number)) (unboxed entries)
+        → seen (remove entries place) ≡ remove_entry (is_at (nat_cmp number)) (seen entries)
     remove-place place default [] rising within found = absurd (omega arith)
     remove-place zero default (first ∷ rest) rising within found =
-        sym (ap (λ order. cond (is_eq order) (unboxed rest)
-        ((first.0, first.1.value) ∷ remove_entry (is_at (nat_cmp number)) (unboxed rest))) (here number first.0 (found default)))
+        sym (ap (λ order. cond (is_eq order) (seen rest)
+        ((first.0, value first.1) ∷ remove_entry (is_at (nat_cmp number)) (seen rest))) (here number first.0 (found default)))
     remove-place (suc place) default (first ∷ rest) rising within found =
-        ap (λ rest. (first.0, first.1.value) ∷ rest) (remove-place place default rest (tail first rest rising) (omega arith) found)
-        ∙ sym (ap (λ order. cond (is_eq order) (unboxed rest)
-        ((first.0, first.1.value) ∷ remove_entry (is_at (nat_cmp number)) (unboxed rest)))
+        ap (λ rest. (first.0, value first.1) ∷ rest) (remove-place place default rest (tail first rest rising) (omega arith) found)
+        ∙ sym (ap (λ order. cond (is_eq order) (seen rest)
+        ((first.0, value first.1) ∷ remove_entry (is_at (nat_cmp number)) (seen rest)))
         (behind number first.0 (omega (arith, first_below first rest place default rising (omega arith), found default))))
 
     -- another value there is another value of its number
-    pub set-place : (place : ℕ) (after : ℕ × Box X Z) (entries : List (ℕ × Box X Z)) → after.0 ≡ number
+    pub set-place : (place : ℕ) (after : ℕ × V) (entries : List (ℕ × V)) → after.0 ≡ number
         → IsStrictlySortedBy nat_cmp (keys_of entries) → place < length entries → HoldsAt (λ entry. entry.0 ≡ number) entries place
-        → unboxed (set entries place after) ≡ set_value (is_at (nat_cmp number)) (unboxed entries) after.1.value
+        → seen (set entries place after) ≡ set_value (is_at (nat_cmp number)) (seen entries) (value after.1)
     set-place place after [] same rising within found = absurd (omega arith)
     set-place zero after (first ∷ rest) same rising within found =
-        ap (λ key. (key, after.1.value) ∷ unboxed rest) (same ∙ sym (found after))
-        ∙ sym (ap (λ order. cond (is_eq order) ((first.0, after.1.value) ∷ unboxed rest)
-        ((first.0, first.1.value) ∷ set_value (is_at (nat_cmp number)) (unboxed rest) after.1.value))
+        ap (λ key. (key, value after.1) ∷ seen rest) (same ∙ sym (found after))
+        ∙ sym (ap (λ order. cond (is_eq order) ((first.0, value after.1) ∷ seen rest)
+        ((first.0, value first.1) ∷ set_value (is_at (nat_cmp number)) (seen rest) (value after.1)))
         (here number first.0 (found after)))
     set-place (suc place) after (first ∷ rest) same rising within found =
-        ap (λ rest. (first.0, first.1.value) ∷ rest) (set-place place after rest same (tail first rest rising) (omega arith) found)
-        ∙ sym (ap (λ order. cond (is_eq order) ((first.0, after.1.value) ∷ unboxed rest)
-        ((first.0, first.1.value) ∷ set_value (is_at (nat_cmp number)) (unboxed rest) after.1.value))
+        ap (λ rest. (first.0, value first.1) ∷ rest) (set-place place after rest same (tail first rest rising) (omega arith) found)
+        ∙ sym (ap (λ order. cond (is_eq order) ((first.0, value after.1) ∷ seen rest)
+        ((first.0, value first.1) ∷ set_value (is_at (nat_cmp number)) (seen rest) (value after.1)))
         (behind number first.0 (omega (arith, first_below first rest place after rising (omega arith), found after))))
 
     -- and is what is inserted under it
-    pub replace-place : (place : ℕ) (after : ℕ × Box X Z) (entries : List (ℕ × Box X Z)) → after.0 ≡ number
+    pub replace-place : (place : ℕ) (after : ℕ × V) (entries : List (ℕ × V)) → after.0 ≡ number
         → IsStrictlySortedBy nat_cmp (keys_of entries) → place < length entries → HoldsAt (λ entry. entry.0 ≡ number) entries place
-        → unboxed (set entries place after) ≡ insert_entry nat_cmp (unboxed entries) number after.1.value
+        → seen (set entries place after) ≡ insert_entry nat_cmp (seen entries) number (value after.1)
     replace-place place after [] same rising within found = absurd (omega arith)
     replace-place zero after (first ∷ rest) same rising within found =
-        ap (λ key. (key, after.1.value) ∷ unboxed rest) (same ∙ sym (found after))
-        ∙ sym (ap (λ order. match_ordering order ((number, after.1.value) ∷ unboxed (first ∷ rest))
-        ((first.0, after.1.value) ∷ unboxed rest)
-        ((first.0, first.1.value) ∷ insert_entry nat_cmp (unboxed rest) number after.1.value)) (here number first.0 (found after)))
+        ap (λ key. (key, value after.1) ∷ seen rest) (same ∙ sym (found after))
+        ∙ sym (ap (λ order. match_ordering order ((number, value after.1) ∷ seen (first ∷ rest))
+        ((first.0, value after.1) ∷ seen rest)
+        ((first.0, value first.1) ∷ insert_entry nat_cmp (seen rest) number (value after.1))) (here number first.0 (found after)))
     replace-place (suc place) after (first ∷ rest) same rising within found =
-        ap (λ rest. (first.0, first.1.value) ∷ rest) (replace-place place after rest same (tail first rest rising) (omega arith) found)
-        ∙ sym (ap (λ order. match_ordering order ((number, after.1.value) ∷ unboxed (first ∷ rest))
-        ((first.0, after.1.value) ∷ unboxed rest)
-        ((first.0, first.1.value) ∷ insert_entry nat_cmp (unboxed rest) number after.1.value))
+        ap (λ rest. (first.0, value first.1) ∷ rest) (replace-place place after rest same (tail first rest rising) (omega arith) found)
+        ∙ sym (ap (λ order. match_ordering order ((number, value after.1) ∷ seen (first ∷ rest))
+        ((first.0, value after.1) ∷ seen rest)
+        ((first.0, value first.1) ∷ insert_entry nat_cmp (seen rest) number (value after.1)))
         (behind number first.0 (omega (arith, first_below first rest place after rising (omega arith), found after))))
 
     -- what comes between lower and higher numbers is inserted under its own
-    pub insert-place : (place : ℕ) (boxed : Box X Z) (entries : List (ℕ × Box X Z)) → place ≤ length entries
-        → ((at : ℕ) (default : ℕ × Box X Z) → at < place → (get_or entries at default).0 < number)
-        → ((at : ℕ) (default : ℕ × Box X Z) → place ≤ at → at < length entries → number < (get_or entries at default).0)
-        → unboxed (insert entries place (number, boxed)) ≡ insert_entry nat_cmp (unboxed entries) number boxed.value
+    pub insert-place : (place : ℕ) (boxed : V) (entries : List (ℕ × V)) → place ≤ length entries
+        → ((at : ℕ) (default : ℕ × V) → at < place → (get_or entries at default).0 < number)
+        → ((at : ℕ) (default : ℕ × V) → place ≤ at → at < length entries → number < (get_or entries at default).0)
+        → seen (insert entries place (number, boxed)) ≡ insert_entry nat_cmp (seen entries) number (value boxed)
     insert-place zero boxed [] within lower higher = refl
     insert-place (suc place) boxed [] within lower higher = absurd (omega arith)
     insert-place zero boxed (first ∷ rest) within lower higher =
-        sym (ap (λ order. match_ordering order ((number, boxed.value) ∷ unboxed (first ∷ rest)) ((first.0, boxed.value) ∷ unboxed rest)
-        ((first.0, first.1.value) ∷ insert_entry nat_cmp (unboxed rest) number boxed.value))
+        sym (ap (λ order. match_ordering order ((number, value boxed) ∷ seen (first ∷ rest)) ((first.0, value boxed) ∷ seen rest)
+        ((first.0, value first.1) ∷ insert_entry nat_cmp (seen rest) number (value boxed)))
         (sym (nat_cmp_is number first.0 Less (higher 0 first (omega arith) (omega arith)))))
     insert-place (suc place) boxed (first ∷ rest) within lower higher =
-        ap (λ rest. (first.0, first.1.value) ∷ rest)
+        ap (λ rest. (first.0, value first.1) ∷ rest)
         (insert-place place boxed rest (omega arith) (λ at default before. lower (suc at) default (omega arith))
         (λ at default from within. higher (suc at) default (omega arith) (omega arith)))
-        ∙ sym (ap (λ order. match_ordering order ((number, boxed.value) ∷ unboxed (first ∷ rest))
-        ((first.0, boxed.value) ∷ unboxed rest) ((first.0, first.1.value) ∷ insert_entry nat_cmp (unboxed rest) number boxed.value))
+        ∙ sym (ap (λ order. match_ordering order ((number, value boxed) ∷ seen (first ∷ rest))
+        ((first.0, value boxed) ∷ seen rest) ((first.0, value first.1) ∷ insert_entry nat_cmp (seen rest) number (value boxed)))
         (behind number first.0 (lower 0 first (omega arith))))
 
 -- the numbers of values are those of their boxes

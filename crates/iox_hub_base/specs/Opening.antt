@@ -1,8 +1,9 @@
 -- A service is created or opened in a hub.
-use Rattle.std.specs.Prelude.{ℕ, ◌≡◌, Bool, true, false, List, Result, Ok, Err}
+use Rattle.std.specs.Prelude.{ℕ, ◌≡◌, ◌⊎◌, Bool, true, false, List, Result, Ok, Err}
 use Rattle.std.specs.Result.{result_map_both}
 use Rattle.iox_delivery_factories.specs.DescribeBase.Detail.{Detail}
-use Rattle.iox_hub_base.specs.ServicesOpening.{Opens}
+use Rattle.iox_delivery_factories.specs.Domain.Fitting.{Fits}
+use Rattle.iox_hub_base.specs.ServicesOpening.{is_open, Opens}
 use Rattle.iox_negotiate.specs.Factory.{Closes}
 use Rattle.iox_negotiate.specs.declared.factory.Membership.{Membership}
 use Rattle.iox_command.specs.NegotiateBase.declared.errors.close.CloseError.{CloseError}
@@ -29,8 +30,13 @@ IsClosedAgain member old new =
     closed) new.table)
     × (new ≡ record old { table = new.table })
 
+-- a domain is to be made for a service: none of its number is open, and its settings fit
+abbrev pub WantsDomain : {T U B D : Type 0} → Detail → Detail → Membership → Hub T U B D → Type 0
+WantsDomain payload user_header member hub =
+    (is_open member.service.number hub.services ≡ false) × Fits payload user_header member.service.description.settings
+
 -- A node is in a service. The service has one factory more, the next one of the hub, and its domain is made, where it fits and none is
--- there. Or no memory is found for that, and the factory is closed again.
+-- there. Or no memory is found for the domain that is to be made, and the factory is closed again.
 abbrev pub Enters : {T U B D : Type 0} → Detail → Detail → Membership → Hub T U B D → Result Made Bool → Hub T U B D → Type 0
 Enters payload user_header member old (Ok made) new =
     (made ≡ (member, one_more old.factories))
@@ -42,7 +48,8 @@ Enters payload user_header member old (Ok made) new =
           = with_factory member.service.number old.factory_counts;
       services = new.services;
     })
-Enters payload user_header member old (Err was_new) new = (was_new ≡ member.service.is_new) × IsClosedAgain member old new
+Enters payload user_header member old (Err was_new) new =
+    (was_new ≡ member.service.is_new) × WantsDomain payload user_header member old × IsClosedAgain member old new
 
 -- What the negotiation came to is what the hub answers, if a factory is made; the error of wanted memory depends on whether the
 -- service had been created.
@@ -54,13 +61,21 @@ Settles payload user_header lacking (Ok member) old result new =
     × (result ≡ result_map_both (λ made. made) lacking entered)
 
 -- The service is negotiated over the hub's table, with these lists of foreign steps before the accesses.
-pub record OpensInHub {T U B D E : Type 0} (payload user_header : Detail) (lacking : Bool → E) (negotiates : Steps → Result Membership E
-    → Steps → Type 0) (lists : List (List ForeignStep))
+pub record NegotiatesInHub {T U B D E : Type 0} (payload user_header : Detail) (lacking : Bool → E)
+    (negotiates : Steps → Result Membership E → Steps → Type 0) (lists : List (List ForeignStep))
     (old : Hub T U B D) (result : Result Made E) (new : Hub T U B D) : Type 0 where
   pub answer : Result Membership E
   pub mid : Steps
   pub negotiated : negotiates (record { table = old.table; lists = lists }) answer mid
   pub settled : Settles payload user_header lacking answer (record old { table = mid.table }) result new
+
+-- Room for the service's entry is made before the table is touched: the service is negotiated; or no memory is found for the room, where
+-- what is asked for can be, and nothing changes.
+abbrev pub OpensInHub : {T U B D E : Type 0} → Detail → Detail → Type 0 → (Bool → E)
+    → (Steps → Result Membership E → Steps → Type 0) → List (List ForeignStep) → Hub T U B D → Result Made E → Hub T U B D → Type 0
+OpensInHub payload user_header can_be lacking negotiates lists old result new =
+    NegotiatesInHub payload user_header lacking negotiates lists old result new
+    ⊎ (can_be × (result ≡ Err (lacking false)) × (new ≡ old))
 
 -- the failure of a call that opens or creates, where no memory was found for the service after its last access: it was created, or opened
 abbrev pub lacking_either : {V : Type 0} → Bool → OpenOrCreateFailure V

@@ -1,10 +1,11 @@
 //! Services are created and opened in a hub.
-ghost use Rattle.std.specs.Prelude.{◌≡◌, ℕ, List, nat_eq, false, true};
+ghost use Rattle.std.specs.Prelude.{◌≡◌, ℕ, List, None, ⊤, nat_eq, false, true};
 ghost use Rattle.std.specs.Result.{result_map_both};
 ghost use Rattle.iox_delivery_factories.specs.DescribeBase.Detail.{detail};
 ghost use Rattle.iox_delivery_factories.specs.DescribeBase.Hash.{service_hash_of};
 ghost use Rattle.iox_delivery_factories.specs.DescribeBase.declared.type_detail.TypeVariant.TheVariants.{FixedSize};
 ghost use Rattle.iox_delivery_factories.specs.DescribeSettings.Agreement.{agreement};
+ghost use Rattle.iox_negotiate.specs.Asked.{IsRefusal};
 ghost use Rattle.iox_negotiate.specs.Negotiation.{Negotiates, Creates, Either};
 ghost use Rattle.iox_negotiate_table.specs.NegotiateBase.Opening.{Opens};
 ghost use Rattle.iox_negotiate_table.specs.NegotiateBase.declared.failure.CreateFailure.TheVariants as uncreated;
@@ -15,6 +16,7 @@ ghost use Rattle.iox_hub_base.specs.Opening.{OpensInHub, lacking_either};
 use crate::entering::Lacking;
 use crate::factory::PortFactory;
 use crate::hub::Hub;
+use crate::untouched::lacking_create;
 use iox_describe::{AttributeSpecifier, AttributeVerifier, ZeroCopySend};
 use iox_negotiate::{Negotiated, ServiceBuilder};
 use iox_negotiate_base::{CreateFailure, OpenFailure, OpenOrCreateFailure};
@@ -28,6 +30,10 @@ use std::alloc::Global;
 /// before its second, and so on. Where it opens a publish-subscribe service whose description fits the hub, the domain of the
 /// service's ports is made, unless it is there. Where no memory is found for that, the factory is closed again, and the call is
 /// refused with `OutOfMemory`.
+///
+/// Room for the service's entry is made before the table is touched, where there is none. Where no memory is found for that, the call is
+/// refused with `OutOfMemory`, too, one that opens or creates as an opening is, and nothing has changed but that there may be more room.
+/// Settings that can't be are refused first.
 ///
 /// This port's own: the builders of `iceoryx2` find the services of their machine by themselves.
 pub trait HubBuilder<P: Negotiated>: Sized {
@@ -63,6 +69,8 @@ pub trait HubBuilder<P: Negotiated>: Sized {
     ) -> Result<PortFactory<P>, P::CreateError>
         requires { hub_of self ≡ hub.old.table.id }
         ensures { OpensInHub (detail FixedSize T.name T.size T.alignment) (detail FixedSize U.name U.size U.alignment)
+            (IsRefusal (P.IsWithinLimits (P.adjusted (P.asked (requirement_of self))))
+            (P.IsHistoryTooLong (P.adjusted (P.asked (requirement_of self)))) None)
             (λ was_new. P.create_error uncreated.OutOfMemory)
             (λ old answer new. Creates SteppedSight old.table.id (service_hash_of P.pattern (name_of self)) (node_of self)
             (agreement (name_of self) (service_hash_of P.pattern (name_of self))
@@ -71,11 +79,16 @@ pub trait HubBuilder<P: Negotiated>: Sized {
             (P.IsHistoryTooLong (P.adjusted (P.asked (requirement_of self)))) P.create_error old answer new) steps.items hub.old
             (result_map_both (λ factory. (factory.service.membership, factory.owner)) (λ error. error) result) hub.new }
     {
+        let builder = self.builder();
+        let Ok(counts) = hub.make_room(alloc) else {
+            return Err(lacking_create(alloc, builder));
+        };
         let mut table = hub.lend_table(alloc, steps);
-        let answer = self.builder().create(alloc, &mut table);
+        let answer = builder.create(alloc, &mut table);
         hub.settle(
             alloc,
             table,
+            counts,
             answer,
             Lacking::either_way(P::create_error(CreateFailure::OutOfMemory)),
         )
@@ -94,6 +107,8 @@ pub trait HubBuilder<P: Negotiated>: Sized {
     ) -> Result<PortFactory<P>, P::CreateError>
         requires { hub_of self ≡ hub.old.table.id }
         ensures { OpensInHub (detail FixedSize T.name T.size T.alignment) (detail FixedSize U.name U.size U.alignment)
+            (IsRefusal (P.IsWithinLimits (P.adjusted (P.asked (requirement_of self))))
+            (P.IsHistoryTooLong (P.adjusted (P.asked (requirement_of self)))) None)
             (λ was_new. P.create_error uncreated.OutOfMemory)
             (λ old answer new. Creates SteppedSight old.table.id (service_hash_of P.pattern (name_of self)) (node_of self)
             (agreement (name_of self) (service_hash_of P.pattern (name_of self))
@@ -102,13 +117,16 @@ pub trait HubBuilder<P: Negotiated>: Sized {
             (P.IsHistoryTooLong (P.adjusted (P.asked (requirement_of self)))) P.create_error old answer new) steps.items hub.old
             (result_map_both (λ factory. (factory.service.membership, factory.owner)) (λ error. error) result) hub.new }
     {
+        let builder = self.builder();
+        let Ok(counts) = hub.make_room(alloc) else {
+            return Err(lacking_create(alloc, builder));
+        };
         let mut table = hub.lend_table(alloc, steps);
-        let answer = self
-            .builder()
-            .create_with_attributes(alloc, attributes, &mut table);
+        let answer = builder.create_with_attributes(alloc, attributes, &mut table);
         hub.settle(
             alloc,
             table,
+            counts,
             answer,
             Lacking::either_way(P::create_error(CreateFailure::OutOfMemory)),
         )
@@ -124,17 +142,22 @@ pub trait HubBuilder<P: Negotiated>: Sized {
     ) -> Result<PortFactory<P>, P::OpenError>
         requires { hub_of self ≡ hub.old.table.id }
         ensures { OpensInHub (detail FixedSize T.name T.size T.alignment) (detail FixedSize U.name U.size U.alignment)
-            (λ was_new. P.open_error unopened.OutOfMemory)
+            ⊤ (λ was_new. P.open_error unopened.OutOfMemory)
             (λ old answer new. Negotiates SteppedSight old.table.id (node_of self) P.open_error
             (λ made answer. Opens (service_hash_of P.pattern (name_of self)) (node_of self)
             (λ given. P.verdict (requirement_of self) given) made answer) old answer new) steps.items hub.old
             (result_map_both (λ factory. (factory.service.membership, factory.owner)) (λ error. error) result) hub.new }
     {
+        let builder = self.builder();
+        let Ok(counts) = hub.make_room(alloc) else {
+            return Err(P::open_error(OpenFailure::OutOfMemory));
+        };
         let mut table = hub.lend_table(alloc, steps);
-        let answer = self.builder().open(alloc, &mut table);
+        let answer = builder.open(alloc, &mut table);
         hub.settle(
             alloc,
             table,
+            counts,
             answer,
             Lacking::either_way(P::open_error(OpenFailure::OutOfMemory)),
         )
@@ -153,19 +176,22 @@ pub trait HubBuilder<P: Negotiated>: Sized {
     ) -> Result<PortFactory<P>, P::OpenError>
         requires { hub_of self ≡ hub.old.table.id }
         ensures { OpensInHub (detail FixedSize T.name T.size T.alignment) (detail FixedSize U.name U.size U.alignment)
-            (λ was_new. P.open_error unopened.OutOfMemory)
+            ⊤ (λ was_new. P.open_error unopened.OutOfMemory)
             (λ old answer new. Negotiates SteppedSight old.table.id (node_of self) P.open_error
             (λ made answer. Opens (service_hash_of P.pattern (name_of self)) (node_of self)
             (λ given. P.verdict (P.with_attributes (requirement_of self) attributes) given) made answer) old answer new) steps.items
             hub.old (result_map_both (λ factory. (factory.service.membership, factory.owner)) (λ error. error) result) hub.new }
     {
+        let builder = self.builder();
+        let Ok(counts) = hub.make_room(alloc) else {
+            return Err(P::open_error(OpenFailure::OutOfMemory));
+        };
         let mut table = hub.lend_table(alloc, steps);
-        let answer = self
-            .builder()
-            .open_with_attributes(alloc, attributes, &mut table);
+        let answer = builder.open_with_attributes(alloc, attributes, &mut table);
         hub.settle(
             alloc,
             table,
+            counts,
             answer,
             Lacking::either_way(P::open_error(OpenFailure::OutOfMemory)),
         )
@@ -181,7 +207,7 @@ pub trait HubBuilder<P: Negotiated>: Sized {
     ) -> Result<PortFactory<P>, P::OpenOrCreateError>
         requires { hub_of self ≡ hub.old.table.id }
         ensures { OpensInHub (detail FixedSize T.name T.size T.alignment) (detail FixedSize U.name U.size U.alignment)
-            (λ was_new. P.open_or_create_error (lacking_either was_new))
+            ⊤ (λ was_new. P.open_or_create_error (lacking_either was_new))
             (λ old answer new. Either SteppedSight old.table.id (service_hash_of P.pattern (name_of self)) (node_of self)
             (λ given. P.verdict (requirement_of self) given)
             (agreement (name_of self) (service_hash_of P.pattern (name_of self))
@@ -190,9 +216,13 @@ pub trait HubBuilder<P: Negotiated>: Sized {
             (P.IsHistoryTooLong (P.adjusted (P.asked (requirement_of self)))) P.open_or_create_error old answer new) steps.items hub.old
             (result_map_both (λ factory. (factory.service.membership, factory.owner)) (λ error. error) result) hub.new }
     {
+        let builder = self.builder();
+        let Ok(counts) = hub.make_room(alloc) else {
+            return Err(lacking_either::<P>().opened);
+        };
         let mut table = hub.lend_table(alloc, steps);
-        let answer = self.builder().open_or_create(alloc, &mut table);
-        hub.settle(alloc, table, answer, lacking_either::<P>())
+        let answer = builder.open_or_create(alloc, &mut table);
+        hub.settle(alloc, table, counts, answer, lacking_either::<P>())
     }
 
     /// Opens the service if it has these attributes too, or creates it with the required pairs where none exists.
@@ -213,7 +243,7 @@ pub trait HubBuilder<P: Negotiated>: Sized {
     ) -> Result<PortFactory<P>, P::OpenOrCreateError>
         requires { hub_of self ≡ hub.old.table.id }
         ensures { OpensInHub (detail FixedSize T.name T.size T.alignment) (detail FixedSize U.name U.size U.alignment)
-            (λ was_new. P.open_or_create_error (lacking_either was_new))
+            ⊤ (λ was_new. P.open_or_create_error (lacking_either was_new))
             (λ old answer new. Either SteppedSight old.table.id (service_hash_of P.pattern (name_of self)) (node_of self)
             (λ given. P.verdict (P.with_attributes (requirement_of self) attributes) given)
             (agreement (name_of self) (service_hash_of P.pattern (name_of self))
@@ -224,11 +254,13 @@ pub trait HubBuilder<P: Negotiated>: Sized {
             answer new) steps.items hub.old
             (result_map_both (λ factory. (factory.service.membership, factory.owner)) (λ error. error) result) hub.new }
     {
+        let builder = self.builder();
+        let Ok(counts) = hub.make_room(alloc) else {
+            return Err(lacking_either::<P>().opened);
+        };
         let mut table = hub.lend_table(alloc, steps);
-        let answer = self
-            .builder()
-            .open_or_create_with_attributes(alloc, attributes, &mut table);
-        hub.settle(alloc, table, answer, lacking_either::<P>())
+        let answer = builder.open_or_create_with_attributes(alloc, attributes, &mut table);
+        hub.settle(alloc, table, counts, answer, lacking_either::<P>())
     }
 }
 

@@ -75,7 +75,15 @@ impl<X: Drop> ByNumber<X> {
         &self.entries
     }
 
-    /// A number has a value, in the place of one that it had. It fails only where an allocation fails, and then nothing has changed.
+    /// Makes room for one number more, where there is none; the box of its value is yet to be made. Fails only where an allocation fails.
+    pub(crate) fn make_room(&mut self) -> Result<(), AllocError>
+        ensures { self.new ≡ self.old }
+    {
+        self.entries.reserve(1)
+    }
+
+    /// A number has a value, in the place of one that it had. It takes memory for the value's box, and for the number where there is no
+    /// room. It fails only where an allocation fails, and then nothing has changed.
     pub(crate) fn insert(&mut self, alloc: Global, number: u64, value: X) -> Result<(), AllocError>
         ensures ok { OnOk result (self.new ≡ insert_entry nat_cmp self.old number value) }
         ensures err { OnErr result (self.new ≡ self.old) }
@@ -118,7 +126,7 @@ fn place_of<X>(entries: &[(u64, Box<X>)], number: u64) -> Option<usize>
 }
 
 // Where a number stands, or else where it would.
-fn search_of<X>(entries: &[(u64, Box<X>)], number: u64) -> Result<usize, usize>
+pub(crate) fn search_of<V>(entries: &[(u64, V)], number: u64) -> Result<usize, usize>
     ensures bound { IsSearchInRange result (length entries.now) }
     ensures position { IsBinarySearchResult (λ entry. nat_cmp entry.0 number) entries.now result }
 {

@@ -74,10 +74,7 @@ impl<T: Copy, U: Copy, B: Drop, D: Drop> Hub<T, U, B, D> {
     fn is_last(&self, number: u64) -> bool
         ensures { result ≡ is_last number self.now.factory_counts }
     {
-        match self.factory_counts.get(number) {
-            Some(count) => *count <= 1,
-            None => true,
-        }
+        self.factory_counts.of(number) <= 1
     }
 
     // One factory of a service less; with the last its domain ends.
@@ -89,9 +86,6 @@ impl<T: Copy, U: Copy, B: Drop, D: Drop> Hub<T, U, B, D> {
             self.services.close(number);
             return;
         }
-        let count = self.factory_counts.get(number).copied().unwrap_or(0);
-        // A number that is there takes no memory.
-        self.factory_counts
-            .put_back(number, Some(count.saturating_sub(1)));
+        self.factory_counts.one_less(number);
     }
 }

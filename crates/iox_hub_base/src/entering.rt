@@ -1,10 +1,11 @@
 //! From a service that was negotiated to a factory of the hub.
-ghost use Rattle.std.specs.Prelude.{◌≡◌, Bool, false, true, if◌then◌else◌, IfOk};
+ghost use Rattle.std.specs.Prelude.{◌≡◌, Bool, false, true, if◌then◌else◌, IfOk, OnOk, OnErr};
 ghost use Rattle.std.specs.Result.{result_map_both};
 ghost use Rattle.iox_delivery_factories.specs.DescribeBase.Detail.{detail};
 ghost use Rattle.iox_delivery_factories.specs.DescribeBase.declared.type_detail.TypeVariant.TheVariants.{FixedSize};
 ghost use Rattle.iox_hub_base.specs.Opening.{Enters, IsClosedAgain, Settles};
 
+use crate::counts::RoomyCounts;
 use crate::factory::PortFactory;
 use crate::hub::Hub;
 use iox_describe::pattern::Pattern;
@@ -12,7 +13,7 @@ use iox_describe_base::ZeroCopySend;
 use iox_negotiate as negotiated;
 use iox_negotiate_table::{StepList, Stepped, Table};
 use iox_queues_base::Words;
-use std::alloc::Global;
+use std::alloc::{AllocError, Global};
 use std::mem;
 
 /// The errors of a call that negotiates a service, where no memory is found for it after the last access: where the service had been
@@ -53,6 +54,17 @@ struct NoRoom {
 }
 
 impl<T: Copy, U: Copy, B: Drop, D: Drop> Hub<T, U, B, D> {
+    /// Makes room for one service more, where there is none: for its domain, and among the counts of factories, which are lent. Fails only
+    /// where an allocation fails, and then nothing has changed.
+    pub(crate) fn make_room(&mut self, alloc: Global) -> Result<RoomyCounts, AllocError>
+        ensures lent { IfOk result (λ counts. counts ≡ self.old.factory_counts) }
+        ensures rest { OnOk result (self.new ≡ record self.old { factory_counts = self.new.factory_counts }) }
+        ensures err { OnErr result (self.new ≡ self.old) }
+    {
+        self.services.make_room()?;
+        self.factory_counts.lend(alloc)
+    }
+
     /// The table, with these lists of steps to do before its accesses. The hub is without it until it is put back.
     pub(crate) fn lend_table(&mut self, alloc: Global, steps: Vec<StepList>) -> Stepped
         ensures lent { result ≡ record { table = self.old.table; lists = steps.items } }
@@ -74,46 +86,49 @@ impl<T: Copy, U: Copy, B: Drop, D: Drop> Hub<T, U, B, D> {
 }
 
 impl<T: Words + ZeroCopySend, U: Copy + ZeroCopySend, B: Drop, D: Drop> Hub<T, U, B, D> {
-    /// Puts the table back, and answers the factory of the hub for what was negotiated over it, if that is a service.
+    /// Puts the table and the counts of factories back, and answers the factory of the hub for what was negotiated, if that is a service.
     pub(crate) fn settle<P: Pattern, E: Copy>(
         &mut self,
         alloc: Global,
         table: Stepped,
+        counts: RoomyCounts,
         answer: Result<negotiated::PortFactory<P>, E>,
         errors: Lacking<E>,
     ) -> Result<PortFactory<P>, E>
         requires { IfOk answer (λ service. service.membership.storage ≡ table.table.id) }
         ensures { (lacking : Bool → E) → lacking false ≡ errors.opened → lacking true ≡ errors.created
             → Settles (detail FixedSize T.name T.size T.alignment) (detail FixedSize U.name U.size U.alignment) lacking
-            (result_map_both (λ service. service.membership) (λ error. error) answer) (record self.old { table = table.table })
+            (result_map_both (λ service. service.membership) (λ error. error) answer)
+            (record self.old { table = table.table; factory_counts = counts })
             (result_map_both (λ factory. (factory.service.membership, factory.owner)) (λ error. error) result) self.new }
     {
         self.table = table.into_table();
         match answer {
-            Ok(service) => match self.enter(alloc, service) {
+            Ok(service) => match self.enter(alloc, service, counts) {
                 Ok(factory) => Ok(factory),
                 Err(no_room) => Err(errors.error(no_room)),
             },
-            Err(error) => Err(error),
+            Err(error) => {
+                self.factory_counts = counts.into_counts();
+                Err(error)
+            }
         }
     }
 
-    // The factory of the hub for a service that was negotiated.
+    // The factory of the hub for a service that was negotiated. Only memory of a domain that is to be made may lack.
     fn enter<P: Pattern>(
         &mut self,
         alloc: Global,
         service: negotiated::PortFactory<P>,
+        counts: RoomyCounts,
     ) -> Result<PortFactory<P>, NoRoom>
         requires { service.membership.storage ≡ self.old.table.id }
         ensures { Enters (detail FixedSize T.name T.size T.alignment) (detail FixedSize U.name U.size U.alignment) service.membership
-            self.old (result_map_both (λ factory. (factory.service.membership, factory.owner)) (λ no_room. no_room.was_new) result)
+            (record self.old { factory_counts = counts })
+            (result_map_both (λ factory. (factory.service.membership, factory.owner)) (λ no_room. no_room.was_new) result)
             self.new }
     {
         let number = service.number();
-        let count = self.factory_counts.get(number).copied().unwrap_or(0);
-        let Ok(before) = self.factory_counts.keep(number, count.saturating_add(1)) else {
-            return Err(self.give_back(service));
-        };
         let opened = self.services.open(
             alloc,
             service.description(),
@@ -121,9 +136,10 @@ impl<T: Words + ZeroCopySend, U: Copy + ZeroCopySend, B: Drop, D: Drop> Hub<T, U
             self.expired_connection_buffer,
         );
         if opened.is_err() {
-            self.factory_counts.put_back(number, before);
+            self.factory_counts = counts.into_counts();
             return Err(self.give_back(service));
         }
+        self.factory_counts = counts.one_more(number);
         self.factories = self.factories.saturating_add(1);
         Ok(PortFactory {
             service,

@@ -5,9 +5,10 @@ ghost use Rattle.iox_negotiate_table.specs.Contents.{entry_at};
 ghost use Rattle.iox_hub_base.specs.Hubs.{IsNewHub, one_more, is_node, hash_state};
 ghost use Rattle.iox_hub_base.specs.Room.{loans_left_in, samples_at_most_in};
 
+use crate::Services;
+use crate::counts::Counts;
 use crate::factory::PortFactory;
 use crate::node::NodeHandle;
-use crate::{Kept, Services};
 use iox_command::HubError;
 use iox_describe::pattern::Pattern;
 use iox_describe::{MessagingPattern, ServiceName, service_hash};
@@ -62,7 +63,7 @@ pub struct Hub<T, U, B = Handlers, D = DegradationHandler> {
     pub(crate) factories: u64,
     pub(crate) table: Table,
     // How many factories of a service are open, by the service's number.
-    pub(crate) factory_counts: Kept<u64>,
+    pub(crate) factory_counts: Counts,
     pub(crate) services: Services<T, U, B, D>,
 }
 
@@ -77,7 +78,7 @@ impl<T: Copy, U: Copy, B: Drop, D: Drop> Hub<T, U, B, D> {
             nodes: 0,
             factories: 0,
             table: Table::new(alloc, config.id),
-            factory_counts: Kept::new(alloc),
+            factory_counts: Counts::new(alloc),
             services: Services::new(alloc, config.id),
         }
     }

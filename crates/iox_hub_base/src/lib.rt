@@ -9,11 +9,13 @@
 //! | `laws` | what holds of these calls, in other words |
 //! | `presences` | what is open, by numbers |
 //! | `by_number` | values by their numbers, of which one is found at once |
+//! | `counts` | how many factories of a service are open |
 //! | `node` | a node |
 //! | `factory` | a service that is open in a hub |
 //! | `hub` | the hub: nodes, and builders of services |
 //! | `builder` | services are created and opened in it |
 //! | `entering` | from a service that was negotiated to a factory of the hub |
+//! | `untouched` | a table to which no access finds memory |
 //! | `closing` | factories are closed |
 //! | `foreign` | nodes of others act |
 //! | `ports` | builders of ports; domains that are taken and put back |
@@ -43,6 +45,7 @@
 pub mod builder;
 mod by_number;
 pub mod closing;
+pub mod counts;
 mod entering;
 pub mod factory;
 pub mod foreign;
@@ -56,11 +59,12 @@ pub mod presences;
 pub mod services;
 pub mod services_home;
 pub mod taking;
+mod untouched;
 
 pub use builder::HubBuilder;
 pub use factory::{NotClosed, PortFactory};
 pub use hub::{HashState, Hub, HubConfig};
-pub use iox_domain::{Domain, Kept};
+pub use iox_domain::Domain;
 pub use node::NodeHandle;
 pub use presence::Presence;
 pub use services::Services;

@@ -114,6 +114,14 @@ impl<T: Copy, U: Copy, B: Drop, D: Drop> Presences<T, U, B, D> {
         }
     }
 
+    /// Makes room for one number more, where there is none. Fails only where an allocation fails.
+    /// Example: `presences.make_room()?;`
+    pub fn make_room(&mut self) -> Result<(), AllocError>
+        ensures { self.new ≡ self.old }
+    {
+        self.entries.make_room()
+    }
+
     /// A service opens under a number, in the place of one that had it. It fails only where an allocation fails, and then nothing has
     /// changed.
     /// Example: `presences.insert(alloc, number, Presence::Here(domain))?;`

@@ -13,7 +13,7 @@ use iox_describe_settings::Description;
 use iox_domain::{Domain, DomainId};
 use iox_domain_values::{DegradationHandler, DomainError, Handlers};
 use iox_queues_base::Words;
-use std::alloc::Global;
+use std::alloc::{AllocError, Global};
 use std::marker::Model;
 
 /// The open publish-subscribe services of a hub, by their numbers, each with its domain here, or out: taken by the user to be driven
@@ -79,6 +79,14 @@ impl<T: Copy, U: Copy, B: Drop, D: Drop> Services<T, U, B, D> {
         ensures { result ≡ min (samples_at_most_in self.now.domains) (2 ^ 64 - 1) }
     {
         self.presences.samples_at_most()
+    }
+
+    /// Makes room for one service more, where there is none; its domain is yet to be made. Fails only where an allocation fails.
+    /// Example: `services.make_room()?;`
+    pub fn make_room(&mut self) -> Result<(), AllocError>
+        ensures { self.new ≡ self.old }
+    {
+        self.presences.make_room()
     }
 
     /// Nothing is open under a number any longer: a domain that was here is dropped with its ports. The other services stay as they were.

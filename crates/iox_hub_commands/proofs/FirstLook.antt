@@ -1,6 +1,6 @@
 -- The first look of a call tells a refusal: it is the one access of the call, and changes nothing.
 use Rattle.std.proofs.Common.{◌≡◌, ℕ, zero, suc, ◌+◌, ◌||◌, Bool, true, false, cond, List, [], ◌∷◌, map, Option, None, Some, Result, Ok}
-use Rattle.std.proofs.Common.{◌∙◌, Err, refl, sym, subst, inl, inr, arith, length, min, nat_eq}
+use Rattle.std.proofs.Common.{◌∙◌, Err, refl, sym, ap, subst, inl, inr, arith, length, min, nat_eq}
 use Rattle.std.specs.List.{AllByRecursion, filter}
 use Rattle.std.specs.Prelude.{drop, if◌then◌else◌}
 use Rattle.iox_command.specs.NegotiateBase.Access.{Look}
@@ -41,7 +41,7 @@ use Rattle.iox_hub_base.specs.declared.hub.HashState.{HashState}
 use Rattle.iox_hub_base.specs.declared.hub.HashState.TheVariants as state
 use Rattle.iox_hub_base.specs.declared.hub.Hub.{Hub}
 use Rattle.iox_hub_commands.specs.Asking.{IsHistoryTooLong, agreed_of, hash_of}
-use Rattle.iox_hub_commands.specs.Creating.{CreatesAgreed, CreatesAs, CreatesUnlessRefused}
+use Rattle.iox_hub_commands.specs.Creating.{CreatesAgreed, CreatesAs, CreatesNumbered}
 use Rattle.iox_hub_commands.specs.Described.{settings_of}
 use Rattle.iox_hub_commands.specs.Either.{EitherAs, EitherJudged, EitherNumbered}
 use Rattle.iox_hub_commands.specs.Opening.{OpensAs, OpensJudged, OpensNumbered}
@@ -159,7 +159,7 @@ module _ {T U B D : Type 0} (payload user_header : Detail) (hash : ServiceHash) 
         hub
     open_ends seen = (
       Err (error failure),
-      record {
+      inl (record {
         answer = Err (error failure);
         mid = record { table = hub.table; lists = drop 1 lists };
         negotiated = record {
@@ -179,7 +179,7 @@ module _ {T U B D : Type 0} (payload user_header : Detail) (hash : ServiceHash) 
           told = refl;
         };
         settled = (refl, refl);
-      },
+      }),
       (refl, refl),
     )
 
@@ -192,7 +192,7 @@ module _ {T U B D : Type 0} (payload user_header : Detail) (hash : ServiceHash) 
         hub
     create_ends seen = (
       Err (error failure),
-      record {
+      inl (record {
         answer = Err (error failure);
         mid = record { table = hub.table; lists = drop 1 lists };
         negotiated = record {
@@ -210,7 +210,7 @@ module _ {T U B D : Type 0} (payload user_header : Detail) (hash : ServiceHash) 
           };
         };
         settled = (refl, refl);
-      },
+      }),
       (refl, refl),
     )
 
@@ -226,7 +226,7 @@ module _ {T U B D : Type 0} (payload user_header : Detail) (hash : ServiceHash) 
         (Err (told (error failure))) table hub
     either_ends seen = (
       Err (error failure),
-      record {
+      inl (record {
         answer = Err (error failure);
         mid = record { table = hub.table; lists = drop 1 lists };
         negotiated = record {
@@ -251,7 +251,7 @@ module _ {T U B D : Type 0} (payload user_header : Detail) (hash : ServiceHash) 
           };
         };
         settled = (refl, refl);
-      },
+      }),
       (refl, refl),
     )
 
@@ -425,7 +425,7 @@ module _ {T U B D : Type 0} (payload user_header : Detail) (types : MessageTypeD
     pub uncreated_at_first_look : IsUncreated (settings_of asked.options types) None
         → HasForm (agreed_of asked.name asked.options types attributes)
         → Some answer ≡ create_told asked.options (first_look asked steps hub)
-        → CreatesUnlessRefused None payload user_header types asked attributes steps table hub (Some (Err answer)) table new
+        → CreatesNumbered true payload user_header types asked attributes steps table hub (Some (Err answer)) table new
     uncreated_at_first_look accepted agreed told = among (first_look asked steps hub) refl told
       where
         Ends : Refusal → Hub T U B D → Type 0
@@ -433,18 +433,22 @@ module _ {T U B D : Type 0} (payload user_header : Detail) (types : MessageTypeD
             (lists_of asked.name types steps) table hub (Err why) table after
 
         so : (why : Refusal) → answer ≡ why → Ends why hub
-            → CreatesUnlessRefused None payload user_header types asked attributes steps table hub (Some (Err answer)) table new
+            → CreatesNumbered true payload user_header types asked attributes steps table hub (Some (Err answer)) table new
         so why is ends = (
-          Ok (lists_of asked.name types steps),
-          table,
-          Err answer,
-          ((refl, refl), refl, inr refl, formed),
-          subst (λ (after : Hub T U B D). Ends answer after) (sym same) (subst (λ (it : Refusal). Ends it hub) (sym is) ends),
-          refl,
+          None,
+          inl accepted,
+          (
+            Ok (lists_of asked.name types steps),
+            table,
+            Err answer,
+            ((refl, refl), refl, inr refl, formed),
+            subst (λ (after : Hub T U B D). Ends answer after) (sym same) (subst (λ (it : Refusal). Ends it hub) (sym is) ends),
+            refl,
+          ),
         )
 
         among : (found : Option HashState) → first_look asked steps hub ≡ found → Some answer ≡ create_told asked.options found
-            → CreatesUnlessRefused None payload user_header types asked attributes steps table hub (Some (Err answer)) table new
+            → CreatesNumbered true payload user_header types asked attributes steps table hub (Some (Err answer)) table new
         among None finds told = absurd cc
         among (Some state.Absent) finds told = absurd cc
         among (Some state.Locked) finds told =
@@ -452,4 +456,8 @@ module _ {T U B D : Type 0} (payload user_header : Detail) (types : MessageTypeD
             so (create_refused asked.options uncreated.HangsInCreation) (answers told) (locked_creates payload user_header types table hub
             asked.node asked.name (lists_of asked.name types steps) (none_next asked.name types steps it.0) attributes asked.options
             accepted agreed it.1)
-        among (Some state.Described) finds told = absurd cc
+        among (Some state.Described) finds told = (
+          Some uncreated.AlreadyExists,
+          inr (accepted, finds, refl),
+          (ap (λ (it : Refusal). Some (Err it)) (answers told), refl, same),
+        )

@@ -392,21 +392,25 @@ module _ {T U B D : Type 0} where
         made_agrees member made.1 result (came ∙ ap (λ m. Ok (m, made.1)) (ap (λ p. p.0) is_made)) numbers
         (subst (λ t. Past old.table t) (sym tables) negotiated.past) opens
         (λ form. subst (λ t. Agrees old.table t member.service) (sym tables) (negotiated.goes_well member refl form))
-    settles_agrees (Ok member) result negotiated (Err was_new, (is_new, ((closed, does), is)), came) numbers =
+    settles_agrees (Ok member) result negotiated (Err was_new, (is_new, wants, ((closed, does), is)), came) numbers =
         refused_agrees result (lacking was_new) came numbers
         (past-on old.table mid new.table negotiated.past (went-past does.made mid new.table does.went)) (ap (λ hub. hub.services) is)
 
   -- where a negotiation is such, what is made of it is, too
-  made_in_hub : {E : Type 0} (payload user_header : Detail) (lacking : Bool → E)
+  made_in_hub : {E : Type 0} (payload user_header : Detail) (can_be : Type 0) (lacking : Bool → E)
       (negotiates : Steps → Result Membership E → Steps → Type 0) (lists : List (List ForeignStep)) (pattern : MessagingPattern)
       (refusal : E → Refusal)
       (table after : FactoryTable) (old new : Hub T U B D) (reply : Result ℕ Refusal)
       → (IsReached old.table → (answer : Result Membership E) (mid : Steps)
       → negotiates (record { table = old.table; lists = lists }) answer mid → IsNegotiated old.table mid.table answer)
-      → GetsNumber pattern refusal (OpensInHub payload user_header lacking negotiates lists) table old reply after new
+      → GetsNumber pattern refusal (OpensInHub payload user_header can_be lacking negotiates lists) table old reply after new
       → AreOfOneAgreement table old → AreOfOneAgreement after new
-  made_in_hub payload user_header lacking negotiates lists pattern refusal table after old new reply is_negotiated
-      (opened, opens, numbers) are =
+  made_in_hub payload user_header can_be lacking negotiates lists pattern refusal table after old new reply is_negotiated
+      (opened, inr (can, is, same), numbers) are =
+      refused_agrees payload user_header lacking pattern refusal table after old new old.table reply are opened (lacking false) is numbers
+      (no-past old.table new.table (ap (λ hub. hub.table) same)) (ap (λ hub. hub.services) same)
+  made_in_hub payload user_header can_be lacking negotiates lists pattern refusal table after old new reply is_negotiated
+      (opened, inl opens, numbers) are =
       settles_agrees payload user_header lacking pattern refusal table after old new opens.mid.table reply are opens.answer opened
       (is_negotiated are.is_reached opens.answer opens.mid opens.negotiated) opens.settled numbers
 
@@ -424,13 +428,13 @@ module _ {T U B D : Type 0} where
       → CreatesAs named payload user_header types node name attributes lists table old answer after new → AreOfOneAgreement table old
       → AreOfOneAgreement after new
   create_as (options.PublishSubscribe named) payload user_header types node name attributes lists table after old new answer gets =
-      made_in_hub payload user_header _ _ lists _ _ table after old new answer
+      made_in_hub payload user_header _ _ _ lists _ _ table after old new answer
       (λ is_reached came mid negotiates. creates_negotiated _ node lists old.table mid is_reached _ _ _ came negotiates) gets
   create_as (options.Event named) payload user_header types node name attributes lists table after old new answer gets =
-      made_in_hub payload user_header _ _ lists _ _ table after old new answer
+      made_in_hub payload user_header _ _ _ lists _ _ table after old new answer
       (λ is_reached came mid negotiates. creates_negotiated _ node lists old.table mid is_reached _ _ _ came negotiates) gets
   create_as (options.RequestResponse named) payload user_header types node name attributes lists table after old new answer gets =
-      made_in_hub payload user_header _ _ lists _ _ table after old new answer
+      made_in_hub payload user_header _ _ _ lists _ _ table after old new answer
       (λ is_reached came mid negotiates. creates_negotiated _ node lists old.table mid is_reached _ _ _ came negotiates) gets
 
   create_prepared : (prepared : Result (List (List ForeignStep)) AllocError) (payload user_header : Detail) (types : MessageTypeDetails)
@@ -462,13 +466,13 @@ module _ {T U B D : Type 0} where
       → OpensAs named payload user_header types node name attributes lists table old answer after new → AreOfOneAgreement table old
       → AreOfOneAgreement after new
   open_as (options.PublishSubscribe named) payload user_header types node name attributes lists table after old new answer gets =
-      made_in_hub payload user_header _ _ lists _ _ table after old new answer
+      made_in_hub payload user_header _ _ _ lists _ _ table after old new answer
       (λ is_reached came mid negotiates. opens_negotiated _ node lists old.table mid is_reached _ _ _ came negotiates) gets
   open_as (options.Event named) payload user_header types node name attributes lists table after old new answer gets =
-      made_in_hub payload user_header _ _ lists _ _ table after old new answer
+      made_in_hub payload user_header _ _ _ lists _ _ table after old new answer
       (λ is_reached came mid negotiates. opens_negotiated _ node lists old.table mid is_reached _ _ _ came negotiates) gets
   open_as (options.RequestResponse named) payload user_header types node name attributes lists table after old new answer gets =
-      made_in_hub payload user_header _ _ lists _ _ table after old new answer
+      made_in_hub payload user_header _ _ _ lists _ _ table after old new answer
       (λ is_reached came mid negotiates. opens_negotiated _ node lists old.table mid is_reached _ _ _ came negotiates) gets
 
   open_prepared : (prepared : Result (List (List ForeignStep)) AllocError) (payload user_header : Detail) (types : MessageTypeDetails)
@@ -498,13 +502,13 @@ module _ {T U B D : Type 0} where
       → EitherAs named payload user_header types node name attributes lists table old answer after new → AreOfOneAgreement table old
       → AreOfOneAgreement after new
   either_as (options.PublishSubscribe named) payload user_header types node name attributes lists table after old new answer gets =
-      made_in_hub payload user_header _ _ lists _ _ table after old new answer
+      made_in_hub payload user_header _ _ _ lists _ _ table after old new answer
       (λ is_reached came mid negotiates. either_negotiated _ node lists old.table mid is_reached _ _ _ _ came negotiates) gets
   either_as (options.Event named) payload user_header types node name attributes lists table after old new answer gets =
-      made_in_hub payload user_header _ _ lists _ _ table after old new answer
+      made_in_hub payload user_header _ _ _ lists _ _ table after old new answer
       (λ is_reached came mid negotiates. either_negotiated _ node lists old.table mid is_reached _ _ _ _ came negotiates) gets
   either_as (options.RequestResponse named) payload user_header types node name attributes lists table after old new answer gets =
-      made_in_hub payload user_header _ _ lists _ _ table after old new answer
+      made_in_hub payload user_header _ _ _ lists _ _ table after old new answer
       (λ is_reached came mid negotiates. either_negotiated _ node lists old.table mid is_reached _ _ _ _ came negotiates) gets
 
   either_prepared : (prepared : Result (List (List ForeignStep)) AllocError) (payload user_header : Detail) (types : MessageTypeDetails)

@@ -44,7 +44,7 @@ module _ {T U B D : Type 0} (Goes : OpenServices T U B D → OpenServices T U B 
   enters_go payload user_header member (Ok made) old new (is_made, opens, is)
       = opening payload user_header old.expired_connection_buffer member.service.number member.service.description.settings old.services
       new.services opens
-  enters_go payload user_header member (Err was_new) old new (is_new, (closes, is))
+  enters_go payload user_header member (Err was_new) old new (is_new, wants, (closes, is))
       = still old.services new.services (ap (λ hub. hub.services) is)
 
   settles_go : {E : Type 0} (payload user_header : Detail) (lacking : Bool → E) (answer : Result Membership E) (old new : Hub T U B D)
@@ -53,10 +53,12 @@ module _ {T U B D : Type 0} (Goes : OpenServices T U B D → OpenServices T U B 
   settles_go payload user_header lacking (Ok member) old new result (entered, enters, is)
       = enters_go payload user_header member entered old new enters
 
-  in_hub : {E : Type 0} (payload user_header : Detail) (lacking : Bool → E) (negotiates : Steps → Result Membership E → Steps → Type 0)
+  in_hub : {E : Type 0} (payload user_header : Detail) (can_be : Type 0) (lacking : Bool → E)
+      (negotiates : Steps → Result Membership E → Steps → Type 0)
       (lists : List (List ForeignStep)) (old new : Hub T U B D) (result : Result Made E)
-      → OpensInHub payload user_header lacking negotiates lists old result new → Goes old.services new.services
-  in_hub payload user_header lacking negotiates lists old new result opens
+      → OpensInHub payload user_header can_be lacking negotiates lists old result new → Goes old.services new.services
+  in_hub payload user_header can_be lacking negotiates lists old new result (inr (can, is, same)) = none old new same
+  in_hub payload user_header can_be lacking negotiates lists old new result (inl opens)
       = settles_go payload user_header lacking opens.answer (record old { table = opens.mid.table }) new result opens.settled
 
   create_as : (named : ServiceOptions) (payload user_header : Detail) (types : MessageTypeDetails) (node : ℕ) (name : List ℕ)
@@ -64,11 +66,11 @@ module _ {T U B D : Type 0} (Goes : OpenServices T U B D → OpenServices T U B 
       (answer : Result ℕ Refusal)
       → CreatesAs named payload user_header types node name attributes lists table old answer after new → Goes old.services new.services
   create_as (options.PublishSubscribe named) payload user_header types node name attributes lists table after old new answer
-      (opened, opens, numbers) = in_hub payload user_header _ _ lists old new opened opens
+      (opened, opens, numbers) = in_hub payload user_header _ _ _ lists old new opened opens
   create_as (options.Event named) payload user_header types node name attributes lists table after old new answer
-      (opened, opens, numbers) = in_hub payload user_header _ _ lists old new opened opens
+      (opened, opens, numbers) = in_hub payload user_header _ _ _ lists old new opened opens
   create_as (options.RequestResponse named) payload user_header types node name attributes lists table after old new answer
-      (opened, opens, numbers) = in_hub payload user_header _ _ lists old new opened opens
+      (opened, opens, numbers) = in_hub payload user_header _ _ _ lists old new opened opens
 
   create_prepared : (prepared : Result (List (List ForeignStep)) AllocError) (payload user_header : Detail) (types : MessageTypeDetails)
       (asked : ServiceAsked) (attributes : List Attribute) (table after : FactoryTable) (old new : Hub T U B D) (answer : Result ℕ Refusal)
@@ -93,11 +95,11 @@ module _ {T U B D : Type 0} (Goes : OpenServices T U B D → OpenServices T U B 
       (answer : Result ℕ Refusal)
       → OpensAs named payload user_header types node name attributes lists table old answer after new → Goes old.services new.services
   open_as (options.PublishSubscribe named) payload user_header types node name attributes lists table after old new answer
-      (opened, opens, numbers) = in_hub payload user_header _ _ lists old new opened opens
+      (opened, opens, numbers) = in_hub payload user_header _ _ _ lists old new opened opens
   open_as (options.Event named) payload user_header types node name attributes lists table after old new answer (opened, opens, numbers)
-      = in_hub payload user_header _ _ lists old new opened opens
+      = in_hub payload user_header _ _ _ lists old new opened opens
   open_as (options.RequestResponse named) payload user_header types node name attributes lists table after old new answer
-      (opened, opens, numbers) = in_hub payload user_header _ _ lists old new opened opens
+      (opened, opens, numbers) = in_hub payload user_header _ _ _ lists old new opened opens
 
   open_prepared : (prepared : Result (List (List ForeignStep)) AllocError) (payload user_header : Detail) (types : MessageTypeDetails)
       (asked : ServiceAsked) (attributes : Required) (table after : FactoryTable) (old new : Hub T U B D) (answer : Result ℕ Refusal)
@@ -119,11 +121,11 @@ module _ {T U B D : Type 0} (Goes : OpenServices T U B D → OpenServices T U B 
       (answer : Result ℕ Refusal)
       → EitherAs named payload user_header types node name attributes lists table old answer after new → Goes old.services new.services
   either_as (options.PublishSubscribe named) payload user_header types node name attributes lists table after old new answer
-      (opened, opens, numbers) = in_hub payload user_header _ _ lists old new opened opens
+      (opened, opens, numbers) = in_hub payload user_header _ _ _ lists old new opened opens
   either_as (options.Event named) payload user_header types node name attributes lists table after old new answer
-      (opened, opens, numbers) = in_hub payload user_header _ _ lists old new opened opens
+      (opened, opens, numbers) = in_hub payload user_header _ _ _ lists old new opened opens
   either_as (options.RequestResponse named) payload user_header types node name attributes lists table after old new answer
-      (opened, opens, numbers) = in_hub payload user_header _ _ lists old new opened opens
+      (opened, opens, numbers) = in_hub payload user_header _ _ _ lists old new opened opens
 
   either_prepared : (prepared : Result (List (List ForeignStep)) AllocError) (payload user_header : Detail) (types : MessageTypeDetails)
       (asked : ServiceAsked) (attributes : Required) (table after : FactoryTable) (old new : Hub T U B D) (answer : Result ℕ Refusal)

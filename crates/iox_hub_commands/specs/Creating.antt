@@ -29,7 +29,7 @@ use Rattle.iox_negotiate_table.specs.Stepped.{SteppedSight}
 use Rattle.iox_negotiate_table.specs.declared.step.ForeignStep.{ForeignStep}
 use Rattle.iox_hub_commands.specs.Asking.{hash_of, agreed_of, IsHistoryTooLong}
 use Rattle.iox_hub_commands.specs.Described.{settings_of}
-use Rattle.iox_hub_commands.specs.Refusing.{IsUncreated, create_refused}
+use Rattle.iox_hub_commands.specs.Refusing.{IsRefusedFirst, IsUncreated, create_refused, first_look}
 use Rattle.iox_hub_commands.specs.ServicesNumbering.{Prepares, GetsNumber, IsSkipped, IsRefusedWith}
 use Rattle.iox_hub_commands.specs.ServicesTables.{FactoryTable}
 use Rattle.iox_hub_commands.specs.declared.services.asked.ServiceAsked.{ServiceAsked}
@@ -38,7 +38,7 @@ use Rattle.iox_hub_commands.specs.declared.services.asked.ServiceAsked.{ServiceA
 abbrev pub CreatesAgreed : {T U B D E : Type 0} → Detail → Detail → (CreateFailure → E) → ServiceHash → ℕ → Agreement
     → List (List ForeignStep) → Hub T U B D → Result Made E → Hub T U B D → Type 0
 CreatesAgreed payload user_header error hash node agreed lists old opened new =
-    OpensInHub payload user_header (λ was_new. error OutOfMemory)
+    OpensInHub payload user_header (IsUncreated agreed.settings None) (λ was_new. error OutOfMemory)
     (λ before came after. Creates SteppedSight before.table.id hash node agreed (AreWithinLimits agreed.settings)
     (IsHistoryTooLong agreed.settings) error before came after)
     lists old opened new
@@ -74,8 +74,8 @@ CreatesPrepared (Err lacking) payload user_header types asked attributes table o
 CreatesPrepared (Ok lists) payload user_header types asked attributes table old answer after new
     = CreatesAs asked.options payload user_header types asked.node asked.name attributes lists table old answer after new
 
--- what follows once it is told whether the settings can be: they are refused first, and nothing else happens, whatever memory there is;
--- else the service is created with these steps of foreign nodes before the accesses, once there are lists of them and room
+-- what follows once it is told what can be told before any memory is asked for: that is refused first, and nothing else happens, whatever
+-- memory there is; else the service is created with these steps of foreign nodes before the accesses, once there are lists of them and room
 abbrev pub CreatesUnlessRefused : {T U B D : Type 0} → Option CreateFailure → Detail → Detail → MessageTypeDetails → ServiceAsked
     → List Attribute → List StepBefore → FactoryTable → Hub T U B D → Option (Result ℕ Refusal) → FactoryTable → Hub T U B D → Type 0
 CreatesUnlessRefused (Some failure) payload user_header types asked attributes steps table old answer after new
@@ -86,10 +86,11 @@ CreatesUnlessRefused None payload user_header types asked attributes steps table
     × CreatesPrepared prepared payload user_header types asked attributes roomier old reply after new × (answer ≡ Some reply)
 
 -- The service that is asked for is created with these attributes, with these steps of foreign nodes before the accesses, and its
--- factory gets a number; settings that can't be are refused before any memory is asked for. Nothing happens where the node isn't there.
+-- factory gets a number. Before any memory is asked for it is refused where the settings can't be, or where the first look finds that the
+-- service stands. Nothing happens where the node isn't there.
 abbrev pub CreatesNumbered : {T U B D : Type 0} → Bool → Detail → Detail → MessageTypeDetails → ServiceAsked → List Attribute
     → List StepBefore → FactoryTable → Hub T U B D → Option (Result ℕ Refusal) → FactoryTable → Hub T U B D → Type 0
 CreatesNumbered false payload user_header types asked attributes steps table old answer after new = IsSkipped table old answer after new
 CreatesNumbered true payload user_header types asked attributes steps table old answer after new =
-    (refused : Option CreateFailure) × IsUncreated (settings_of asked.options types) refused
+    (refused : Option CreateFailure) × IsRefusedFirst (settings_of asked.options types) (first_look asked steps old) refused
     × CreatesUnlessRefused refused payload user_header types asked attributes steps table old answer after new

@@ -43,7 +43,7 @@ use Rattle.iox_hub_commands.specs.declared.services.asked.ServiceAsked.{ServiceA
 abbrev pub EitherJudged : {T U B D V E : Type 0} → Detail → Detail → (OpenOrCreateFailure V → E) → ServiceHash → ℕ
     → (Agreement → Result (Unit {0}) V) → Agreement → List (List ForeignStep) → Hub T U B D → Result Made E → Hub T U B D → Type 0
 EitherJudged payload user_header error hash node verdict agreed lists old opened new =
-    OpensInHub payload user_header (λ was_new. error (lacking_either was_new))
+    OpensInHub payload user_header (Unit {0}) (λ was_new. error (lacking_either was_new))
     (λ before came after. Either SteppedSight before.table.id hash node verdict agreed (AreWithinLimits agreed.settings)
     (IsHistoryTooLong agreed.settings) error before came after)
     lists old opened new

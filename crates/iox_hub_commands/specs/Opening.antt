@@ -41,7 +41,7 @@ use Rattle.iox_hub_commands.specs.declared.services.asked.ServiceAsked.{ServiceA
 abbrev pub OpensJudged : {T U B D V E : Type 0} → Detail → Detail → (OpenFailure V → E) → ServiceHash → ℕ
     → (Agreement → Result (Unit {0}) V) → List (List ForeignStep) → Hub T U B D → Result Made E → Hub T U B D → Type 0
 OpensJudged payload user_header error hash node verdict lists old opened new =
-    OpensInHub payload user_header (λ was_new. error OutOfMemory)
+    OpensInHub payload user_header (Unit {0}) (λ was_new. error OutOfMemory)
     (λ before came after. Negotiates SteppedSight before.table.id node error (λ made answer. Opens hash node verdict made answer) before
     came after)
     lists old opened new

@@ -1,5 +1,5 @@
 -- Which services aren't created, whatever stands already; and what the first look of a call tells with no memory.
-use Rattle.std.specs.Prelude.{List, Option, None, Some, option_map, if◌then◌else◌}
+use Rattle.std.specs.Prelude.{◌≡◌, ◌⊎◌, List, Option, None, Some, option_map, if◌then◌else◌}
 use Rattle.iox_negotiate.specs.Asked.{IsRefusal}
 use Rattle.iox_command.specs.declared.refusal.Refusal.{Refusal}
 use Rattle.iox_command.specs.declared.refusal.Refusal.TheVariants as refusal
@@ -72,10 +72,18 @@ open_told named (Some state.Absent) = Some (open_absent named)
 open_told named (Some state.Locked) = Some (open_locked named)
 open_told named found = None
 
--- why nothing is created, if a first look that finds this tells it: another is about to create the service
+-- why nothing is created, if a first look that finds this tells it: another is about to create the service, or it stands
 abbrev pub create_told : ServiceOptions → Option HashState → Option Refusal
 create_told named (Some state.Locked) = Some (create_refused named uncreated.HangsInCreation)
+create_told named (Some state.Described) = Some (create_refused named uncreated.AlreadyExists)
 create_told named found = None
+
+-- Why nothing is created, if that is told before any memory is asked for: these settings can't be; or they can, and a first look that
+-- finds this finds that the service stands.
+abbrev pub IsRefusedFirst : Settings → Option HashState → Option CreateFailure → Type 0
+IsRefusedFirst settings found refused =
+    IsUncreated settings refused
+    ⊎ (IsUncreated settings None × (found ≡ Some state.Described) × (refused ≡ Some uncreated.AlreadyExists))
 
 -- Why nothing is opened or created, if a first look that finds this tells it: no service stands, and none is created with these
 -- settings; or another is about to create it.

@@ -23,7 +23,7 @@ use Rattle.iox_domain.specs.declared.ports.service_ports.ServicePorts.{ServicePo
 use Rattle.iox_domain_machine.specs.Naming.{Naming}
 use Rattle.iox_hub_base.proofs.SameTable.{sights-keep}
 use Rattle.iox_hub_base.specs.Hubs.{one_more, with_factory}
-use Rattle.iox_hub_base.specs.Opening.{Enters, IsClosedAgain, Made, Settles}
+use Rattle.iox_hub_base.specs.Opening.{Enters, IsClosedAgain, Made, Settles, WantsDomain}
 use Rattle.iox_hub_base.specs.ServicesOpening.{Opens}
 use Rattle.iox_hub_base.specs.declared.hub.Hub.{Hub}
 use Rattle.iox_hub_commands.specs.Replies.{factory_reply}
@@ -170,6 +170,15 @@ module _ {T U B D : Type 0} (payload user_header : Detail)
           stands);
     }
 
+    -- the same, of a call that the hub refused before its table was touched
+    pub room_lacking : {E : Type 0} (refusal : E → Refusal) (error : E) → refusal error ≡ told (lacks false)
+        → (opened : Result Made E) → opened ≡ Err error
+        → (roomier : FactoryTable) (result : Result ℕ Refusal) → SameNumbers old.factories.made roomier → new.made ≡ old.made
+        → Numbers pattern refusal opened roomier result new.factories.made → new.hub ≡ old.hub → IsAnswered (factory_reply (Some result))
+    room_lacking {E} refusal error is_told opened is roomier result same same_made numbers same_hub =
+        let (refused, kept) = subst (λ (o : Result Made E). Numbers pattern refusal o roomier result new.factories.made) is numbers in
+        lacking_answered roomier result same same_made (refused ∙ ap (λ (why : Refusal). Err why) is_told, kept, same_hub)
+
     -- a phase that keeps what the hub has
     module _ (phase : Phase) (held : KeepsHeld pattern name (taken pattern name) (state.phases pattern name) phase) (end : Contents)
         (id : end.id ≡ old.hub.table.id) (since : MessagingPattern → List ℕ → List ℕ) (goes_on : GoOn taken since)
@@ -264,10 +273,11 @@ module _ {T U B D : Type 0} (payload user_header : Detail)
         closed_again : (service : Opened) (opened : Result Made E) (was_new : Bool) → Calls begun (Some (Ok service.is_new)) last
             → IsServiceIn node pattern name last.phase (since pattern name) service
             → (was_new ≡ service.is_new)
+            × WantsDomain payload user_header (membership old.hub.table.id node service) (record old.hub { table = end })
             × IsClosedAgain (membership old.hub.table.id node service) (record old.hub { table = end }) new.hub
             → opened ≡ Err (lacking was_new)
             → Numbers pattern refusal opened roomier result new.factories.made → IsAnswered (factory_reply (Some result))
-        closed_again service opened was_new calls serves (fresh, ((closed, does), same_hub)) is numbers =
+        closed_again service opened was_new calls serves (fresh, wants, ((closed, does), same_hub)) is numbers =
             let it = enters service.is_new last calls in
             let (refused, table_is) : (result ≡ Err (refusal (error (lacks service.is_new)))) × (new.factories.made ≡ roomier) =
             subst (λ (o : Result Made E). Numbers pattern refusal o roomier result new.factories.made)

@@ -1,6 +1,6 @@
 -- A node of a hub creates a service.
 use Rattle.std.proofs.Common.{◌≡◌, ◌+◌, ◌&&◌, ℕ, Bool, true, false, List, [], ◌∷◌, Option, None, Some, Result, Ok, Err, length}
-use Rattle.std.proofs.Common.{refl, sym, ap, subst, ◌∙◌, arith}
+use Rattle.std.proofs.Common.{inl, inr, refl, sym, ap, subst, ◌∙◌, arith}
 use Rattle.std.specs.List.{AllByRecursion, IsAmong}
 use Rattle.std.specs.Prelude.{nat_le, MatchBool, MatchOption}
 use Rattle.std.specs.declared.alloc.AllocError.{AllocError}
@@ -39,20 +39,22 @@ use Rattle.iox_domain.specs.declared.ports.service_ports.ServicePorts.{ServicePo
 use Rattle.iox_domain_machine.specs.Naming.{Naming}
 use Rattle.iox_hub_base.proofs.SameTable.{went-keeps}
 use Rattle.iox_hub_base.specs.Hubs.{is_node}
+use Rattle.iox_hub_base.specs.declared.hub.HashState.TheVariants as lying
 use Rattle.iox_hub_commands.specs.Asking.{IsHistoryTooLong, agreed_of, hash_of}
 use Rattle.iox_hub_commands.specs.CommandSteps as hub
 use Rattle.iox_hub_commands.specs.Creating.{CreatesAgreed, CreatesAs, CreatesNumbered, CreatesPrepared, create_lacking}
 use Rattle.iox_hub_commands.specs.Described.{settings_of as named_settings}
-use Rattle.iox_hub_commands.specs.Refusing.{IsUncreated, create_refused}
+use Rattle.iox_hub_commands.specs.Refusing.{IsUncreated, create_refused, first_look}
 use Rattle.iox_hub_commands.specs.Replies.{factory_reply}
 use Rattle.iox_hub_commands.specs.ServicesNumbering.{GetsNumber, IsRefusedWith, Prepares}
 use Rattle.iox_hub_commands.specs.ServicesTables.{FactoryTable, SameNumbers}
 use Rattle.iox_hub_commands.specs.declared.numbered_hub.NumberedHub.{NumberedHub}
-use Rattle.iox_hub_machine.proofs.Answered.{IsAnswered, answered, lacking_answered}
+use Rattle.iox_hub_machine.proofs.Answered.{IsAnswered, answered, lacking_answered, room_lacking}
 use Rattle.iox_hub_machine.proofs.EnteredStands.{stands_entered}
 use Rattle.iox_hub_machine.proofs.Entering.{created_enters, uncreated_keeps}
 use Rattle.iox_hub_machine.proofs.FittingThen.{FitsHere, new_fits}
 use Rattle.iox_hub_machine.proofs.Formed.{AreMade, formed_so, listed_so}
+use Rattle.iox_hub_machine.proofs.FoundStanding.{described_so, look_finds, refuses_to_create, same_phase}
 use Rattle.iox_hub_machine.proofs.SameSteps.{same_settings}
 use Rattle.iox_hub_machine.proofs.Skipping.{by_none, skipped_matches, stands_still}
 use Rattle.iox_hub_machine.proofs.Verdicts.{same_history}
@@ -123,6 +125,10 @@ unfit_so types named refused is =
     unfit-is types named refused
     (subst (λ (long : Type 0). IsRefusal (AreWithinLimits (settings_of types named)) long refused) (same_history (settings_of types named))
     (subst (λ (s : Settings). IsUncreated s refused) (same_settings types named) is))
+
+-- one failure is told
+one_failure : {one other : CreateFailure} → Some one ≡ Some other → one ≡ other
+one_failure {one} {other} same = cc
 
 -- what is done where this is found
 by_some : {V : Type 0} (P : Type 0) (Q : V → Type 0) (found : Option V) (v : V) → found ≡ Some v → Q v → MatchOption found P Q
@@ -196,7 +202,11 @@ module _ (payload user_header : Detail) (variant : TypeVariant) where
             (CreatesAgreed payload user_header error (hash_of name named) node (agreed_of name named types attributes) lists) roomier
             old.hub result new.factories.made new.hub
             → Replied (factory_reply (Some result))
-        created_so (opened, opens, numbers) =
+        created_so (opened, inr (can, is, still), numbers) =
+            room_lacking payload user_header choices degrades decides reader_degrades names own (pattern_of named) name asked taken naming
+            order node old new state stands Calls (create_refusal named) (λ is_new. uncreated.OutOfMemory) told
+            (error uncreated.OutOfMemory) (tells uncreated.OutOfMemory) opened is roomier result same same_made numbers still
+        created_so (opened, inl opens, numbers) =
             answered payload user_header choices degrades decides reader_degrades names own (pattern_of named) name asked taken naming
             order node
             old new state stands Calls (create_refusal named) (λ is_new. uncreated.OutOfMemory) error told tells
@@ -278,9 +288,38 @@ module _ (payload user_header : Detail) (variant : TypeVariant) where
         reader_degrades
         (command.Create node name named attributes steps) old (Ok answer) new
 
+    -- where the first look finds the service the machine refuses, too
+    standing_so : (failure : CreateFailure) → failure ≡ uncreated.AlreadyExists
+        → first_look (record { node = node; name = name; options = named }) steps old.hub ≡ Some lying.Described
+        → IsUncreated (named_settings named types) None → new.hub ≡ old.hub → new.factories.made ≡ old.factories.made
+        → new.made ≡ old.made → Replied (factory_reply (Some (Err (create_refused named failure))))
+    standing_so failure is finds fits still same same_made =
+        let it = look_finds (record { node = node; name = name; options = named }) steps old.hub lying.Described finds in
+        record {
+          taken_then = taken;
+          naming_then = naming;
+          order_then = order;
+          after = state;
+          came = inr (
+            Err uncreated.AlreadyExists,
+            record { phase = state.phases (pattern_of named) name; accesses = 1 },
+            refuses_to_create types (pattern_of named) steps (Own node) agreed_on (state.phases (pattern_of named) name)
+                (described_so (pattern_of named) name old.hub.table (state.phases (pattern_of named) name)
+                (taken (pattern_of named) name) (stands.table.phases (pattern_of named) name asked).lies it.1) it.0
+                (unfit_so types named None fits),
+            (
+              ap (λ (why : Refusal). factory_reply {T = T} (Some (Err why)))
+                  (refusal_is named failure ∙ ap (create_refusal named) is),
+              sym (same_phase (pattern_of named) name state),
+            ),
+          );
+          stands_then = stands_still payload user_header types choices is_default_header fixed degrades decides fixed_reader
+              reader_degrades names taken naming order old new state stands still same same_made;
+        }
+
     by_node : (is_there : Bool) → is_node node old.hub.nodes ≡ is_there → (made : Option (Result ℕ Refusal)) → Numbered made is_there
         → new.made ≡ old.made → (answer : Reply T) → answer ≡ factory_reply made → StepsTo answer → Followed answer
-    by_node true is made (Some failure, unfitting, (made_is, same, still)) same_made answer replied does = record {
+    by_node true is made (Some failure, inl unfitting, (made_is, same, still)) same_made answer replied does = record {
       taken = taken;
       naming = naming;
       order = order;
@@ -296,7 +335,25 @@ module _ (payload user_header : Detail) (variant : TypeVariant) where
           names
           taken naming order old new state stands still same same_made;
     }
-    by_node true is made (None, fit, (prepared, roomier, result, prepares, creates, made_is)) same_made answer replied does =
+    by_node true is made (Some failure, inr (fits, finds, told), (made_is, same, still)) same_made answer replied does =
+        let it = standing_so failure (one_failure told) finds fits still same same_made in
+        record {
+          taken = it.taken_then;
+          naming = it.naming_then;
+          order = it.order_then;
+          after = it.after;
+          step = subst (λ (a : Reply T). machine.Step types choices old.hub.expired_connection_buffer
+              (command.Create node name named attributes steps) state a it.after)
+              (sym (replied ∙ ap factory_reply made_is))
+              (by_none (λ why. RefusesNode node (create_refusal named why) state (factory_reply (Some (Err (create_refused named failure))))
+              it.after)
+              (unfit (settings_of types named)) (unfit_so types named None fits)
+              (by_true _ _ (nat_le 1 node && nat_le node state.made.nodes)
+              (ap (λ (n : ℕ). nat_le 1 node && nat_le node n) (sym stands.nodes) ∙ is) it.came));
+          stands = it.stands_then;
+        }
+    by_node true is made (None, inr (fits, finds, told), creates) same_made answer replied does = absurd cc
+    by_node true is made (None, inl fit, (prepared, roomier, result, prepares, creates, made_is)) same_made answer replied does =
         let it = by_prepared prepared roomier result same_made prepares creates in
         record {
           taken = it.taken_then;

@@ -92,6 +92,7 @@ pub mod Entered
 pub mod Verdicts
 pub mod Answered
 pub mod EnteredStands
+mod FoundStanding
 pub mod Created
 pub mod FewHeld
 pub mod Openings

@@ -279,7 +279,7 @@ module _ {T U B D : Type 0} where
         rising = λ rises. subst (λ (hub : Hub T U B D). Rising nat_cmp hub.factory_counts) (sym is)
             (insert-rising nat_cmp nat_cmp_total (λ x y same. exact_unsigned x y same) member.service.number _ old.factory_counts rises);
       }
-  enters_few payload user_header member (Err was_new) old new (is_new, ((closed, does), is)) =
+  enters_few payload user_header member (Err was_new) old new (is_new, wants, ((closed, does), is)) =
       let made = table_few does.made old.table new.table does.went in
       let some = closes_few member.service.description.service_hash member.service.number member.node does.made closed does.told in
       let locks = ap (λ (hub : Hub T U B D). hub.table.next) is in record {
@@ -296,13 +296,15 @@ module _ {T U B D : Type 0} where
       enters_few payload user_header member entered old new enters
 
   module _ (count : ℕ) where
-    in_hub : {E : Type 0} (payload user_header : Detail) (lacking : Bool → E)
+    in_hub : {E : Type 0} (payload user_header : Detail) (can_be : Type 0) (lacking : Bool → E)
         (negotiates : Steps → Result Membership E → Steps → Type 0)
         (lists : List (List ForeignStep)) (old new : Hub T U B D) (result : Result Made E) → steps_left lists ≤ 16 * count
-        → OpensInHub payload user_header lacking negotiates lists old result new
+        → OpensInHub payload user_header can_be lacking negotiates lists old result new
         → ((before after : Steps) (came : Result Membership E) → negotiates before came after → weighed after ≤ weighed before + 14)
         → TakesFew (most_taken count) old new
-    in_hub payload user_header lacking negotiates lists old new result short opens few =
+    in_hub payload user_header can_be lacking negotiates lists old new result short (inr (can, is, same)) few =
+        takes_none (most_taken count) old new same
+    in_hub payload user_header can_be lacking negotiates lists old new result short (inl opens) few =
         let some = few (record { table = old.table; lists = lists }) opens.mid opens.answer opens.negotiated in
         let rest = settles_few payload user_header lacking opens.answer (record old { table = opens.mid.table }) new result opens.settled in
         let last = rest.locks in
@@ -314,13 +316,13 @@ module _ {T U B D : Type 0} where
         → CreatesAs named payload user_header types node name attributes lists table old answer after new
         → TakesFew (most_taken count) old new
     create_as (options.PublishSubscribe named) count node name attributes lists answer short (opened, opens, numbers) =
-        in_hub count payload user_header _ _ lists old new opened short opens
+        in_hub count payload user_header _ _ _ lists old new opened short opens
         (λ before after came does. created_few _ _ _ _ _ _ _ before after came does)
     create_as (options.Event named) count node name attributes lists answer short (opened, opens, numbers) =
-        in_hub count payload user_header _ _ lists old new opened short opens
+        in_hub count payload user_header _ _ _ lists old new opened short opens
         (λ before after came does. created_few _ _ _ _ _ _ _ before after came does)
     create_as (options.RequestResponse named) count node name attributes lists answer short (opened, opens, numbers) =
-        in_hub count payload user_header _ _ lists old new opened short opens
+        in_hub count payload user_header _ _ _ lists old new opened short opens
         (λ before after came does. created_few _ _ _ _ _ _ _ before after came does)
 
     open_as : (named : ServiceOptions) (count node : ℕ) (name : List ℕ) (attributes : Required) (lists : List (List ForeignStep))
@@ -328,13 +330,13 @@ module _ {T U B D : Type 0} where
         → OpensAs named payload user_header types node name attributes lists table old answer after new
         → TakesFew (most_taken count) old new
     open_as (options.PublishSubscribe named) count node name attributes lists answer short (opened, opens, numbers) =
-        in_hub count payload user_header _ _ lists old new opened short opens
+        in_hub count payload user_header _ _ _ lists old new opened short opens
         (λ before after came does. opened_few _ _ _ _ _ before after came does)
     open_as (options.Event named) count node name attributes lists answer short (opened, opens, numbers) =
-        in_hub count payload user_header _ _ lists old new opened short opens
+        in_hub count payload user_header _ _ _ lists old new opened short opens
         (λ before after came does. opened_few _ _ _ _ _ before after came does)
     open_as (options.RequestResponse named) count node name attributes lists answer short (opened, opens, numbers) =
-        in_hub count payload user_header _ _ lists old new opened short opens
+        in_hub count payload user_header _ _ _ lists old new opened short opens
         (λ before after came does. opened_few _ _ _ _ _ before after came does)
 
     either_as : (named : ServiceOptions) (count node : ℕ) (name : List ℕ) (attributes : Required) (lists : List (List ForeignStep))
@@ -342,13 +344,13 @@ module _ {T U B D : Type 0} where
         → EitherAs named payload user_header types node name attributes lists table old answer after new
         → TakesFew (most_taken count) old new
     either_as (options.PublishSubscribe named) count node name attributes lists answer short (opened, opens, numbers) =
-        in_hub count payload user_header _ _ lists old new opened short opens
+        in_hub count payload user_header _ _ _ lists old new opened short opens
         (λ before after came does. either_few _ _ _ _ _ _ _ _ before after came does)
     either_as (options.Event named) count node name attributes lists answer short (opened, opens, numbers) =
-        in_hub count payload user_header _ _ lists old new opened short opens
+        in_hub count payload user_header _ _ _ lists old new opened short opens
         (λ before after came does. either_few _ _ _ _ _ _ _ _ before after came does)
     either_as (options.RequestResponse named) count node name attributes lists answer short (opened, opens, numbers) =
-        in_hub count payload user_header _ _ lists old new opened short opens
+        in_hub count payload user_header _ _ _ lists old new opened short opens
         (λ before after came does. either_few _ _ _ _ _ _ _ _ before after came does)
 
   module _ (payload user_header : Detail) (types : MessageTypeDetails) (asked : ServiceAsked) (steps : List StepBefore)

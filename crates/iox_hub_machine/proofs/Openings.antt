@@ -53,7 +53,8 @@ use Rattle.iox_hub_commands.specs.Replies.{factory_reply}
 use Rattle.iox_hub_commands.specs.ServicesNumbering.{IsRefusedWith, Numbers, Prepares}
 use Rattle.iox_hub_commands.specs.ServicesTables.{FactoryTable, SameNumbers}
 use Rattle.iox_hub_commands.specs.declared.numbered_hub.NumberedHub.{NumberedHub}
-use Rattle.iox_hub_machine.proofs.Answered.{Came, IsAnswered, StandsEntered, answered, lacking_answered, with_factory_in}
+use Rattle.iox_hub_machine.proofs.Answered.{Came, IsAnswered, StandsEntered, answered, lacking_answered}
+use Rattle.iox_hub_machine.proofs.Answered.{room_lacking, with_factory_in}
 use Rattle.iox_hub_machine.proofs.EnteredStands.{stands_entered}
 use Rattle.iox_hub_machine.proofs.Entering.{opened_enters, unopened_keeps}
 use Rattle.iox_hub_machine.proofs.FewHeld.{few_held}
@@ -157,12 +158,16 @@ module _ {T U B D : Type 0} (payload user_header : Detail) (variant : TypeVarian
           → (lists : List (List TableStep)) → AreMade types name steps lists
           → (roomier : FactoryTable) → SameNumbers old.factories.made roomier → new.made ≡ old.made → (result : Result ℕ Refusal)
           → (opened : Result Made E)
-          → OpensInHub payload user_header (λ was_new. error unopened.OutOfMemory)
+          → OpensInHub payload user_header (Unit {0}) (λ was_new. error unopened.OutOfMemory)
           (λ before came after. built.Negotiates SteppedSight before.table.id node error
           (λ made answer. rounds.Opens (service_hash_of kind name) node judge made answer) before came after) lists old.hub opened new.hub
           → Numbers kind refused opened roomier result new.factories.made
           → Is (factory_reply (Some result))
-      opened_so fits lists listed roomier same same_made result opened does numbers =
+      opened_so fits lists listed roomier same same_made result opened (inr (can, is, still)) numbers =
+          room_lacking payload user_header choices degrades decides reader_degrades names own kind name asked taken naming order node old
+          new state stands Goes tell (λ is_new. unopened.OutOfMemory) refused (error unopened.OutOfMemory) refl opened is roomier result
+          same same_made numbers still
+      opened_so fits lists listed roomier same same_made result opened (inl does) numbers =
           answered payload user_header choices degrades decides reader_degrades names own kind name asked taken naming order node old new
           state
           stands Goes tell (λ is_new. unopened.OutOfMemory) error refused (λ why. refl) (λ was_new. error unopened.OutOfMemory)

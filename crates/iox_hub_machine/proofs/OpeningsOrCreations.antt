@@ -55,7 +55,8 @@ use Rattle.iox_hub_commands.specs.Replies.{factory_reply}
 use Rattle.iox_hub_commands.specs.ServicesNumbering.{IsRefusedWith, Numbers, Prepares}
 use Rattle.iox_hub_commands.specs.ServicesTables.{FactoryTable, SameNumbers}
 use Rattle.iox_hub_commands.specs.declared.numbered_hub.NumberedHub.{NumberedHub}
-use Rattle.iox_hub_machine.proofs.Answered.{Came, IsAnswered, StandsEntered, answered, lacking_answered, with_factory_in}
+use Rattle.iox_hub_machine.proofs.Answered.{Came, IsAnswered, StandsEntered, answered, lacking_answered}
+use Rattle.iox_hub_machine.proofs.Answered.{room_lacking, with_factory_in}
 use Rattle.iox_hub_machine.proofs.EnteredStands.{stands_entered}
 use Rattle.iox_hub_machine.proofs.Entering.{either_enters, neither_keeps}
 use Rattle.iox_hub_machine.proofs.FewHeld.{few_held}
@@ -173,7 +174,7 @@ module _ {T U B D : Type 0} (payload user_header : Detail) (variant : TypeVarian
           → (lists : List (List TableStep)) → AreMade types name steps lists
           → (roomier : FactoryTable) → SameNumbers old.factories.made roomier → new.made ≡ old.made → (result : Result ℕ Refusal)
           → (opened : Result Made E)
-          → OpensInHub payload user_header (λ was_new. error (lacking_either was_new))
+          → OpensInHub payload user_header (Unit {0}) (λ was_new. error (lacking_either was_new))
           (λ before came after. built.Either SteppedSight before.table.id (service_hash_of kind name) node judge
           (required_agreement name named types required)
           (AreWithinLimits (required_agreement name named types required).settings)
@@ -181,7 +182,12 @@ module _ {T U B D : Type 0} (payload user_header : Detail) (variant : TypeVarian
           lists old.hub opened new.hub
           → Numbers kind refused opened roomier result new.factories.made
           → Is (factory_reply (Some result))
-      either_so fits lists listed roomier same same_made result opened does numbers =
+      either_so fits lists listed roomier same same_made result opened (inr (can, is, still)) numbers =
+          room_lacking payload user_header choices degrades decides reader_degrades names own kind name asked taken naming order node old
+          new state stands Goes tell told_of.either_lacking refused (error (lacking_either false))
+          (ap (λ (why : OpenOrCreateFailure V). refused (error why)) (same_lacking false)) opened is roomier result same same_made numbers
+          still
+      either_so fits lists listed roomier same same_made result opened (inl does) numbers =
           let negotiated = negotiated_so lists does.answer does.mid does.negotiated in
           answered payload user_header choices degrades decides reader_degrades names own kind name asked taken naming order node old new
           state

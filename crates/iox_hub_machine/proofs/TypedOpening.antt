@@ -62,13 +62,28 @@ prepared_so name types steps table formed = ((refl, refl), refl, inr refl, forme
 module _ {T U B D E : Type 0} (payload user_header : Detail) (kind : MessagingPattern) (told : E → Refusal) (error : CreateFailure → E)
     (hash : ServiceHash) (node : ℕ) (agreed : Agreement) (lists : List (List ForeignStep)) (table after : FactoryTable)
     (old new : Hub T U B D) (answer : Result ℕ Refusal) where
+  -- what is asked of the hub
+  abbrev CreatesSo : Result Opened E → Type 0
+  CreatesSo opened = CreatesAgreed payload user_header error hash node agreed lists old opened new
+
   abbrev Gets : Type 0
   Gets = GetsNumber kind told (CreatesAgreed payload user_header error hash node agreed lists) table old answer after new
 
+  -- why nothing is created, if that is told of the settings; where no memory is found before, it isn't
+  abbrev refusal_of : (opened : Result Opened E) → CreatesSo opened → Option CreateFailure
+  refusal_of opened (inl opens) = opens.negotiated.refusal
+  refusal_of opened (inr lacks) = None
+
+  is_refusal : (opened : Result Opened E) (creates : CreatesSo opened) → IsUncreated agreed.settings (refusal_of opened creates)
+  is_refusal opened (inl opens) = opens.negotiated.refused
+  is_refusal opened (inr lacks) = lacks.0
+
   -- settings that can't be are refused, and nothing happens
-  refused_so : (failure : CreateFailure) (gets : Gets) → gets.1.negotiated.refusal ≡ Some failure
+  refused_so : (failure : CreateFailure) (opened : Result Opened E) (creates : CreatesSo opened)
+      → Numbers kind told opened table answer after → refusal_of opened creates ≡ Some failure
       → (answer ≡ Err (told (error failure))) × (after ≡ table) × (new ≡ old)
-  refused_so failure (opened, opens, numbers) is =
+  refused_so failure opened (inr lacks) numbers is = cc
+  refused_so failure opened (inl opens) numbers is =
       let negotiated = opens.negotiated.negotiated in
       let (none, fails) = subst (λ (it : Option CreateFailure). CreatesIf hash node agreed it negotiated.done.made negotiated.answer) is
       negotiated.done.told in
@@ -105,7 +120,11 @@ module _ {T U B D : Type 0} (payload user_header : Detail) (variant : TypeVarian
         (tells : (failure : CreateFailure) → told (error failure) ≡ create_refused named failure)
         (gets : Gets payload user_header kind told error (hash_of name named) node (agreed_of name named types attributes)
         (lists_of name types steps) old.factories.made table old.hub hub answer) where
-      unless_by : (refused : Option CreateFailure) → gets.1.negotiated.refusal ≡ refused → Unless named attributes refused
+      abbrev why_refused : Option CreateFailure
+      why_refused = refusal_of payload user_header kind told error (hash_of name named) node (agreed_of name named types attributes)
+          (lists_of name types steps) old.factories.made table old.hub hub answer gets.0 gets.1
+
+      unless_by : (refused : Option CreateFailure) → why_refused ≡ refused → Unless named attributes refused
       unless_by None is = (
         Ok (lists_of name types steps),
         old.factories.made,
@@ -116,12 +135,17 @@ module _ {T U B D : Type 0} (payload user_header : Detail) (variant : TypeVarian
       )
       unless_by (Some failure) is =
           let (refused, kept, still) = refused_so payload user_header kind told error (hash_of name named) node
-          (agreed_of name named types attributes) (lists_of name types steps) old.factories.made table old.hub hub answer failure gets
-          is in
+          (agreed_of name named types attributes) (lists_of name types steps) old.factories.made table old.hub hub answer failure gets.0
+          gets.1 gets.2 is in
           (ap (λ (it : Result ℕ Refusal). Some it) (refused ∙ ap (λ (why : Refusal). Err why) (tells failure)), kept, still)
 
       numbered_by : (refused : Option CreateFailure) × IsUncreated (settings_of named types) refused × Unless named attributes refused
-      numbered_by = (gets.1.negotiated.refusal, gets.1.negotiated.refused, unless_by gets.1.negotiated.refusal refl)
+      numbered_by = (
+        why_refused,
+        is_refusal payload user_header kind told error (hash_of name named) node (agreed_of name named types attributes)
+            (lists_of name types steps) old.factories.made table old.hub hub answer gets.0 gets.1,
+        unless_by why_refused refl,
+      )
 
     creates_by : (named : ServiceOptions) (attributes : List Attribute)
         → CreatesAs named payload user_header types node name attributes (lists_of name types steps) old.factories.made old.hub answer table
@@ -141,11 +165,11 @@ module _ {T U B D : Type 0} (payload user_header : Detail) (variant : TypeVarian
   create_is_step node name named attributes steps old hub answer table there formed creates =
       by_step payload user_header variant is_default is_default_header fixed degrades decides fixed_reader reader_degrades
       (command.Create node name named attributes steps) old (opened_then old table hub) (factory_reply (Some answer))
-      (λ names most state it. (
+      (λ names most state it.
+      let (refused, is_refused, unless) = creates_by node name steps old hub answer table formed named attributes creates in (
         Some answer,
         subst (λ (b : Bool). CreatesNumbered b payload user_header types (record { node = node; name = name; options = named }) attributes
-            steps old.factories.made old.hub (Some answer) table hub) (sym there)
-            (creates_by node name steps old hub answer table formed named attributes creates),
+            steps old.factories.made old.hub (Some answer) table hub) (sym there) (refused, inl is_refused, unless),
         refl,
         refl,
       ))

@@ -1,7 +1,8 @@
 //! What no contract of lanes can say, and no line of `script_cases`.
 //!
 //! It has no items of its own, only tests. Of lanes alone `random` has schedules by chance, `every` all schedules of small worlds
-//! to some depth, beside what is `known` of their messages, and `messages` the messages that lanes keep. Of their ports in
+//! to some depth, beside what is `known` of their messages, and `messages` the messages that lanes keep. `in_turn` has a message of lanes
+//! whose calls go in turn. Of their ports in
 //! threads `service` makes services of two publishers and two subscribers, `streams` sends numbers through four threads, `turns`
 //! has two threads answer each other, both once all of them run (`start`), and `handing` goes from lanes to threads and to ports
 //! that stand still. `answers` are what tests hold.
@@ -27,6 +28,8 @@ mod driving;
 mod every;
 #[cfg(test)]
 mod handing;
+#[cfg(test)]
+mod in_turn;
 #[cfg(test)]
 mod known;
 #[cfg(test)]

@@ -23,5 +23,8 @@ pub mod Lending
 pub mod Beginning
 pub mod Chaining
 pub mod GhostSteps
+pub mod Begins
+pub mod Fitting
+pub mod Filling
 pub mod Turns
 pub mod SampleTurns

@@ -26,6 +26,7 @@ use Rattle.iox_lanes_service.specs.Turning.{AreTurns, NumbersLow, TurnEnds, Turn
 use Rattle.iox_lanes_service.specs.Turning.{lane_route, named_so, sample_taken, taken_as, turn_choices}
 use Rattle.iox_lanes_service.specs.declared.number.TurnNumber.{TurnNumber}
 use Rattle.iox_lanes_service.proofs.Chaining.{none_above, sizes_stay, vector_of}
+use Rattle.iox_lanes_service.proofs.Filling.{written_beside}
 use Rattle.iox_lanes_service.proofs.Reading.{reads_are_steps}
 use Rattle.iox_lanes_service.proofs.Receiving.{receives_are_steps}
 use Rattle.iox_lanes_service.proofs.Releasing.{releases_are_steps}
@@ -106,6 +107,26 @@ module _ (turns : Turns) (m n : World) (place : ℕ) where
   received_sizes receipt.Nothing = refl
   received_sizes receipt.ExceedsMaxBorrows = refl
 
+  received_stuck : (given : Receipt) → (received place given m turns).stuck ≡ turns.stuck
+  received_stuck (receipt.Taken at_place slot) = refl
+  received_stuck receipt.Nothing = refl
+  received_stuck receipt.ExceedsMaxBorrows = refl
+
+  received_lent : (given : Receipt) → (received place given m turns).lent ≡ turns.lent
+  received_lent (receipt.Taken at_place slot) = refl
+  received_lent receipt.Nothing = refl
+  received_lent receipt.ExceedsMaxBorrows = refl
+
+  received_written : (given : Receipt) → (received place given m turns).written ≡ turns.written
+  received_written (receipt.Taken at_place slot) = refl
+  received_written receipt.Nothing = refl
+  received_written receipt.ExceedsMaxBorrows = refl
+
+  received_loans : (given : Receipt) → (received place given m turns).loans ≡ turns.loans
+  received_loans (receipt.Taken at_place slot) = refl
+  received_loans receipt.Nothing = refl
+  received_loans receipt.ExceedsMaxBorrows = refl
+
   received_asked : (given : Receipt) → (received place given m turns).asked ≡ turns.asked ++ command.Receive (suc place) ∷ []
   received_asked (receipt.Taken at_place slot) = refl
   received_asked receipt.Nothing = refl
@@ -180,9 +201,12 @@ module _ (turns : Turns) (m n : World) (place : ℕ) where
       → TurnEnds m (Subscriber place) call.Receive (answer.Received given) n → AreTurns false (received place given m turns) n
   receive_recorded given a t =
       let lane = subscriber_there m place call.Receive (slice_get m.subscribers place) refl t.in_turn.begins.0 in
-      goes_on turns (received place given m turns) m n a (ends_well m n (Subscriber place) call.Receive t.in_turn (a.goes refl))
-      (command.Receive (suc place)) (received_as (turns.samples + 1) (values_for m.table given) given) (received_sizes given)
+      goes_on turns (received place given m turns) m n a (ends_well turns.sizes m n (Subscriber place) call.Receive t.in_turn (a.goes refl))
+      (command.Receive (suc place)) (received_as (turns.samples + 1) (values_for m.table given) given) (received_stuck given)
+      (received_sizes given)
       (received_asked given) (received_answers given) (received_low given a.low)
+      (written_beside turns (received place given m turns) m n place call.Receive t.in_turn (received_lent given) (received_written given)
+      (received_loans given) (a.written refl))
       (λ types buffer state s.
       let fresh = none_above turns.held state.made.samples (state.made.samples + 1) s.made.samples (omega arith) in
       let law = receives_are_steps turn_choices (λ words. words) types buffer (named_so s.message) turns.lent turns.held m n s.service
@@ -212,11 +236,13 @@ module _ (turns : Turns) (m n : World) (number publisher place slot : ℕ) (a : 
   pub release_recorded : TurnEnds m (Subscriber place) (call.Release slot) (answer.Released true) n
       → AreTurns false (without_sample number turns) n
   release_recorded t = goes_on turns (without_sample number turns) m n a
-      (ends_well m n (Subscriber place) (call.Release slot) t.in_turn (a.goes refl)) (command.Release number) reply.Done refl refl refl
+      (ends_well turns.sizes m n (Subscriber place) (call.Release slot) t.in_turn (a.goes refl)) (command.Release number) reply.Done refl
+      refl refl refl
       (record {
         loans = a.low.loans;
         samples = λ index entry is. let was = left_entry number turns.held index entry is in a.low.samples was.0 entry was.1;
       })
+      (written_beside turns (without_sample number turns) m n place (call.Release slot) t.in_turn refl refl refl (a.written refl))
       (λ types buffer state s.
       let law = releases_are_steps turn_choices (λ words. words) types buffer (named_so s.message) turns.lent turns.held m n s.service
       state number (record { publisher = publisher; subscriber = place; slot = slot }) s.stands there t.in_turn in
@@ -235,8 +261,11 @@ module _ (turns : Turns) (m n : World) (number publisher place slot : ℕ) (a : 
       → TurnEnds m (Subscriber place) (call.Read slot) (answer.Read from) n
       → AreTurns false (turned (command.Read number) (reply.Values (one_value words)) turns) n
   read_recorded from words are t = goes_on turns (turned (command.Read number) (reply.Values (one_value words)) turns) m n a
-      (ends_well m n (Subscriber place) (call.Read slot) t.in_turn (a.goes refl)) (command.Read number) (reply.Values (one_value words))
-      refl refl refl (record { loans = a.low.loans; samples = a.low.samples })
+      (ends_well turns.sizes m n (Subscriber place) (call.Read slot) t.in_turn (a.goes refl)) (command.Read number) (reply.Values
+      (one_value words))
+      refl refl refl refl (record { loans = a.low.loans; samples = a.low.samples })
+      (written_beside turns (turned (command.Read number) (reply.Values (one_value words)) turns) m n place (call.Read slot) t.in_turn refl
+      refl refl (a.written refl))
       (λ types buffer state s.
       let law = reads_are_steps turn_choices (λ words. words) types buffer (named_so s.message) turns.lent turns.held m n s.service
       state number (record { publisher = publisher; subscriber = place; slot = slot }) s.stands there t.in_turn in

@@ -32,7 +32,7 @@ use Rattle.iox_lanes_machine.specs.declared.sizes.LaneSizes.{LaneSizes}
 use Rattle.iox_lanes_machine.proofs.Ends.{some_is}
 use Rattle.iox_lanes_machine.proofs.LanesParties.Rings.{all_at}
 use Rattle.iox_lanes_machine.proofs.Paces.{came_kept}
-use Rattle.iox_lanes_machine.proofs.Start.{listed_is}
+use Rattle.iox_lanes_machine.proofs.Start.{listed_is, listed_length}
 use Rattle.iox_lanes_laws.specs.Turns.{IsAnswered, IsInTurn}
 use Rattle.iox_lanes_laws.proofs.Chains.{all_from}
 use Rattle.iox_lanes_laws.proofs.Ends.{calls_end_in_turn, publisher_there}
@@ -41,16 +41,19 @@ use Rattle.iox_lanes_service.specs.InTurn.{BeginsTurns, ComesToReceive, ComesToS
 use Rattle.iox_lanes_service.specs.Laws.{IsLaneStep, loan_replied, send_replied, with_lent_slot}
 use Rattle.iox_lanes_service.specs.Naming.{LaneLoan, LaneSample}
 use Rattle.iox_lanes_service.specs.TurnLaws.{AreMade}
-use Rattle.iox_lanes_service.specs.Turning.{AreTurns, NumbersLow, TurnEnds, TurnsGoOn, TurnsStand, lent_as, loan_spent}
+use Rattle.iox_lanes_service.specs.Turning.{AreTurns, AreWritten, NumbersLow, TurnEnds, TurnsGoOn, TurnsStand, lent_as, loan_spent}
+use Rattle.iox_lanes_service.specs.Turning.{loan_written}
 use Rattle.iox_lanes_service.specs.Turning.{loaned, named_so, sent_as, slot_lent, turn_choices, turn_names}
 use Rattle.iox_lanes_service.specs.declared.number.TurnNumber.{TurnNumber}
 use Rattle.iox_lanes_service.proofs.Beginning.{new_lanes_stand}
-use Rattle.iox_lanes_service.proofs.Chaining.{none_above, sizes_stay}
+use Rattle.iox_lanes_service.proofs.Chaining.{none_above}
 use Rattle.iox_lanes_service.proofs.Lending.{loans_are_steps}
 use Rattle.iox_lanes_service.proofs.Dropping.{drops_are_steps}
+use Rattle.iox_lanes_service.proofs.Filling.{drop_leaves, loan_leaves, send_leaves, write_leaves}
+use Rattle.iox_lanes_service.proofs.Fitting.{turns_fixed, turns_stand}
 use Rattle.iox_lanes_service.proofs.Sending.{sends_are_steps}
 use Rattle.iox_lanes_service.proofs.Writing.{writes_are_steps}
-use Rattle.iox_lanes_service.proofs.Tables.{appended_entry, left_entry, not_both}
+use Rattle.iox_lanes_service.proofs.Tables.{appended_entry, left_entry, not_both, stands_at_index}
 use Rattle.iox_machine.specs.Run.{Runs, Step}
 use Rattle.iox_machine.specs.Service.{Service}
 use Rattle.iox_machine.specs.State.{Made, State, counted}
@@ -88,14 +91,15 @@ pub record NextStands (types : MessageTypeDetails) (buffer : ℕ) (new : Turns) 
   pub loans : (counted replied state.made).loans ≡ new.loans
   pub samples : (counted replied state.made).samples ≡ new.samples
 
-pub goes_on : (turns new : Turns) (m n : World) → AreTurns false turns m → TurnsGoOn n → (asked : Command (List ℕ))
-    (replied : Reply (List ℕ)) → new.sizes ≡ turns.sizes → new.asked ≡ turns.asked ++ asked ∷ []
+pub goes_on : (turns new : Turns) (m n : World) → AreTurns false turns m → TurnsGoOn turns.sizes n → (asked : Command (List ℕ))
+    (replied : Reply (List ℕ)) → new.stuck ≡ turns.stuck → new.sizes ≡ turns.sizes → new.asked ≡ turns.asked ++ asked ∷ []
     → new.answers ≡ turns.answers ++ replied ∷ []
-    → NumbersLow new
+    → NumbersLow new → AreWritten new n
     → ((types : MessageTypeDetails) (buffer : ℕ) (state : State (List ℕ)) (s : TurnsStand turns m state)
     → NextStands types buffer new n asked replied state s.service)
     → AreTurns false new n
-goes_on turns new m n a c asked replied sized asked_is answers_are low each = record {
+goes_on turns new m n a c asked replied still sized asked_is answers_are low written each = record {
+  told = still ∙ a.told;
   runs = λ types buffer state begins.
       let before = a.runs types buffer state (subst (λ (sizes : LaneSizes). BeginsTurns sizes state) sized begins) in
       let s : TurnsStand turns m before.0 = before.2 refl in
@@ -118,18 +122,24 @@ goes_on turns new m n a c asked replied sized asked_is answers_are low each = re
           samples = next.samples;
         },
       );
-  goes = λ going. c;
+  goes = λ going. subst (λ (sizes : LaneSizes). TurnsGoOn sizes n) (sym sized) c;
   low = low;
+  written = λ going. written;
 }
 
 -- lanes go on behind a turn
-pub ends_well : (m n : World) (party : Party) (asking : Call) → IsInTurn m party asking n → TurnsGoOn m → TurnsGoOn n
-ends_well m n party asking t c =
+pub ends_well : (sizes : LaneSizes) (m n : World) (party : Party) (asking : Call) → IsInTurn m party asking n → TurnsGoOn sizes m
+    → TurnsGoOn sizes n
+ends_well sizes m n party asking t c =
     let e = calls_end_in_turn m party asking n t in
+    let fixed = turns_fixed m n party asking t in
     record {
       came = e.0;
       between = e.1;
-      small = subst (λ sizes. sizes.slots < 2 ^ 64) (sym (sizes_stay m n party asking t)) c.small;
+      publishers = fixed.publisher_count ∙ c.publishers;
+      subscribers = fixed.subscriber_count ∙ c.subscribers;
+      table = fixed.sizes ∙ c.table;
+      small = subst (λ words. words.slots < 2 ^ 64) (sym fixed.sizes) c.small;
     }
 
 -- what is got at a place below the length stands there
@@ -167,12 +177,28 @@ kept_going true turns new m n is on a = not_both true refl is
 kept_going false turns new m n is on a = on a
 
 -- a turn stopped within its call
-pub stuck_since : (stuck : Bool) (turns : Turns) (m n : World) → AreTurns stuck turns m → AreTurns true turns n
+pub stuck_since : (stuck : Bool) (turns : Turns) (m n : World) → AreTurns stuck turns m → AreTurns true (record turns { stuck = true }) n
 stuck_since stuck turns m n a = record {
+  told = refl;
   runs = λ types buffer state begins.
       let before = a.runs types buffer state begins in (before.0, before.1, λ going. not_both true refl going);
   goes = λ going. not_both true refl going;
-  low = a.low;
+  low = record { loans = a.low.loans; samples = a.low.samples };
+  written = λ going. not_both true refl going;
+}
+
+-- nothing was asked of lanes
+abbrev pub unasked : LaneSizes → Turns
+unasked sizes = record {
+  sizes = sizes;
+  asked = [];
+  answers = [];
+  loans = 0;
+  samples = 0;
+  lent = [];
+  held = [];
+  written = [];
+  stuck = false;
 }
 
 -- nobody is inside a call on new lanes
@@ -236,10 +262,11 @@ unused_so sizes state b = record {
 
 pub new_turns : (sizes : LaneSizes) (m : World) → m ≡ start sizes → 0 < sizes.buffer → sizes.buffer < 2 ^ 61 → sizes.most_borrowed < 2 ^ 61
     → sizes.subscribers < 2 ^ 61 → sizes.publishers * sizes.slots < 2 ^ 64
-    → AreTurns false (record { sizes = sizes; asked = []; answers = []; loans = 0; samples = 0; lent = []; held = [] }) m
+    → AreTurns false (unasked sizes) m
 new_turns sizes m is some low borrowed ports small =
-    subst (AreTurns false (record { sizes = sizes; asked = []; answers = []; loans = 0; samples = 0; lent = []; held = [] })) (sym is)
+    subst (AreTurns false (unasked sizes)) (sym is)
     (record {
+      told = refl;
       runs = λ types buffer state begins. (
         state,
         (refl, refl),
@@ -270,11 +297,18 @@ new_turns sizes m is some low borrowed ports small =
           runs = (refl, refl);
         };
         between = start_between sizes;
+        publishers = listed_length (publisher_at sizes) sizes.publishers;
+        subscribers = listed_length (subscriber_at sizes) sizes.subscribers;
+        table = refl;
         small = small;
       };
       low = record {
         loans = λ index entry there. absurd (none_lent index entry there);
         samples = λ index entry there. absurd (none_held index entry there);
+      };
+      written = λ going. record {
+        each = λ index entry there. absurd (none_lent index entry there);
+        low = λ number has. absurd (cc has);
       };
     })
   where
@@ -335,6 +369,11 @@ module _ (turns : Turns) (m n : World) (place : ℕ) where
   loaned_sizes loan.ExceedsMaxLoans = refl
   loaned_sizes loan.OutOfMemory = refl
 
+  loaned_stuck : (given : LoanAnswer) → (loaned place given turns).stuck ≡ turns.stuck
+  loaned_stuck (loan.Slot slot) = refl
+  loaned_stuck loan.ExceedsMaxLoans = refl
+  loaned_stuck loan.OutOfMemory = refl
+
   loaned_asked : (given : LoanAnswer) → (loaned place given turns).asked ≡ turns.asked ++ command.LoanUninit (suc place) 1 ∷ []
   loaned_asked (loan.Slot slot) = refl
   loaned_asked loan.ExceedsMaxLoans = refl
@@ -390,13 +429,16 @@ module _ (turns : Turns) (m n : World) (place : ℕ) where
   pub loan_recorded : (given : LoanAnswer) → AreTurns false turns m
       → TurnEnds m (Publisher place) call.LoanUninit (answer.Lent given) n → AreTurns false (loaned place given turns) n
   loan_recorded given a t =
-      let goes : TurnsGoOn m = a.goes refl in
+      let goes : TurnsGoOn turns.sizes m = a.goes refl in
       let lane = publisher_there m place call.LoanUninit (slice_get m.publishers place) refl t.in_turn.begins.0 in
       let p : IsPublisher m.table.sizes lane.0
       = all_at (IsPublisher m.table.sizes) m.publishers place lane.0 lane.1 ((came_kept m goes.came).0).within.publishers in
-      goes_on turns (loaned place given turns) m n a (ends_well m n (Publisher place) call.LoanUninit t.in_turn goes)
-      (command.LoanUninit (suc place) 1) (loan_replied (turns.loans + 1) given) (loaned_sizes given) (loaned_asked given)
+      goes_on turns (loaned place given turns) m n a (ends_well turns.sizes m n (Publisher place) call.LoanUninit t.in_turn goes)
+      (command.LoanUninit (suc place) 1) (loan_replied (turns.loans + 1) given) (loaned_stuck given) (loaned_sizes given) (loaned_asked
+      given)
       (loaned_answers given) (loaned_low given a.low)
+      (loan_leaves turns m n place (a.written refl) given t.in_turn goes.small
+      (λ other is. lent_same other given (answer_is m n (Publisher place) call.LoanUninit (answer.Lent other) (answer.Lent given) is t)))
       (λ types buffer state s.
       let fresh = none_above turns.lent state.made.loans (state.made.loans + 1) s.made.loans (omega arith) in
       let law = loans_are_steps turn_choices (λ words. words) types buffer (named_so s.message) turns.lent turns.held m n s.service
@@ -432,8 +474,10 @@ module _ (turns : Turns) (m n : World) (number place slot : ℕ) (a : AreTurns f
   pub drop_recorded : TurnEnds m (Publisher place) (call.DropLoan slot) answer.Dropped n
       → AreTurns false (loan_spent number (command.Drop number) reply.Done turns) n
   drop_recorded t = goes_on turns (loan_spent number (command.Drop number) reply.Done turns) m n a
-      (ends_well m n (Publisher place) (call.DropLoan slot) t.in_turn (a.goes refl))
-      (command.Drop number) reply.Done refl refl refl (fewer_low (command.Drop number) reply.Done)
+      (ends_well turns.sizes m n (Publisher place) (call.DropLoan slot) t.in_turn (a.goes refl))
+      (command.Drop number) reply.Done refl refl refl refl (fewer_low (command.Drop number) reply.Done)
+      (drop_leaves turns m n place (a.written refl) number slot there (turns_stand false turns m a refl).0
+      (turns_stand false turns m a refl).1 (command.Drop number) reply.Done t.in_turn)
       (λ types buffer state s.
       let law = drops_are_steps turn_choices (λ words. words) types buffer (named_so s.message) turns.lent turns.held m n s.service
       state number (record { publisher = place; slot = slot }) s.stands there t.in_turn in
@@ -442,8 +486,11 @@ module _ (turns : Turns) (m n : World) (number place slot : ℕ) (a : AreTurns f
   pub send_recorded : (given : SendAnswer) → TurnEnds m (Publisher place) (call.Send slot) (answer.Sent given) n
       → AreTurns false (loan_spent number (command.Send number) (send_replied given) turns) n
   send_recorded given t = goes_on turns (loan_spent number (command.Send number) (send_replied given) turns) m n a
-      (ends_well m n (Publisher place) (call.Send slot) t.in_turn (a.goes refl)) (command.Send number) (send_replied given) refl refl refl
+      (ends_well turns.sizes m n (Publisher place) (call.Send slot) t.in_turn (a.goes refl)) (command.Send number) (send_replied given)
+      refl refl refl refl
       (fewer_low (command.Send number) (send_replied given))
+      (send_leaves turns m n place (a.written refl) number slot there (turns_stand false turns m a refl).0
+      (turns_stand false turns m a refl).1 (command.Send number) (send_replied given) t.in_turn)
       (λ types buffer state s.
       let law = sends_are_steps turn_choices (λ words. words) types buffer (named_so s.message) turns.lent turns.held m n s.service
       state number (record { publisher = place; slot = slot }) s.stands there t.in_turn in
@@ -468,10 +515,14 @@ module _ (turns : Turns) (m n : World) (number place slot : ℕ) (a : AreTurns f
 
   pub write_recorded : (payload user_header : Vec ℕ)
       → TurnEnds m (Publisher place) (call.Write slot payload user_header) answer.Written n
-      → AreTurns false (turned (command.Fill number (payload.items ∷ [])) reply.Done turns) n
-  write_recorded payload user_header t = goes_on turns (turned (command.Fill number (payload.items ∷ [])) reply.Done turns) m n a
-      (ends_well m n (Publisher place) (call.Write slot payload user_header) t.in_turn (a.goes refl))
-      (command.Fill number (payload.items ∷ [])) reply.Done refl refl refl (record { loans = a.low.loans; samples = a.low.samples })
+      → AreTurns false (loan_written number payload.items turns) n
+  write_recorded payload user_header t = goes_on turns (loan_written number payload.items turns) m n a
+      (ends_well turns.sizes m n (Publisher place) (call.Write slot payload user_header) t.in_turn (a.goes refl))
+      (command.Fill number (payload.items ∷ [])) reply.Done refl refl refl refl (record { loans = a.low.loans; samples = a.low.samples })
+      (write_leaves turns m n place (a.written refl) number slot there (turns_stand false turns m a refl).0
+      (turns_stand false turns m a refl).1 payload user_header t.in_turn
+      (let index = stands_at_index number (record { publisher = place; slot = slot }) turns.lent there in
+      a.low.loans index.0 (number, record { publisher = place; slot = slot }) index.1))
       (λ types buffer state s.
       let law = writes_are_steps turn_choices (λ words. words) types buffer (named_so s.message) turns.lent turns.held m n s.service
       state number (record { publisher = place; slot = slot }) payload user_header s.stands there t.in_turn in

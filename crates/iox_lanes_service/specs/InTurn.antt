@@ -1,5 +1,5 @@
 -- What was asked of lanes in turn, and what they answered.
-use Rattle.std.specs.Prelude.{ℕ, suc, ◌≡◌, ◌<◌, ◌≤◌, true, false, List, [], ◌∷◌, ◌++◌, length, None, Some}
+use Rattle.std.specs.Prelude.{ℕ, suc, ◌≡◌, ◌<◌, ◌≤◌, ◌⊎◌, Bool, true, false, List, [], ◌∷◌, ◌++◌, length, None, Some}
 use Rattle.iox_command.specs.DomainValues.Actions.{decision_of}
 use Rattle.iox_command.specs.DomainValues.declared.backpressure.BackpressureDecision.TheVariants.{DiscardData}
 use Rattle.iox_command.specs.declared.command.Command.{Command}
@@ -14,7 +14,8 @@ use Rattle.iox_machine.specs.State.{State}
 use Rattle.iox_machine.specs.Table.{at}
 
 -- What was asked of lanes of some sizes, one whole call after the other, in the words of commands, and what was answered to each. And how
--- many loans and samples were made so far, and which go by numbers.
+-- many loans and samples were made so far, which go by numbers, and which loans were written. Lanes are stuck once memory or steps ran out
+-- within a call.
 pub record Turns : Type 0 where
   pub sizes : LaneSizes
   pub asked : List (Command (List ℕ))
@@ -23,10 +24,17 @@ pub record Turns : Type 0 where
   pub samples : ℕ
   pub lent : List (ℕ × LaneLoan)
   pub held : List (ℕ × LaneSample)
+  pub written : List ℕ
+  pub stuck : Bool
 
 -- one command more, which was answered so
 abbrev pub turned : Command (List ℕ) → Reply (List ℕ) → Turns → Turns
 turned asked answer turns = record turns { asked = turns.asked ++ asked ∷ []; answers = turns.answers ++ answer ∷ [] }
+
+-- A call wasn't answered. Either nothing changed, and lanes were stuck before if the call fits; or they are stuck since, and nothing else
+-- changed.
+abbrev pub IsUnanswered : Type 0 → Turns → Turns → Type 0
+IsUnanswered Fits old new = ((new ≡ old) × (Fits → old.stuck ≡ true)) ⊎ (new ≡ record old { stuck = true })
 
 -- A publisher that came, and is connected to each subscriber, before it lends and sends. It numbers no messages, and where mailboxes may be
 -- full it discards.
@@ -71,3 +79,7 @@ pub record BeginsTurns (sizes : LaneSizes) (state : State (List ℕ)) : Type 0 w
   pub samples : service.samples ≡ []
   pub no_loans : state.made.loans ≡ 0
   pub no_samples : state.made.samples ≡ 0
+
+-- For any sizes there is a machine from which lanes go on.
+abbrev pub TurnsBegin : Type 0
+TurnsBegin = (sizes : LaneSizes) → (state : State (List ℕ)) × BeginsTurns sizes state

@@ -1,6 +1,6 @@
 -- What lanes in turn record, and what ties the record to the lanes.
 use Rattle.std.specs.Prelude.{Option, None, Some, Result, Ok, Err, ⊤}
-use Rattle.std.specs.Prelude.{ℕ, ◌+◌, ◌≡◌, ◌<◌, ◌≤◌, ◌^◌, suc, Bool, false, List, [], ◌∷◌, ◌++◌, length, slice_get}
+use Rattle.std.specs.Prelude.{ℕ, ◌+◌, ◌≡◌, ◌<◌, ◌≤◌, ◌^◌, suc, Bool, true, false, List, [], ◌∷◌, ◌++◌, length, slice_get}
 use Rattle.std.specs.Global.{Vec}
 use Rattle.iox_command.specs.DomainValues.declared.port_error.LoanError.{LoanError}
 use Rattle.iox_command.specs.DomainValues.declared.port_error.LoanError.TheVariants as refused
@@ -21,14 +21,17 @@ use Rattle.iox_lanes_machine.specs.LanesParties.Parties.{SubscriberLaneState}
 use Rattle.iox_lanes_machine.specs.LanesParties.declared.call.Answer.{Answer}
 use Rattle.iox_lanes_machine.specs.LanesParties.declared.call.Call.{Call}
 use Rattle.iox_lanes_machine.specs.LanesParties.declared.call.FinishedCall.{FinishedCall}
+use Rattle.iox_lanes_machine.specs.LanesParties.declared.call.Move.TheVariants.{Begin}
 use Rattle.iox_lanes_machine.specs.LanesParties.declared.call.Party.{Party}
 use Rattle.iox_lanes_machine.specs.LanesParties.declared.call.SendAnswer.{SendAnswer}
 use Rattle.iox_lanes_machine.specs.LanesParties.declared.call.SendAnswer.TheVariants as sent
 use Rattle.iox_lanes_machine.specs.LanesParties.declared.publisher.slot_book.LoanAnswer.{LoanAnswer}
 use Rattle.iox_lanes_machine.specs.LanesParties.declared.publisher.slot_book.LoanAnswer.TheVariants as loan
+use Rattle.iox_lanes_machine.specs.Made.{table_sizes}
 use Rattle.iox_lanes_machine.specs.Resting.{AllBetween}
 use Rattle.iox_lanes_machine.specs.WholeReads.{CameTo}
-use Rattle.iox_lanes_machine.specs.World.{World}
+use Rattle.iox_lanes_machine.specs.World.{World, fits}
+use Rattle.iox_lanes_machine.specs.declared.sizes.LaneSizes.{LaneSizes}
 use Rattle.iox_lanes_laws.specs.Turns.{GoesToEnd, IsInTurn}
 use Rattle.iox_lanes_service.specs.declared.turn.Turn.{Turn}
 use Rattle.iox_lanes_service.specs.declared.turn.Turn.TheVariants as turn
@@ -36,20 +39,26 @@ use Rattle.iox_lanes_service.specs.InTurn.{BeginsTurns, Turns, turned}
 use Rattle.iox_lanes_service.specs.declared.in_turn.TurnLoan.{TurnLoan}
 use Rattle.iox_lanes_service.specs.declared.in_turn.TurnSample.{TurnSample}
 use Rattle.iox_lanes_service.specs.declared.number.TurnNumber.{TurnNumber}
-use Rattle.iox_lanes_service.specs.Naming.{LaneNaming, LaneLoan, LaneSample}
+use Rattle.iox_lanes_service.specs.Naming.{LaneNaming, LaneLoan, LaneSample, has_written}
 use Rattle.iox_lanes_service.specs.Standing.{LanesStandFor}
 use Rattle.iox_lanes_service.specs.TurnLaws.{AreMade}
 use Rattle.iox_machine.specs.Choices.{Choices, as_named}
 use Rattle.iox_machine.specs.Run.{Runs}
 use Rattle.iox_machine.specs.Service.{Service}
 use Rattle.iox_machine.specs.State.{State}
-use Rattle.iox_machine.specs.Table.{removed}
+use Rattle.iox_machine.specs.Table.{contains, removed}
 
 -- a publisher lent this slot, as the next loan
 abbrev pub slot_lent : ℕ → ℕ → Turns → Turns
 slot_lent place slot turns = record (turned (command.LoanUninit (suc place) 1) (reply.LoanMade (turns.loans + 1)) turns) {
   loans = turns.loans + 1;
   lent = turns.lent ++ (turns.loans + 1, record { publisher = place; slot = slot }) ∷ [];
+}
+
+-- a loan was written with this payload
+abbrev pub loan_written : ℕ → List ℕ → Turns → Turns
+loan_written number payload turns = record (turned (command.Fill number (payload ∷ [])) reply.Done turns) {
+  written = number ∷ turns.written;
 }
 
 -- a loan was spent: it goes by no number then
@@ -84,9 +93,9 @@ pub record TurnEnds (m : World) (party : Party) (asking : Call) (given : Answer)
   pub ended : slice_get n.finished (length m.finished) ≡ Some call
   pub answered : call.answer ≡ given
 
--- how a turn came out: it changed nothing; it stopped within its call, after which nothing is said; or it ended
+-- how a turn came out: its call doesn't fit, and nothing changed; it stopped within its call, after which nothing is said; or it ended
 abbrev pub TakesTurn : World → Party → Call → Turn → World → Type 0
-TakesTurn m party asking turn.NotBegun n = n ≡ m
+TakesTurn m party asking turn.NotBegun n = (fits m party (Begin asking) ≡ false) × (n ≡ m)
 TakesTurn m party asking turn.Stuck n = ⊤
 TakesTurn m party asking (turn.Ended given) n = TurnEnds m party asking given n
 
@@ -104,10 +113,13 @@ pub record TurnsStand (turns : Turns) (m : World) (state : State (List ℕ)) : T
   pub loans : state.made.loans ≡ turns.loans
   pub samples : state.made.samples ≡ turns.samples
 
--- lanes go on from here: they came to here, nobody is inside a call, and slots have numbers below 2^64
-pub record TurnsGoOn (m : World) : Type 0 where
+-- lanes of these sizes go on from here: they came to here, nobody is inside a call, and slots have numbers below 2^64
+pub record TurnsGoOn (sizes : LaneSizes) (m : World) : Type 0 where
   pub came : CameTo m
   pub between : AllBetween m
+  pub publishers : length m.publishers ≡ sizes.publishers
+  pub subscribers : length m.subscribers ≡ sizes.subscribers
+  pub table : m.table.sizes ≡ table_sizes sizes
   pub small : m.table.sizes.slots < 2 ^ 64
 
 -- no number of a loan or of a sample is above the number of those that were made
@@ -115,13 +127,22 @@ pub record NumbersLow (turns : Turns) : Type 0 where
   pub loans : (index : ℕ) (entry : ℕ × LaneLoan) → slice_get turns.lent index ≡ Some entry → entry.0 ≤ turns.loans
   pub samples : (index : ℕ) (entry : ℕ × LaneSample) → slice_get turns.held index ≡ Some entry → entry.0 ≤ turns.samples
 
--- What was asked and answered is a run of the machine; and as long as no turn got stuck, lanes stand for what the machine has then.
+-- A loan that was written is so while it goes by its number; and only loans that were made were written.
+pub record AreWritten (turns : Turns) (m : World) : Type 0 where
+  pub each : (index : ℕ) (entry : ℕ × LaneLoan) → slice_get turns.lent index ≡ Some entry → contains turns.written entry.0 ≡ true
+      → has_written entry.1.slot (slice_get m.publishers entry.1.publisher) ≡ true
+  pub low : (number : ℕ) → contains turns.written number ≡ true → number ≤ turns.loans
+
+-- What was asked and answered is a run of the machine; and as long as no turn got stuck, lanes stand for what the machine has then. The
+-- record tells whether one did.
 pub record AreTurns (stuck : Bool) (turns : Turns) (m : World) : Type 0 where
+  pub told : turns.stuck ≡ stuck
   pub runs : (types : MessageTypeDetails) (buffer : ℕ) (state : State (List ℕ)) → BeginsTurns turns.sizes state
       → (after : State (List ℕ)) × Runs types turn_choices buffer turns.asked state turns.answers after
       × (stuck ≡ false → TurnsStand turns m after)
-  pub goes : stuck ≡ false → TurnsGoOn m
+  pub goes : stuck ≡ false → TurnsGoOn turns.sizes m
   pub low : NumbersLow turns
+  pub written : stuck ≡ false → AreWritten turns m
 
 -- what a publisher at a place lent, by this number, or why it lent nothing
 abbrev pub lent_as : ℕ → LoanAnswer → TurnNumber → Result TurnLoan LoanError

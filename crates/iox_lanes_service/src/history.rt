@@ -1,5 +1,5 @@
 //! What was asked of lanes in turn, and what they answered, which only proofs read.
-ghost use Rattle.std.specs.Prelude.{◌≡◌};
+ghost use Rattle.std.specs.Prelude.{◌≡◌, true};
 ghost use Rattle.iox_lanes_service.specs.InTurn.{Turns};
 
 use std::marker::Model;
@@ -25,5 +25,12 @@ impl TurnHistory {
         ensures { result.turns ≡ turns }
     {
         TurnHistory {}
+    }
+
+    // The same, where the last call got stuck.
+    pub(crate) fn stopped(&self) -> TurnHistory
+        ensures { result.turns ≡ record self.now.turns { stuck = true } }
+    {
+        TurnHistory::told(self, &(), &())
     }
 }

@@ -1,15 +1,16 @@
 //! Lanes whose calls go in turn, and which record, for proofs alone, what is asked and answered.
-ghost use Rattle.std.specs.Prelude.{ℕ, ◌≡◌, ◌+◌, ◌<◌, ◌∷◌, ◌++◌, [], ⊤, suc, Some, MatchBool, MatchOption, MatchResult, IfOk, IfSome, drop};
+ghost use Rattle.std.specs.Prelude.{ℕ, ◌≡◌, ◌+◌, ◌<◌, ◌∷◌, ◌++◌, [], ⊤, suc, true, false, length, drop};
+ghost use Rattle.std.specs.Prelude.{None, Some, MatchBool, MatchOption, MatchResult, IfOk, IfSome};
 ghost use Rattle.iox_command.specs.NegotiateBase.DescribeBase.declared.message_type.MessageTypeDetails.{MessageTypeDetails};
 ghost use Rattle.iox_command.specs.declared.command.Command.TheVariants as command;
 ghost use Rattle.iox_command.specs.declared.reply.Reply.TheVariants as reply;
 ghost use Rattle.iox_command.specs.declared.refusal.Refusal.TheVariants as refusal;
-ghost use Rattle.iox_lanes_service.specs.InTurn.{BeginsTurns, turned};
+ghost use Rattle.iox_lanes_service.specs.InTurn.{BeginsTurns, IsUnanswered, turned};
 ghost use Rattle.iox_machine.specs.Choices.{as_named};
 ghost use Rattle.iox_lanes_service.specs.Turning.{lent_as, sent_as, taken_as};
 ghost use Rattle.iox_machine.specs.Run.{Runs};
 ghost use Rattle.iox_machine.specs.State.{State};
-ghost use Rattle.iox_machine.specs.Table.{at, removed};
+ghost use Rattle.iox_machine.specs.Table.{at, contains, removed};
 ghost use Rattle.std.specs.Global.{Vec};
 ghost use Rattle.std.specs.Vec.{vec_items};
 ghost use Rattle.std.specs.Prelude.{List};
@@ -55,9 +56,9 @@ pub struct TurnSample {
 /// Lanes whose calls go in turn, one whole call after the other. Proofs know what was asked, in the words of commands, and what was
 /// answered.
 ///
-/// Each call says which command it is, and what it is answered. It answers None, and nothing is recorded, where it doesn't fit, or where
-/// memory or steps ran out within it: then no call is made any more. That these are a run of the machine says `answers_as_machine`. This
-/// port's own.
+/// Each call says which command it is, and what it is answered. Only where it doesn't fit, or where memory or steps ran out within it, it
+/// answers None, and no command is recorded. Where they ran out, lanes are stuck: no call is made any more. That these are a run of the
+/// machine says `answers_as_machine`. This port's own.
 #[derive(Drop)]
 pub struct LanesInTurn {
     lanes: Lanes,
@@ -78,8 +79,8 @@ impl Model for LanesInTurn {
 }
 
 impl LanesInTurn {
-    /// Lanes of these sizes, of which nothing was asked. It fails where an allocation fails. Refused as that are 2^61 or more subscribers, or
-    /// messages that may wait or be borrowed, and 2^64 or more slots.
+    /// Lanes of these sizes, of which nothing was asked. It fails where an allocation fails. Refused as that are 2^61 or more subscribers,
+    /// or messages that may wait or be borrowed, and 2^64 or more slots.
     /// Example: `let mut lanes = LanesInTurn::new(alloc, sizes)?;`
     pub fn new(alloc: Global, sizes: LaneSizes) -> Result<LanesInTurn, AllocError>
         requires { 0 < sizes.buffer }
@@ -91,6 +92,8 @@ impl LanesInTurn {
           samples = 0;
           lent = [];
           held = [];
+          written = [];
+          stuck = false;
         }) }
     {
         if sizes.buffer >= 1 << 61
@@ -119,12 +122,13 @@ impl LanesInTurn {
         let _ = &self.lanes;
     }
 
-    /// The publisher at a place lends a slot for one value: the command `LoanUninit`.
+    /// The publisher at a place lends a slot for one value: the command `LoanUninit`. It fits where the sizes have such a publisher.
     ///
     /// Refused where as many loans are out as may be, or each slot is in use.
     /// Example: `let loan = lanes.loan(0)?;`
     pub fn loan(&mut self, publisher: usize) -> Option<Result<TurnLoan, LoanError>>
-        ensures lent { MatchOption result (self.new ≡ self.old) (λ answer. MatchResult answer
+        ensures lent { MatchOption result (IsUnanswered (publisher < self.old.sizes.publishers) self.old self.new)
+            (λ answer. MatchResult answer
             (λ loan. self.new ≡ record (turned (command.LoanUninit (suc publisher) 1) (reply.LoanMade (self.old.loans + 1)) self.old) {
               loans = self.old.loans + 1;
               lent = self.old.lent ++ (self.old.loans + 1, record { publisher = publisher; slot = loan.slot }) ∷ [];
@@ -133,6 +137,7 @@ impl LanesInTurn {
         ensures number { MatchOption result (Unit {0}) (λ answer. IfOk answer (λ loan. (loan.publisher ≡ publisher)
             × (loan.number.value ≡ self.old.loans + 1)
             × (at loan.number.value self.new.lent ≡ Some (record { publisher = publisher; slot = loan.slot })))) }
+        ensures stuck { self.old.stuck ≡ true → result ≡ None }
     {
         if self.stuck {
             return None;
@@ -150,18 +155,24 @@ impl LanesInTurn {
             }
             _ => {
                 self.stuck = true;
+                self.history = self.history.stopped();
                 None
             }
         }
     }
 
     /// A loan's publisher writes these words of payload into it, and keeps these of the user header for its send: the command `Fill`.
-    /// Whether it did: false, too, where they aren't as many as the lanes' sizes say.
+    /// Whether it did. It fits where they are as many as the lanes' sizes say.
     /// Example: `let is_written = lanes.write(&loan, payload, user_header);`
     pub fn write(&mut self, loan: &TurnLoan, payload: Vec<u64>, user_header: Vec<u64>) -> bool
         requires { at loan.now.number.value self.old.lent ≡ Some (record { publisher = loan.now.publisher; slot = loan.now.slot }) }
         ensures written { MatchBool result
-            (self.new ≡ turned (command.Fill loan.now.number.value (payload.items ∷ [])) reply.Done self.old) (self.new ≡ self.old) }
+            (self.new ≡ record (turned (command.Fill loan.now.number.value (payload.items ∷ [])) reply.Done self.old) {
+              written = loan.now.number.value ∷ self.old.written;
+            })
+            (IsUnanswered ((length payload.items ≡ self.old.sizes.payload_words)
+            × (length user_header.items ≡ self.old.sizes.user_header_words)) self.old self.new) }
+        ensures stuck { self.old.stuck ≡ true → result ≡ false }
     {
         if self.stuck {
             return false;
@@ -183,24 +194,27 @@ impl LanesInTurn {
             }
             _ => {
                 self.stuck = true;
+                self.history = self.history.stopped();
                 false
             }
         }
     }
 
-    /// A loan that is written is sent, and goes by no number then: the command `Send`. None where it isn't written.
+    /// A loan is sent, and goes by no number then: the command `Send`. It fits where the loan was written.
     ///
     /// Refused where the publisher fails at full mailboxes, and one refused the message.
     /// Example: `let taken = lanes.send(&loan)?;`
     pub fn send(&mut self, loan: &TurnLoan) -> Option<Result<u64, SendError>>
         requires { at loan.now.number.value self.old.lent ≡ Some (record { publisher = loan.now.publisher; slot = loan.now.slot }) }
-        ensures sent { MatchOption result (self.new ≡ self.old) (λ answer. MatchResult answer
+        ensures sent { MatchOption result (IsUnanswered (contains self.old.written loan.now.number.value ≡ true) self.old self.new)
+            (λ answer. MatchResult answer
             (λ taken. self.new ≡ record (turned (command.Send loan.now.number.value) (reply.Delivered taken) self.old) {
               lent = removed loan.now.number.value self.old.lent;
             })
             (λ why. self.new ≡ record (turned (command.Send loan.now.number.value) (reply.Refused (refusal.Send why)) self.old) {
               lent = removed loan.now.number.value self.old.lent;
             })) }
+        ensures stuck { self.old.stuck ≡ true → result ≡ None }
     {
         if self.stuck {
             return None;
@@ -217,12 +231,13 @@ impl LanesInTurn {
             }
             _ => {
                 self.stuck = true;
+                self.history = self.history.stopped();
                 None
             }
         }
     }
 
-    /// A loan is given up, and goes by no number then: the command `Drop`. Whether it was.
+    /// A loan is given up, and goes by no number then: the command `Drop`. Whether it was. It always fits.
     /// Example: `let is_dropped = lanes.drop_loan(&loan);`
     pub fn drop_loan(&mut self, loan: &TurnLoan) -> bool
         requires { at loan.now.number.value self.old.lent ≡ Some (record { publisher = loan.now.publisher; slot = loan.now.slot }) }
@@ -230,7 +245,8 @@ impl LanesInTurn {
             (self.new ≡ record (turned (command.Drop loan.now.number.value) reply.Done self.old) {
               lent = removed loan.now.number.value self.old.lent;
             })
-            (self.new ≡ self.old) }
+            (IsUnanswered ⊤ self.old self.new) }
+        ensures stuck { self.old.stuck ≡ true → result ≡ false }
     {
         if self.stuck {
             return false;
@@ -247,17 +263,19 @@ impl LanesInTurn {
             }
             _ => {
                 self.stuck = true;
+                self.history = self.history.stopped();
                 false
             }
         }
     }
 
-    /// The subscriber at a place receives: the command `Receive`.
+    /// The subscriber at a place receives: the command `Receive`. It fits where the sizes have such a subscriber.
     ///
     /// Refused where it has borrowed as many samples as it may.
     /// Example: `let sample = lanes.receive(0)?;`
     pub fn receive(&mut self, subscriber: usize) -> Option<Result<Option<TurnSample>, ReceiveError>>
-        ensures received { MatchOption result (self.new ≡ self.old) (λ answer. MatchResult answer
+        ensures received { MatchOption result (IsUnanswered (subscriber < self.old.sizes.subscribers) self.old self.new)
+            (λ answer. MatchResult answer
             (λ came. MatchOption came (self.new ≡ turned (command.Receive (suc subscriber)) reply.NothingWaits self.old)
             (λ sample. (publisher : ℕ) × (values : Vec (List ℕ))
             × (self.new ≡ record (turned (command.Receive (suc subscriber)) (reply.Received (self.old.samples + 1) values) self.old) {
@@ -270,6 +288,7 @@ impl LanesInTurn {
             (sample.subscriber ≡ subscriber) × (sample.number.value ≡ self.old.samples + 1)
             × ((publisher : ℕ) × (at sample.number.value self.new.held
             ≡ Some (record { publisher = publisher; subscriber = subscriber; slot = sample.slot })))))) }
+        ensures stuck { self.old.stuck ≡ true → result ≡ None }
     {
         if self.stuck {
             return None;
@@ -288,12 +307,13 @@ impl LanesInTurn {
             }
             _ => {
                 self.stuck = true;
+                self.history = self.history.stopped();
                 None
             }
         }
     }
 
-    /// A sample is read: the command `Read`. The words of its payload, if memory is found for them.
+    /// A sample is read: the command `Read`. The words of its payload, if memory is found for them. It always fits.
     /// Example: `let words = lanes.read(alloc, &sample)?;`
     pub fn read(
         &mut self,
@@ -302,9 +322,10 @@ impl LanesInTurn {
     ) -> Option<Result<Vec<u64>, AllocError>>
         requires { (publisher : ℕ) × (at sample.now.number.value self.old.held
             ≡ Some (record { publisher = publisher; subscriber = sample.now.subscriber; slot = sample.now.slot })) }
-        ensures read { MatchOption result (self.new ≡ self.old) (λ answer. (values : Vec (List ℕ))
+        ensures read { MatchOption result (IsUnanswered ⊤ self.old self.new) (λ answer. (values : Vec (List ℕ))
             × (self.new ≡ turned (command.Read sample.now.number.value) (reply.Values values) self.old)
             × IfOk answer (λ words. vec_items values ≡ words.items ∷ [])) }
+        ensures stuck { self.old.stuck ≡ true → result ≡ None }
     {
         if self.stuck {
             return None;
@@ -325,12 +346,13 @@ impl LanesInTurn {
             }
             _ => {
                 self.stuck = true;
+                self.history = self.history.stopped();
                 None
             }
         }
     }
 
-    /// A sample is released, and goes by no number then: the command `Release`. Whether it was.
+    /// A sample is released, and goes by no number then: the command `Release`. Whether it was. It always fits.
     /// Example: `let is_released = lanes.release(&sample);`
     pub fn release(&mut self, sample: &TurnSample) -> bool
         requires { (publisher : ℕ) × (at sample.now.number.value self.old.held
@@ -339,7 +361,8 @@ impl LanesInTurn {
             (self.new ≡ record (turned (command.Release sample.now.number.value) reply.Done self.old) {
               held = removed sample.now.number.value self.old.held;
             })
-            (self.new ≡ self.old) }
+            (IsUnanswered ⊤ self.old self.new) }
+        ensures stuck { self.old.stuck ≡ true → result ≡ false }
     {
         if self.stuck {
             return false;
@@ -358,6 +381,7 @@ impl LanesInTurn {
             }
             _ => {
                 self.stuck = true;
+                self.history = self.history.stopped();
                 false
             }
         }

@@ -7,6 +7,7 @@
 //!
 //! [`LanesInTurn`] are lanes whose calls go in turn. They record, for proofs alone, which commands were asked and what was answered:
 //! a run of the machine, said in its words alone.
+//! A call that fits is answered, unless memory or steps ran out.
 //!
 //! The functions here do nothing: the contract of each is a law of the definitions. A proof cites a law by a call of its function; what
 //! it states is then among the facts of the caller:
@@ -21,6 +22,7 @@ ghost use Rattle.iox_command.specs.NegotiateBase.DescribeBase.declared.message_t
 ghost use Rattle.iox_machine.specs.Choices.{Handed, chosen_by};
 ghost use Rattle.iox_lanes_service.specs.Laws.{NumbersAreTold, ReceivesAreSteps, ReadsAreSteps, ReleasesAreSteps, WritesAreSteps};
 ghost use Rattle.iox_lanes_service.specs.Laws.{DropsAreSteps};
+ghost use Rattle.iox_lanes_service.specs.InTurn.{TurnsBegin};
 ghost use Rattle.iox_lanes_service.specs.NewLanes.{NewLanesStand};
 ghost use Rattle.iox_lanes_service.specs.Laws.{LoansAreSteps, SendsAreSteps};
 ghost use Rattle.iox_lanes_service.specs.TurnLaws.{TurnsAreRuns};
@@ -88,4 +90,10 @@ pub fn turns_are_a_run<T: Default, B: Decides + Degrades, D: Degrades>()
     ensures { (handed : Handed B D) (value : List ℕ → T) (types : MessageTypeDetails) (buffer : ℕ)
         → TurnsAreRuns (chosen_by T.is_default (λ who. B.decides who) (λ who. B.degrades who)
         (λ who. D.degrades who) handed) value types buffer }
+{}
+
+/// For any sizes there is a machine from which lanes of them go on in turn: it has one service with these sizes, to which as many ports
+/// came, and nothing was lent or sent yet. That a new machine comes to it isn't said.
+pub fn turns_begin()
+    ensures { TurnsBegin }
 {}

@@ -46,7 +46,8 @@ pub(crate) fn take_turn(lanes: &mut Lanes, party: Party, asking: Call) -> Turn
     let ended = lanes.finished().len();
     match lanes.step(party, &Move::Begin(asking)) {
         Stepped::Went => {}
-        Stepped::Finished | Stepped::Skipped | Stepped::NoMemory => return Turn::NotBegun,
+        Stepped::Skipped => return Turn::NotBegun,
+        Stepped::Finished | Stepped::NoMemory => return Turn::Stuck,
     }
     if !goes_to_end(lanes, party) {
         return Turn::Stuck;

@@ -4,6 +4,7 @@ ghost use Rattle.iox_lanes_machine.specs.LanesParties.Values.{AreValues};
 ghost use Rattle.iox_lanes_machine.specs.LanesParties.Parties.{subscriber_begun};
 ghost use Rattle.iox_lanes_threads_ports.specs.Courses.{SubscriberEnds};
 ghost use Rattle.iox_lanes_threads_ports.specs.LanesThreadsRule.Acts.{single};
+ghost use Rattle.iox_lanes_threads_ports.specs.Holding.{StandsBetween};
 ghost use Rattle.iox_lanes_threads_ports.specs.Known.{KnowsRead, ListsRead, KnowsGivenBack, KeepsGivenBack};
 ghost use Rattle.iox_lanes_threads_ports.specs.Values.{Releases, Reads};
 ghost use Rattle.iox_lanes_threads.specs.Ports.{StaysSubscriber};
@@ -69,11 +70,13 @@ impl LaneSubscriber {
         ensures same { StaysSubscriber self.old self.new }
         ensures call { SubscriberEnds self.old.own.port (subscriber_begun 0 Call.Receive self.old.own.lane) self.new.own.port
             self.new.own.lane (Answer.Received result) }
+        ensures stood { StandsBetween self.old.own }
     {
         self.port.receive(rt, self.words.words())
     }
 
-    /// Reads the words of header, user header and payload of a sample. False where the slot is no sample of this port.
+    /// Reads the words of header, user header and payload of a sample. False where the slot is no sample of this port. Two reads of one
+    /// sample lend the same words, where no call between them gives it back (`held_reads_agree` of `iox_lanes_threads_ports`).
     pub fn read(&mut self, sample: u64) -> bool
         ensures same { StaysSubscriber self.old self.new }
         ensures call { Reads self.old.own sample self.new.own result }
@@ -81,6 +84,7 @@ impl LaneSubscriber {
         ensures listed { result ≡ true → ListsRead self.new.own.port self.old.own.lane.port.extent sample }
         ensures whole { result ≡ true → length self.new.own.words
             ≡ 3 + self.old.own.lane.port.extent.user_header_words + self.old.own.lane.port.extent.payload_words }
+        ensures stood { StandsBetween self.old.own }
     {
         self.port.read(self.words.words(), sample)
     }
@@ -106,6 +110,7 @@ impl LaneSubscriber {
         ensures call { Releases self.old.own sample self.new.own result }
         ensures put { result ≡ Some true → KnowsGivenBack self.old.own.port self.new.own.port self.old.own.lane sample }
         ensures kept { result ≡ Some false → KeepsGivenBack self.old.own.port self.new.own.port self.old.own.lane sample }
+        ensures stood { StandsBetween self.old.own }
     {
         self.port.release(self.words.words(), sample)
     }

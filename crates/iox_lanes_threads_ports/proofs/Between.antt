@@ -40,6 +40,7 @@ use Rattle.iox_lanes_threads_rule.specs.declared.view.Port.{Port}
 use Rattle.iox_lanes_threads_rule.specs.declared.view.View.{View}
 use Rattle.iox_lanes_threads_ports.specs.Courses.{SubscriberGoes, SubscriberEnds}
 use Rattle.iox_lanes_threads_ports.specs.Courses.SubscriberGoes.{stays, goes}
+use Rattle.iox_lanes_threads_ports.specs.Holding.{StandsBetween}
 use Rattle.iox_lanes_threads_ports.specs.Ports.{SubscriberStands}
 use Rattle.iox_lanes_threads_ports.specs.Values.{SubscriberPort, IsSeated, settled, IsBetween, IsShort, steps_left, Unmoved, received_of}
 use Rattle.iox_lanes_threads_ports.specs.Values.{released_of, Releases, Reads}
@@ -86,6 +87,15 @@ settled_stands p lane stands = by_test (subscriber_is_over lane.port.call) refl
     by_test : (b : Bool) → subscriber_is_over lane.port.call ≡ b → SubscriberStands p (if b then subscriber_after 0 lane else lane)
     by_test true over = subscriber_last p lane stands over
     by_test false over = stands
+
+-- so a subscriber stands before each call
+pub stood : (old : SubscriberPort) (p : Port) (lane : SubscriberLaneState) → old.port ≡ p → old.lane ≡ settled lane
+    → SubscriberStands p lane → IsBetween lane.port.call → StandsBetween old
+stood old p lane same settles stands between = record {
+  stands = subst (λ (z : Port). SubscriberStands z old.lane) (sym same)
+      (subst (SubscriberStands p) (sym settles) (settled_stands p lane stands));
+  idle = ap (λ (l : SubscriberLaneState). subscriber_is_idle l.port.call) settles ∙ settled_idle lane between;
+}
 
 -- a subscriber between calls is as if settled
 pub settled_is : (lane : SubscriberLaneState) → subscriber_is_idle lane.port.call ≡ true → settled lane ≡ lane
@@ -262,7 +272,7 @@ release_takes routes borrowed most n (subscribing.Releasing place route push) h
 release_takes routes borrowed most n (subscribing.Released done) h = tt
 
 -- what each step keeps of the stage, a run keeps
-along : (P : SubscriberCall → Type 0)
+pub along : (P : SubscriberCall → Type 0)
     → ((routes : List Route) (borrowed : List ℕ) (most n : ℕ) (c : SubscriberCall) → P c → P (subscriber_take routes borrowed most c n))
     → (p : Port) (lane : SubscriberLaneState) (q : Port) (now : SubscriberLaneState) → SubscriberGoes p lane q now → P lane.port.call
     → P now.port.call

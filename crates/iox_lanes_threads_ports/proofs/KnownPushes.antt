@@ -157,7 +157,7 @@ module _ (p : Port) (c cells slot : ℕ) (q : Port) (place n : ℕ) (after : ℕ
       → OverPutting p c cells slot (stepped q (on_ring c Submission cells (overflowing.push_next push)) n after)
       (overflowing.push_take push n)
   over_goes over.Idle h told = tt
-  over_goes (over.Begun limit v) h told = (h.0, sym (told.own mine) ∙ h.1, refl)
+  over_goes (over.Begun limit v) h told = (h.0, sym (told.0.own mine) ∙ h.1, refl)
   over_goes (over.SawWrite limit v at next) h told = h
   over_goes (over.SawRead limit v at next seen) h told = (
     h.2 ∙ ap successor h.1,
@@ -175,7 +175,7 @@ module _ (p : Port) (c cells slot : ℕ) (q : Port) (place n : ℕ) (after : ℕ
   over_goes (over.Full v seen next) h told =
       let w : SharedWord = Ring c Submission (Cell (seen % cells)) in
       let kept : (v : SharedWord) → IsWord q.service.sizes v → held q.service (set q.known (number_of q.service.sizes w) n) v ≡ knows q v =
-      λ v is. subst (λ (x : ℕ). held q.service (set q.known (number_of q.service.sizes w) x) v ≡ knows q v) (told.own mine)
+      λ v is. subst (λ (x : ℕ). held q.service (set q.known (number_of q.service.sizes w) x) v ≡ knows q v) (told.0.own mine)
       (at_kept q.service q.known w v wide (cell seen) is) in (
         kept (Ring c Submission Write) write ∙ h.0,
         kept (Ring c Submission (Cell (knows p (Ring c Submission Write) % cells)))

@@ -64,7 +64,7 @@ word_number sizes extent k e = by_header (nat_lt k 3) refl
     by_header false f = by_user (nat_lt (k - 3) extent.user_header_words) refl (ltb-false k 3 f)
 
 -- and lies in the slot
-word_in : (sizes : TableSizes) (extent : SlotExtent) (k : ℕ) → IsExtent sizes extent → k < total extent
+pub word_in : (sizes : TableSizes) (extent : SlotExtent) (k : ℕ) → IsExtent sizes extent → k < total extent
     → IsSlotWord sizes (word_at extent k)
 word_in sizes extent k is less = by_header (nat_lt k 3) refl
   where

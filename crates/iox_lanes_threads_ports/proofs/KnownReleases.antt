@@ -70,7 +70,7 @@ module _ (p : Port) (c : ℕ) (ring : ConnectionRing) (cells value : ℕ) (q : P
       → Putting p c ring cells value (stepped q (on_ring c ring cells (refusing.push_next push)) n after) (refusing.push_take push n)
   put_goes push.Idle h told = tt
   put_goes (push.Begun limit v) h told
-      = (h.0, sym (told.own mine) ∙ h.1, refl, at_same q.service q.known (Ring c ring Write) n wide write ∙ sym (told.own mine) ∙ h.1)
+      = (h.0, sym (told.0.own mine) ∙ h.1, refl, at_same q.service q.known (Ring c ring Write) n wide write ∙ sym (told.0.own mine) ∙ h.1)
   put_goes (push.SawWrite limit v at next) h told =
       measured (stepped q (on_ring c ring cells (refusing.push_next (push.SawWrite limit v at next))) n after) limit v at next n
       (nat_lt (at - n) limit) h.0 h.1 h.2

@@ -19,3 +19,5 @@ pub mod KnownSends
 pub mod KnownPushes
 pub mod Counts
 pub mod Listing
+pub mod OneValue
+pub mod Holding

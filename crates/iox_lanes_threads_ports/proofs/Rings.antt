@@ -152,7 +152,7 @@ module _ (p : Port) (c : ℕ) (ring : ConnectionRing) (cells : ℕ) (after : ℕ
       → LonePop (stepped p (on_ring c ring cells (refusing.pop_next pop)) answer after) (Ring c ring Read)
       (refusing.pop_take pop answer)
   lone_pop_goes refusing_pop.Idle answer is k told = tt
-  lone_pop_goes refusing_pop.Begun answer is k told = (here (Ring c ring Read) answer read, told.small)
+  lone_pop_goes refusing_pop.Begun answer is k told = (here (Ring c ring Read) answer read, told.0.small)
   lone_pop_goes (refusing_pop.SawRead seen) answer is k told =
       emptied_goes (Loaded p (Ring c ring Write) answer (after answer)) seen (answer == seen)
       (beside (Ring c ring Write) (Ring c ring Read) answer write read (read_write c ring) ∙ k.0) k.1
@@ -179,7 +179,7 @@ module _ (p : Port) (c : ℕ) (ring : ConnectionRing) (cells : ℕ) (after : ℕ
       → LonePush (stepped p (on_ring c ring cells (refusing.push_next push)) answer after) (Ring c ring Write)
       (refusing.push_take push answer)
   lone_push_goes refusing_push.Idle answer is k told = tt
-  lone_push_goes (refusing_push.Begun limit value) answer is k told = (k, (here (Ring c ring Write) answer write, told.small), refl)
+  lone_push_goes (refusing_push.Begun limit value) answer is k told = (k, (here (Ring c ring Write) answer write, told.0.small), refl)
   lone_push_goes (refusing_push.SawWrite limit value seen next) answer is k told =
       measured_goes (Loaded p (Ring c ring Read) answer (after answer)) limit value seen next answer (nat_lt (seen - answer) limit) k.0
       (beside (Ring c ring Read) (Ring c ring Write) answer read write (λ e. read_write c ring (sym e)) ∙ k.1.0, k.1.1) k.2
@@ -220,7 +220,7 @@ module _ (p : Port) (c : ℕ) (line : Line) (cells : ℕ) (after : ℕ → PortP
       (overflowing.push_take push answer)
   over_push_goes overflowing_push.Idle answer is k told = tt
   over_push_goes (overflowing_push.Begun limit value) answer is k told
-      = (k.0, k.1, (at_here (write_word c) answer over_write, told.small), refl)
+      = (k.0, k.1, (at_here (write_word c) answer over_write, told.0.small), refl)
   over_push_goes (overflowing_push.SawWrite limit value write next) answer is k told = (
     k.0,
     k.1,
@@ -229,7 +229,7 @@ module _ (p : Port) (c : ℕ) (line : Line) (cells : ℕ) (after : ℕ → PortP
       k.2.1,
     ),
     k.3,
-    told.small,
+    told.0.small,
   )
   over_push_goes (overflowing_push.SawRead limit value write next read) answer is k told =
       let e : held p.service (set p.known (number_of p.service.sizes (Ring c Submission (Cell (write % cells)))) value) (write_word c)
@@ -283,9 +283,9 @@ module _ (p : Port) (c : ℕ) (line : Line) (cells : ℕ) (after : ℕ → PortP
       → ToldBy p (on_ring c Submission cells (overflowing.pop_next pop)) answer
       → OverPop (stepped p (on_ring c Submission cells (overflowing.pop_next pop)) answer after) c (overflowing.pop_take pop answer)
   over_pop_goes overflowing_pop.Idle answer name is k told = tt
-  over_pop_goes overflowing_pop.Begun answer name is k told = (at_here (read_word c) answer over_read, told.small)
+  over_pop_goes overflowing_pop.Begun answer name is k told = (at_here (read_word c) answer over_read, told.0.small)
   over_pop_goes (overflowing_pop.SawRead seen) answer name is k told =
-      let up : knows p (read_word c) ≤ answer = told.above c line ring refl in
+      let up : knows p (read_word c) ≤ answer = told.0.above c line ring refl in
       emptied_over (Loaded p (write_word c) answer (after answer)) seen answer (answer == seen) refl
       (at_beside (write_word c) (read_word c) answer over_write over_read (read_write c Submission) ∙ k.0, k.1) (omega (arith, up, k.0))
       (at_here (write_word c) answer over_write)

@@ -6,8 +6,6 @@ use Rattle.iox_lanes_machine.specs.QueuesSteps.Access.{successor}
 use Rattle.iox_lanes_machine.specs.LanesBase.Numbers.{IsSmall}
 use Rattle.iox_lanes_machine.specs.LanesBase.declared.words.sizes.TableSizes.{TableSizes}
 use Rattle.iox_lanes_machine.specs.LanesBase.declared.words.access.SharedAccess.{SharedAccess}
-use Rattle.iox_lanes_machine.specs.LanesBase.declared.words.access.SharedAccess.TheVariants.{Load, Store}
-use Rattle.iox_lanes_machine.specs.LanesBase.declared.words.word.SharedWord.{SharedWord}
 use Rattle.iox_lanes_machine.specs.LanesBase.Publishing.{publisher_next, publisher_is_over, write_from, write_at, head_from, head_at}
 use Rattle.iox_lanes_machine.specs.LanesBase.declared.calls.publisher.PublisherCall.{PublisherCall}
 use Rattle.iox_lanes_machine.specs.LanesBase.declared.calls.publisher.PublisherCall.TheVariants as publishing
@@ -90,27 +88,16 @@ module _ {L C : Type 0} {kind : LaneKind L C} (ahead : GoesAhead L C kind) where
       (ahead.itself lane ∙ ap (λ (c : C). kind.called c lane) is) (strode_none me lane alone stands)
 
   -- one more
-  pub strode_load : (p : Port) (begun : L) (made : ℕ) (me me' : Me ℕ View) (lane : L) (call : C) (w : SharedWord) (answer : ℕ)
-      → kind.next call ≡ Load w → Strode kind.Stands (kind.Strides p begun made) p me (kind.called call lane)
-      → ToldBy (port_of me) (Load w) answer → me' ≡ single (stepped (port_of me) (Load w) answer (kind.party (kind.called call lane)))
+  pub strode_access : (p : Port) (begun : L) (made : ℕ) (me me' : Me ℕ View) (lane : L) (call : C) (access : SharedAccess) (answer : ℕ)
+      → kind.next call ≡ access → TouchesWord access → Strode kind.Stands (kind.Strides p begun made) p me (kind.called call lane)
+      → ToldBy (port_of me) access answer → me' ≡ single (stepped (port_of me) access answer (kind.party (kind.called call lane)))
       → Strode kind.Stands (kind.Strides p begun (made + 1)) p me' (kind.after answer (kind.called call lane))
-  strode_load p begun made me me' lane call w answer e run told is =
+  strode_access p begun made me me' lane call access answer e touches run told is =
       let told' : ToldBy (port_of me) (kind.next call) answer = subst (λ (a : SharedAccess). ToldBy (port_of me) a answer) (sym e) told in
-      let on = ahead.goes p begun made (port_of me) call lane answer run.stands run.strides (subst TouchesWord (sym e) tt) told' in
+      let on = ahead.goes p begun made (port_of me) call lane answer run.stands run.strides (subst TouchesWord (sym e) touches) told' in
       strode_moved kind.Stands (kind.Strides p begun made) (kind.Strides p begun (made + 1)) p me me' (kind.called call lane)
       (kind.after answer (kind.called call lane)) (kind.next call) answer (kind.party (kind.called call lane)) run on.0 on.1
       (subst (λ (a : SharedAccess). me' ≡ single (stepped (port_of me) a answer (kind.party (kind.called call lane)))) (sym e) is)
-
-  pub strode_store : (p : Port) (begun : L) (made : ℕ) (me me' : Me ℕ View) (lane : L) (call : C) (w : SharedWord) (new : ℕ)
-      → kind.next call ≡ Store w new → Strode kind.Stands (kind.Strides p begun made) p me (kind.called call lane)
-      → me' ≡ single (stepped (port_of me) (Store w new) 0 (kind.party (kind.called call lane)))
-      → Strode kind.Stands (kind.Strides p begun (made + 1)) p me' (kind.after 0 (kind.called call lane))
-  strode_store p begun made me me' lane call w new e run is =
-      let told : ToldBy (port_of me) (kind.next call) 0 = subst (λ (a : SharedAccess). ToldBy (port_of me) a 0) (sym e) refl in
-      let on = ahead.goes p begun made (port_of me) call lane 0 run.stands run.strides (subst TouchesWord (sym e) tt) told in
-      strode_moved kind.Stands (kind.Strides p begun made) (kind.Strides p begun (made + 1)) p me me' (kind.called call lane)
-      (kind.after 0 (kind.called call lane)) (kind.next call) 0 (kind.party (kind.called call lane)) run on.0 on.1
-      (subst (λ (a : SharedAccess). me' ≡ single (stepped (port_of me) a 0 (kind.party (kind.called call lane)))) (sym e) is)
 
 -- the sizes of the service that the table has
 pub same_sizes : {L : Type 0} {Stands : Port → L → Type 0} {Went : Port → L → Type 0} (p : Port) (me : Me ℕ View) (now : L)

@@ -38,6 +38,11 @@ pub strode_subscribes : (p : Port) (lane : SubscriberLaneState) (me : Me ℕ Vie
 strode_subscribes p lane me now run
     = record { seat = record { alone = run.alone; service = run.service; name = run.name }; stands = run.stands; goes = run.strides }
 
+-- steps to a lane are steps to the same lane
+pub strode_same : (p : Port) (begun : SubscriberLaneState) (me : Me ℕ View) (lane now : SubscriberLaneState) → lane ≡ now
+    → SubscriberStrode p begun me now → SubscriberStrode p begun me lane
+strode_same p begun me lane now same strode = subst (SubscriberStrode p begun me) (sym same) strode
+
 -- a call that stands there
 pub at_first : (lane : SubscriberLaneState) (call there : SubscriberCall) → lane.port.call ≡ call → there ≡ call
     → lane ≡ subscriber_called there lane

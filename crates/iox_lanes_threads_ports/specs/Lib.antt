@@ -12,3 +12,5 @@ pub mod Paces
 pub mod Counts
 pub use Rattle.iox_lanes_threads_rule.specs as LanesThreadsRule
 pub mod ReadLaw
+pub mod OneValue
+pub mod Holding

@@ -9,7 +9,7 @@ ghost use Rattle.iox_lanes_threads_ports.specs.Strides.{LaneKind, publishers, su
 use iox_lanes_base::calls::{PublisherCall, SubscriberCall};
 use iox_lanes_base::words::{SharedWord, TableSizes};
 use iox_lanes_parties::{PublisherLane, SubscriberLane};
-use iox_lanes_threads_rule::{Doing, Opening, WordSeat, Words, load, store};
+use iox_lanes_threads_rule::{Doing, Opening, WordSeat, Words, exchange, load, store};
 use std::marker::Brand;
 
 /// A lane that makes up at once for accesses that were made ahead of it.
@@ -97,6 +97,30 @@ fn store_as<K: Opening, M: Doing, L: Ahead>(
     store::<K, M>(words, seat, sizes, word, new);
 }
 
+fn exchange_as<K: Opening, M: Doing, L: Ahead>(
+    words: &Words<K>,
+    seat: &mut WordSeat,
+    sizes: &TableSizes,
+    lane: &L,
+    call: L::Call,
+    word: SharedWord,
+    old: u64,
+    new: u64,
+) -> u64
+    requires table { (seat.old.table_id ≡ words.now.table_id) × (words.now.table_id.words ≡ words_of sizes.now) × IsSmall sizes.now }
+    requires seat { (seat.old.me ≡ single M.port) × (M.port.service.sizes ≡ sizes.now) }
+    requires stands { L.kind.Stands M.port (L.kind.called call lane.now) }
+    requires next { L.kind.next call ≡ access.Exchange word old new }
+    requires after { M.after ≡ L.kind.party (L.kind.called call lane.now) }
+    ensures table { (seat.new.table_id ≡ seat.old.table_id) × (seat.new.id ≡ seat.old.id) }
+    ensures port { seat.new.me
+        ≡ single (stepped M.port (access.Exchange word old new) result (L.kind.party (L.kind.called call lane.now))) }
+    ensures told { ToldBy M.port (access.Exchange word old new) result }
+{
+    L::goes_ahead();
+    exchange::<K, M>(words, seat, sizes, word, old, new)
+}
+
 /// Loads the word that a call loads next where it stands.
 pub(crate) fn load_ahead<K: Opening, L: Ahead>(
     words: &Words<K>,
@@ -138,4 +162,27 @@ pub(crate) fn store_ahead<K: Opening, L: Ahead>(
 {
     L::goes_ahead();
     store_as::<K, Brand, L>(words, seat, sizes, lane, call, word, new);
+}
+
+/// Makes the exchange that a call makes next where it stands.
+pub(crate) fn exchange_ahead<K: Opening, L: Ahead>(
+    words: &Words<K>,
+    seat: &mut WordSeat,
+    sizes: &TableSizes,
+    lane: &L,
+    call: L::Call,
+    word: SharedWord,
+    old: u64,
+    new: u64,
+) -> u64
+    requires table { (seat.old.table_id ≡ words.now.table_id) × (words.now.table_id.words ≡ words_of sizes.now) × IsSmall sizes.now }
+    requires seat { (seat.old.me ≡ single (port_of seat.old.me)) × ((port_of seat.old.me).service.sizes ≡ sizes.now) }
+    requires stands { L.kind.Stands (port_of seat.old.me) (L.kind.called call lane.now) }
+    requires next { L.kind.next call ≡ access.Exchange word old new }
+    ensures table { (seat.new.table_id ≡ seat.old.table_id) × (seat.new.id ≡ seat.old.id) }
+    ensures strode { (p : Port) (begun : L) (made : ℕ) → StrodeBy L.kind p begun made seat.old.me (L.kind.called call lane.now)
+        → StrodeBy L.kind p begun (made + 1) seat.new.me (L.kind.after result (L.kind.called call lane.now)) }
+{
+    L::goes_ahead();
+    exchange_as::<K, Brand, L>(words, seat, sizes, lane, call, word, old, new)
 }

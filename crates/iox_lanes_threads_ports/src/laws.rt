@@ -1,5 +1,7 @@
 //! Each stage of a call knows what its next step needs: proved of the definitions that the contracts of ports name.
 ghost use Rattle.iox_lanes_threads_ports.specs.Counts.{PublishersCount, SubscribersCount};
+ghost use Rattle.iox_lanes_threads_ports.specs.Holding.{HeldReadsStay, HeldReadsAgree, HeldReadsAreKnown};
+ghost use Rattle.iox_lanes_threads_ports.specs.OneValue.{ReadsGiveOneValue};
 ghost use Rattle.iox_lanes_threads_ports.specs.Ports.{PublishersGoOn, SubscribersGoOn};
 ghost use Rattle.iox_lanes_threads_ports.specs.ReadLaw.{ReadsStand, ListedWordsStay};
 
@@ -33,4 +35,20 @@ pub fn reads_stand()
 /// An access leaves the words that a port's view lists as loaded, as long as the port has the sample behind it.
 pub fn listed_words_stay()
     ensures { ListedWordsStay }
+{}
+
+/// Behind any steps of its calls a subscriber whose view lists all words of a sample goes on listing them, and knowing of them what it
+/// knew, as long as it has the sample behind each step, and no write position stood at 2^64 - 1 when it loaded a word of it.
+pub fn reads_give_one_value()
+    ensures { ReadsGiveOneValue }
+{}
+
+/// Two reads of one sample lend the same words, whatever receives, reads, and releases of other samples its subscriber makes between
+/// them: by what each call ensures, where no write position stood at 2^64 - 1 when one of them loaded a word of the sample, the second
+/// read among them. What it has read of a sample that it has still its publisher knows too, once ports are ended together, as long as
+/// they know that no write position stands at 2^64 - 1.
+pub fn held_reads_agree()
+    ensures stay { HeldReadsStay }
+    ensures agree { HeldReadsAgree }
+    ensures known { HeldReadsAreKnown }
 {}

@@ -12,7 +12,7 @@ ghost use Rattle.iox_lanes_threads_rule.specs.Acts.{single, port_of};
 ghost use Rattle.iox_lanes_threads_rule.specs.declared.view.Port.{Port};
 ghost use Rattle.iox_lanes_threads_ports.specs.Strides.{StrodeBy, KeepsPositions};
 
-use crate::ahead::{Ahead, load_ahead, store_ahead};
+use crate::ahead::{Ahead, exchange_ahead, load_ahead, store_ahead};
 use crate::ring_calls::RingCall;
 use iox_lanes_base::words::TableSizes;
 use iox_lanes_threads_rule::{Opening, WordSeat, Words};
@@ -87,6 +87,34 @@ fn store_at<K: Opening, L: Ahead, S: End, C: RingCall<L, S>>(
     store_ahead(words, seat, sizes, lane, call.stage(state), own, new);
 }
 
+// Makes the exchange that a pop or push makes next at a stage.
+#[inline(always)]
+fn exchange_at<K: Opening, L: Ahead, S: End, C: RingCall<L, S>>(
+    words: &Words<K>,
+    seat: &mut WordSeat,
+    sizes: &TableSizes,
+    lane: &L,
+    call: C,
+    state: S,
+    word: Word,
+    old: u64,
+    new: u64,
+) -> u64
+    requires table { (seat.old.table_id ≡ words.now.table_id) × (words.now.table_id.words ≡ words_of sizes.now) × IsSmall sizes.now }
+    requires seat { (seat.old.me ≡ single (port_of seat.old.me)) × ((port_of seat.old.me).service.sizes ≡ sizes.now) }
+    requires stands { L.kind.Stands (port_of seat.old.me) (L.kind.called (C.stage call state) lane.now) }
+    requires cells { 0 < (C.ring call).cells }
+    requires next { S.asks state ≡ own.Exchange word old new }
+    ensures table { (seat.new.table_id ≡ seat.old.table_id) × (seat.new.id ≡ seat.old.id) }
+    ensures strode { (p : Port) (begun : L) (made : ℕ)
+        → StrodeBy L.kind p begun made seat.old.me (L.kind.called (C.stage call state) lane.now)
+        → StrodeBy L.kind p begun (made + 1) seat.new.me (L.kind.after result (L.kind.called (C.stage call state) lane.now)) }
+{
+    L::goes_ahead();
+    let own = call.ring().word(word);
+    exchange_ahead(words, seat, sizes, lane, call.stage(state), own, old, new)
+}
+
 /// Takes one number out of a ring that refuses, or finds none.
 pub(crate) fn pop<K: Opening, L: Ahead, C: RingCall<L, RefusingPop>>(
     words: &Words<K>,
@@ -123,7 +151,7 @@ pub(crate) fn pop<K: Opening, L: Ahead, C: RingCall<L, RefusingPop>>(
     4
 }
 
-/// Sees what waits in a ring that overflows, up to where it may be taken, or finds none.
+/// Tries to take one number out of a ring that overflows, up to its first exchange, or finds none.
 pub(crate) fn pop_over<K: Opening, L: Ahead, C: RingCall<L, OverflowingPop>>(
     words: &Words<K>,
     seat: &mut WordSeat,
@@ -153,8 +181,10 @@ pub(crate) fn pop_over<K: Opening, L: Ahead, C: RingCall<L, OverflowingPop>>(
     let next = read.saturating_add(1);
     let found = OverflowingPop::Nonempty { read, next };
     let value = load_at(words, seat, &sizes, lane, call, found, Word::Cell(read));
-    lane.go_on_from(call.stage(found), value);
-    3
+    let saw = OverflowingPop::SawCell { read, next, value };
+    let given = exchange_at(words, seat, &sizes, lane, call, saw, Word::Read, read, next);
+    lane.go_on_from(call.stage(saw), given);
+    4
 }
 
 /// Puts a number into a ring that refuses, or finds it full.
@@ -253,4 +283,39 @@ pub(crate) fn push_over<K: Opening, L: Ahead, C: RingCall<L, OverflowingPush>>(
     store_at(words, seat, &sizes, lane, call, filled, Word::Write, next);
     lane.go_on_from(call.stage(filled), 0);
     4
+}
+
+/// Lets the oldest number of a ring that overflows leave, unless it was taken out meanwhile.
+pub(crate) fn leave_out<K: Opening, L: Ahead, C: RingCall<L, OverflowingPush>>(
+    words: &Words<K>,
+    seat: &mut WordSeat,
+    sizes: &TableSizes,
+    lane: &mut L,
+    call: C,
+    value: u64,
+    read: u64,
+    next: u64,
+) -> u128
+    requires table { (seat.old.table_id ≡ words.now.table_id) × (words.now.table_id.words ≡ words_of sizes.now) × IsSmall sizes.now }
+    requires seat { (seat.old.me ≡ single (port_of seat.old.me)) × ((port_of seat.old.me).service.sizes ≡ sizes.now) }
+    requires stands { L.kind.Stands (port_of seat.old.me) lane.old }
+    requires call { L.kind.standing lane.old ≡ C.stage call (overflowing_push.Full value read next) }
+    requires cells { 0 < (C.ring call).cells }
+    ensures table { (seat.new.table_id ≡ seat.old.table_id) × (seat.new.id ≡ seat.old.id) }
+    ensures some { (0 < result) × (result ≤ 2) }
+    ensures strode { StrodeBy L.kind (port_of seat.old.me) lane.old result seat.new.me lane.new }
+{
+    L::goes_ahead();
+    let sizes = *sizes;
+    let full = OverflowingPush::Full { value, read, next };
+    let oldest = load_at(words, seat, &sizes, lane, call, full, Word::Cell(read));
+    let saw = OverflowingPush::SawOldest {
+        value,
+        read,
+        next,
+        oldest,
+    };
+    let given = exchange_at(words, seat, &sizes, lane, call, saw, Word::Read, read, next);
+    lane.go_on_from(call.stage(saw), given);
+    2
 }

@@ -11,7 +11,7 @@ ghost use Rattle.iox_lanes_threads_ports.specs.Strides.{PublisherStrode};
 use crate::ahead::store_ahead;
 use crate::publishing::step;
 use crate::ring_calls::{LoanReclaims, Pushes, SendReclaims};
-use crate::ring_strides::{pop, push, push_over};
+use crate::ring_strides::{leave_out, pop, push, push_over};
 use iox_lanes_base::calls::PublisherCall;
 use iox_lanes_base::words::{SharedWord, SlotWord, TableSizes};
 use iox_lanes_parties::PublisherLane;
@@ -191,6 +191,21 @@ pub(crate) fn stride<K: Opening>(
                 delivery,
             };
             push_over(words, seat, sizes, lane, call, limit, value)
+        }
+        PublisherCall::Pushing {
+            slot,
+            place,
+            route,
+            push: Push::Overflowing(OverflowingPush::Full { value, read, next }),
+            delivery,
+        } if room >= 2 => {
+            let call = Pushes {
+                slot,
+                place,
+                route,
+                delivery,
+            };
+            leave_out(words, seat, sizes, lane, call, value, read, next)
         }
         PublisherCall::Remembering { .. } => {
             lane.go_on(0);

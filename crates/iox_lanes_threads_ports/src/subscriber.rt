@@ -4,6 +4,7 @@ ghost use Rattle.iox_lanes_machine.specs.LanesBase.Subscribing.{subscriber_is_id
 ghost use Rattle.iox_lanes_machine.specs.LanesParties.Parties.{subscriber_begun, words_read};
 ghost use Rattle.iox_lanes_threads_rule.specs.Acts.{single, port_of};
 ghost use Rattle.iox_lanes_threads_ports.specs.Courses.{SubscriberEnds};
+ghost use Rattle.iox_lanes_threads_ports.specs.Holding.{StandsBetween};
 ghost use Rattle.iox_lanes_threads_ports.specs.Known.{KnowsRead, ListsRead, KnowsGivenBack, KeepsGivenBack};
 ghost use Rattle.iox_lanes_threads_ports.specs.Ports.{SubscriberStands};
 ghost use Rattle.iox_lanes_threads_ports.specs.Values.{IsSeated, IsBetween, SameSubscriber, received_of, released_of, settled, Releases};
@@ -91,6 +92,7 @@ impl ThreadedSubscriber {
     pub fn receive<R: Wait, K: Opening>(&mut self, rt: &R, words: &Words<K>) -> Receipt
         requires { self.old.table ≡ words.now.table_id }
         ensures same { SameSubscriber self.old self.new }
+        ensures stood { StandsBetween self.old }
         ensures call { SubscriberEnds self.old.port (subscriber_begun 0 Call.Receive self.old.lane) self.new.port self.new.lane
             (Answer.Received result) }
     {
@@ -100,10 +102,12 @@ impl ThreadedSubscriber {
         received(self.lane.go_on(0, 0))
     }
 
-    /// Reads the words of header, user header and payload of a sample. False where the slot is no sample of this port.
+    /// Reads the words of header, user header and payload of a sample. False where the slot is no sample of this port. Two reads of one
+    /// sample lend the same words, where no call between them gives it back (`held_reads_agree`).
     pub fn read<K: Opening>(&mut self, words: &Words<K>, sample: u64) -> bool
         requires { self.old.table ≡ words.now.table_id }
         ensures same { SameSubscriber self.old self.new }
+        ensures stood { StandsBetween self.old }
         ensures call { Reads self.old sample self.new result }
         ensures words { result ≡ true → KnowsRead self.new.port self.old.lane.port.extent sample self.new.words }
         ensures listed { result ≡ true → ListsRead self.new.port self.old.lane.port.extent sample }
@@ -130,6 +134,7 @@ impl ThreadedSubscriber {
     pub fn release<K: Opening>(&mut self, words: &Words<K>, sample: u64) -> Option<bool>
         requires { self.old.table ≡ words.now.table_id }
         ensures same { SameSubscriber self.old self.new }
+        ensures stood { StandsBetween self.old }
         ensures call { Releases self.old sample self.new result }
         ensures put { result ≡ Some true → KnowsGivenBack self.old.port self.new.port self.old.lane sample }
         ensures kept { result ≡ Some false → KeepsGivenBack self.old.port self.new.port self.old.lane sample }

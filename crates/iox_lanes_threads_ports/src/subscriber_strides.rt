@@ -1,11 +1,13 @@
 //! Several steps of a subscriber's call at once: its lane makes up for them behind the last one.
-ghost use Rattle.std.specs.Prelude.{◌≡◌};
+ghost use Rattle.std.specs.Prelude.{◌≡◌, ◌+◌};
 ghost use Rattle.iox_lanes_machine.specs.LanesBase.Numbers.{words_of, IsSmall};
-ghost use Rattle.iox_lanes_machine.specs.LanesBase.Subscribing.{word_at};
+ghost use Rattle.iox_lanes_machine.specs.LanesBase.Subscribing.{word_at, read_at};
 ghost use Rattle.iox_lanes_machine.specs.LanesBase.declared.calls.subscriber.SubscriberCall.TheVariants as call;
+ghost use Rattle.iox_lanes_machine.specs.LanesParties.Parties.{SubscriberLaneState};
 ghost use Rattle.iox_lanes_threads_rule.specs.Acts.{single, port_of};
+ghost use Rattle.iox_lanes_threads_rule.specs.declared.view.Port.{Port};
 ghost use Rattle.iox_lanes_threads_ports.specs.Ports.{SubscriberStands};
-ghost use Rattle.iox_lanes_threads_ports.specs.Strides.{SubscriberStrode};
+ghost use Rattle.iox_lanes_threads_ports.specs.Strides.{subscriber_called, SubscriberStrode};
 ghost use Rattle.iox_lanes_threads_ports.specs.Values.{IsShort};
 
 use crate::ahead::load_ahead;
@@ -34,6 +36,39 @@ fn word_at(extent: SlotExtent, word: u64) -> SlotWord
     }
 }
 
+// Loads a word of a sample and keeps its value; the call is left where it stood.
+#[inline(always)]
+fn read_word<K: Opening>(
+    words: &Words<K>,
+    seat: &mut WordSeat,
+    sizes: &TableSizes,
+    lane: &mut SubscriberLane,
+    slot: u64,
+    word: u64,
+    extent: SlotExtent,
+    own: SlotWord,
+)
+    requires table { (seat.old.table_id ≡ words.now.table_id) × (words.now.table_id.words ≡ words_of sizes.now) × IsSmall sizes.now }
+    requires seat { (seat.old.me ≡ single (port_of seat.old.me)) × ((port_of seat.old.me).service.sizes ≡ sizes.now) }
+    requires stands { SubscriberStands (port_of seat.old.me) (subscriber_called (call.Reading slot word extent) lane.old) }
+    requires own { own ≡ word_at extent word }
+    ensures table { (seat.new.table_id ≡ seat.old.table_id) × (seat.new.id ≡ seat.old.id) }
+    ensures strode { (p : Port) (begun : SubscriberLaneState)
+        → SubscriberStrode p begun seat.old.me (subscriber_called (call.Reading slot word extent) lane.old)
+        → SubscriberStrode p begun seat.new.me (subscriber_called (read_at slot extent (word + 1)) lane.new) }
+{
+    let call = SubscriberCall::Reading { slot, word, extent };
+    let value = load_ahead(
+        words,
+        seat,
+        sizes,
+        lane,
+        call,
+        SharedWord::Slot { slot, word: own },
+    );
+    lane.note(word, value);
+}
+
 // Loads all words of a sample.
 fn read_words<K: Opening>(
     words: &Words<K>,
@@ -53,18 +88,16 @@ fn read_words<K: Opening>(
 {
     let sizes = *sizes;
     let last = 2 + extent.user_header_words + extent.payload_words;
-    for word in 0..last {
-        let call = SubscriberCall::Reading { slot, word, extent };
+    // From there on each word is one of the payload: none asks which it is.
+    let first = 3 + extent.user_header_words;
+    let row = first.min(last);
+    for word in 0..row {
         let own = word_at(extent, word);
-        let value = load_ahead(
-            words,
-            seat,
-            &sizes,
-            lane,
-            call,
-            SharedWord::Slot { slot, word: own },
-        );
-        lane.note(word, value);
+        read_word(words, seat, &sizes, lane, slot, word, extent, own);
+    }
+    for word in row..last {
+        let own = SlotWord::Payload(word - first);
+        read_word(words, seat, &sizes, lane, slot, word, extent, own);
     }
     let call = SubscriberCall::Reading {
         slot,

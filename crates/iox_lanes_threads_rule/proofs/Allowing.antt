@@ -15,7 +15,7 @@ use Rattle.iox_lanes_machine.specs.LanesBase.declared.words.access.SharedAccess.
 use Rattle.iox_lanes_threads_rule.specs.Lanes.{MakesNext, IsBacked}
 use Rattle.iox_lanes_threads_rule.specs.Rule.{held, Fits, Sits, Ruled, one}
 use Rattle.iox_lanes_threads_rule.specs.Steps.{saw, learned, known_exchanged, Told, MayStore, MayExchange}
-use Rattle.iox_lanes_threads_rule.specs.Acts.{FitSome, Holds, single, loaded, stored, exchanged}
+use Rattle.iox_lanes_threads_rule.specs.Acts.{FitSome, Holds, StandsAt, single, loaded, stored, exchanged}
 use Rattle.iox_lanes_threads_rule.specs.declared.service.Service.{Service}
 use Rattle.iox_lanes_threads_rule.specs.declared.view.Port.{Port}
 use Rattle.iox_lanes_threads_rule.specs.declared.view.PortParty.{PortParty}
@@ -115,7 +115,7 @@ pub load_allowed : (slots id : ℕ) (p : Port) (after : ℕ → PortParty) (w : 
     (loaded p after (step slots (number_of p.service.sizes w) 0 0 none) (single p))
 load_allowed slots id p after w is next =
     lifts FitSome slots id p (number_of p.service.sizes w) (λ n. n)
-    (λ n q. (q ≡ learned (saw p w) (set p.known (number_of p.service.sizes w) n) (after n)) × Told p.service p w n)
+    (λ n q. (q ≡ learned (saw p w) (set p.known (number_of p.service.sizes w) n) (after n)) × Told p.service p w n × StandsAt p w n)
     (loaded p after (step slots (number_of p.service.sizes w) 0 0 none) (single p))
     (λ words ports fit at small.
     let own = own_fit words ports p fit at in
@@ -124,13 +124,13 @@ load_allowed slots id p after w is next =
       learned (saw p w) known (after (held p.service words w)),
       refl,
       (p.service, done.1, load_backed p.service words ports p w after own.0 at is next own.1),
-      (refl, done.0),
+      (refl, done.0, record { words = words; ports = ports; fit = own.0; backed = own.1; there = at; holds = refl }),
     ))
     (λ n q told. (
       refl,
       (λ v there e. at_number p w v
           (λ u. (single q ≡ single (learned (saw p u) (set p.known (number_of p.service.sizes w) n) (after n)))
-          × Told p.service p u n) is there e (ap single told.0, told.1)),
+          × Told p.service p u n × StandsAt p u n) is there e (ap single told.0, told.1, told.2)),
     ))
 
 pub store_allowed : (slots id : ℕ) (p : Port) (after : ℕ → PortParty) (w : SharedWord) (new : ℕ) → MayStore p.service p w new

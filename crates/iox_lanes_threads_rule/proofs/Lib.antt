@@ -16,3 +16,4 @@ pub mod Allowing
 pub mod Agreeing
 pub mod Lists
 pub mod GivingOut
+pub mod Again

@@ -1,5 +1,7 @@
 -- One access of a port to the words that threads share: when it may be made, what it tells, and what the port knows then.
 use Rattle.std.specs.Prelude.{ℕ, ◌≡◌, ◌<◌, ◌≤◌, ◌^◌, List, [], ◌∷◌, set}
+use mathlib.Core.Option.{some}
+use lib.ListN.{get_elem?}
 use Rattle.atomic_table.specs.Table.{State, Me, Step}
 use Rattle.iox_lanes_parties.specs.LanesBase.Numbers.{number_of, IsWord}
 use Rattle.iox_lanes_parties.specs.LanesBase.declared.words.access.SharedAccess.{SharedAccess}
@@ -65,9 +67,19 @@ MayAct p (Store w new) = MayStore p.service p w new
 MayAct p (Exchange w old new) = MayExchange p.service p w old new
 MayAct p Local = Unit {0}
 
+-- A moment at which the port loads the word and finds this: words and ports that fit, with lanes behind them as long as the positions
+-- are early. The port is one of these ports, and the word holds what is found.
+pub record StandsAt (p : Port) (w : SharedWord) (found : ℕ) : Type 0 where
+  pub words : List ℕ
+  pub ports : List Port
+  pub fit : Fits p.service words ports
+  pub backed : IsBacked p.service words ports
+  pub there : get_elem? ports p.number ≡ some p
+  pub holds : held p.service words w ≡ found
+
 -- what the answer of an access tells; stores and local steps are answered 0
 abbrev pub ToldBy : Port → SharedAccess → ℕ → Type 0
-ToldBy p (Load w) answer = Told p.service p w answer
+ToldBy p (Load w) answer = Told p.service p w answer × StandsAt p w answer
 ToldBy p (Store w new) answer = answer ≡ 0
 ToldBy p (Exchange w old new) answer = (answer < 2 ^ 64) × (held p.service p.known w ≤ answer)
 ToldBy p Local answer = answer ≡ 0
@@ -84,7 +96,7 @@ stepped p Local answer after = p
 abbrev pub loaded : Port → (ℕ → PortParty) → Step ℕ → Me ℕ View → ℕ → Me ℕ View → Type 0
 loaded p after step before found me = (before ≡ single p)
     × ((w : SharedWord) → IsWord p.service.sizes w → number_of p.service.sizes w ≡ step.word
-    → (me ≡ single (learned (saw p w) (set p.known step.word found) (after found))) × Told p.service p w found)
+    → (me ≡ single (learned (saw p w) (set p.known step.word found) (after found))) × Told p.service p w found × StandsAt p w found)
 
 -- what a store tells such a seat
 abbrev pub stored : Port → (ℕ → PortParty) → Step ℕ → Me ℕ View → ℕ → Me ℕ View → Type 0

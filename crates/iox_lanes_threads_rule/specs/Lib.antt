@@ -7,3 +7,4 @@ pub mod Acts
 pub mod Slots
 pub mod Gathered
 pub mod Seats
+pub mod Again

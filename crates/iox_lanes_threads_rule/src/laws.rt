@@ -1,4 +1,5 @@
 //! Each step that a port may make keeps the rule of the words: proved of the definitions that the contracts of ports name.
+ghost use Rattle.iox_lanes_threads_rule.specs.Again.{LoadsGiveTheKnown};
 ghost use Rattle.iox_lanes_threads_rule.specs.Slots.{LoadsLeaveLanes, StoresLeaveLanes, ExchangesLeaveLanes};
 ghost use Rattle.iox_lanes_threads_rule.specs.Slots.{SlotStoresAreOfLoans, SeenWordsStand};
 ghost use Rattle.iox_lanes_threads_rule.specs.Slots.{ReferencesAreCounted, PositionsAreNear};
@@ -39,6 +40,12 @@ pub fn slot_stores_are_of_loans()
 /// publisher's view has, as long as no write position comes to 2^64 - 1. So a load of a listed word finds what the view knows of it.
 pub fn seen_words_stand()
     ensures { SeenWordsStand }
+{}
+
+/// A load of a word that its port's view lists as loaded finds what the view knows of it, where no write position stood at 2^64 - 1
+/// when the word was loaded: `load` tells words and ports of that moment.
+pub fn loads_give_the_known()
+    ensures { LoadsGiveTheKnown }
 {}
 
 /// A connection has a slot by its publisher's view just if the slot stands there once, as long as no write position comes to

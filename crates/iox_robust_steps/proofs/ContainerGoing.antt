@@ -16,6 +16,7 @@ use Rattle.iox_queues.specs.declared.bits.machine.Event.{Event}
 use Rattle.iox_robust_steps.specs.ContainerSteps.{is_shown, value_cell, visited, visits_from}
 use Rattle.iox_robust_steps.specs.ContainerTold.{ComesIn, CopyIsTrue, MemberTells, WasSo, counted_by, gathered_after}
 use Rattle.iox_robust_steps.specs.ContainerTold.{is_change, shown_at, times_counted}
+use Rattle.iox_robust_steps.specs.ContainerKept.{IsInStill}
 use Rattle.iox_robust_steps.specs.ContainerKept.{HasGathered, HoldsFor, IsLostOwner, IsOf, IsSeenOrOut, IsToFree, IsUnheld, KnowsMember}
 use Rattle.iox_robust_steps.specs.ContainerKept.{SawBelow}
 use Rattle.iox_robust_steps.specs.Machine.{CellFits, RobustSetState, is_lost, place_of}
@@ -45,7 +46,7 @@ pub record MemberMade (n width p : ℕ) (values : List (Vec ℕ)) (start words w
   pub knows : KnowsMember n width values start words'.cells indices' p s first (events ++ e ∷ []) (own ++ e ∷ []) t
 
 -- a step that changes no word of the container
-pub leaves_all_members : (n width q : ℕ) (cells : List ℕ) (indices indices' : RobustSetState)
+pub leaves_all_members : (n width q : ℕ) (cells : List ℕ) (indices indices' : RobustSetState) → indices'.decisions ≡ indices.decisions
     → ((o : ℕ) → is_lost o indices'.lost ≡ false → is_lost o indices.lost ≡ false)
     → ((o : ℕ) → is_lost o indices.lost ≡ true → is_lost o indices'.lost ≡ true)
     → ((o i : ℕ) → i < n → is_lost o indices.lost ≡ false → HoldsFor indices q o i → HoldsFor indices' q o i)
@@ -55,7 +56,8 @@ pub leaves_all_members : (n width q : ℕ) (cells : List ℕ) (indices indices' 
     → ((o i : ℕ) → i < n → IsLostOwner indices o → is_shown (slice_index cells i) ≡ true → slice_index indices.words.cells i ≡ o
     → slice_index indices'.words.cells i ≡ o)
     → LeavesMembers n width q cells cells indices indices'
-leaves_all_members n width q cells indices indices' alive gone held back of_lost in_lost = record {
+leaves_all_members n width q cells indices indices' decisions alive gone held back of_lost in_lost = record {
+  decisions = decisions;
   alive = alive;
   gone = gone;
   held = held;
@@ -70,7 +72,7 @@ leaves_all_members n width q cells indices indices' alive gone held back of_lost
 
 -- nor one of the set
 pub leaves_same : (n width q : ℕ) (cells : List ℕ) (indices : RobustSetState) → LeavesMembers n width q cells cells indices indices
-leaves_same n width q cells indices = leaves_all_members n width q cells indices indices (λ o h. h) (λ o h. h) (λ o i within live h. h)
+leaves_same n width q cells indices = leaves_all_members n width q cells indices indices refl (λ o h. h) (λ o h. h) (λ o i within live h. h)
     (λ i h. h) (λ o i within lost h. h) (λ o i within lost shown h. h)
 
 both_true : true ≡ false → ⊥
@@ -182,6 +184,7 @@ module _ (n width p : ℕ) (values : List (Vec ℕ)) (start words : RingWords) (
       low = λ i inside. omega (arith, stay i inside, below i inside);
       out = λ i inside unheld. ap is_shown (stay i inside) ∙ out i inside unheld;
       leaves = λ q differs. record {
+        decisions = refl;
         alive = λ o h. h;
         gone = λ o h. h;
         held = λ o i inside live h. h;
@@ -315,6 +318,7 @@ module _ (n width p : ℕ) (values : List (Vec ℕ)) (start words : RingWords) (
         out = λ i inside unheld. ap is_shown (else_where i (λ same. unheld p (ap (place_of indices.places) same ∙ holds.0)))
             ∙ out i inside unheld;
         leaves = λ q differs. record {
+          decisions = refl;
           alive = λ o h. h;
           gone = λ o h. h;
           held = λ o i inside alive h. h;
@@ -340,7 +344,8 @@ module _ (n width p : ℕ) (values : List (Vec ℕ)) (start words : RingWords) (
       pub show_made : (number : ℕ) → times_counted own ≡ 0 → is_shown (slice_index words.cells index) ≡ false
           → ((j : ℕ) → j < width → slice_index words.cells (value_cell n width index j) ≡ slice_index (table_value values number) j)
           → Made (after_store words (Cell index) (successor seen)) s access 0 (stage.Count (call.Add number owner) (Added (Ok index)))
-      show_made number times hidden filled = raised _ (refl, (within, comes, none_counted access 0 refl times))
+      show_made number times hidden filled =
+          raised _ (refl, (within, comes, none_counted access 0 refl times), λ still. (holds, now_is false hidden))
         where
           comes : ComesIn n width start p first (later access 0) index (table_value values number)
           comes = record {
@@ -350,6 +355,8 @@ module _ (n width p : ℕ) (values : List (Vec ℕ)) (start words : RingWords) (
             whole = refl;
             inside = began;
             its = refl;
+            count = successor seen;
+            stores = refl;
             out = ap (λ (w : RingWords). is_shown (slice_index w.cells index)) (sym now) ∙ hidden;
             in_then = ap (λ (w : RingWords). is_shown (slice_index (after_access w access).cells index)) (sym now) ∙ now_is false hidden;
             is = λ j low. ap (λ (w : RingWords). slice_index (after_access w access).cells (value_cell n width index j)) (sym now)
@@ -368,6 +375,8 @@ module _ (n width p : ℕ) (values : List (Vec ℕ)) (start words : RingWords) (
           whole = refl;
           inside = began;
           its = refl;
+          count = successor seen;
+          stores = refl;
           in_before = ap (λ (w : RingWords). is_shown (slice_index w.cells index)) (sym now) ∙ in_then;
           out = ap (λ (w : RingWords). is_shown (slice_index (after_access w access).cells index)) (sym now) ∙ now_is true in_then;
         },
@@ -402,6 +411,7 @@ module _ (n width p : ℕ) (values : List (Vec ℕ)) (start words : RingWords) (
         low = λ i inside. (either_count i inside).1;
         out = λ i inside unheld. out_either i (out i inside unheld);
         leaves = λ q differs. record {
+          decisions = refl;
           alive = λ o h. h;
           gone = λ o h. h;
           held = λ o i inside alive h. h;
@@ -462,7 +472,7 @@ module _ (n width p : ℕ) (values : List (Vec ℕ)) (start words : RingWords) (
 
   -- a change is counted, or another one was meanwhile
   module _ (s : RobustCall) (c : MemberCall) (a : MemberAnswer) (change : is_change c a ≡ true)
-      (told : MemberTells n width values start 0 p first events own c a) where
+      (told : MemberTells n width values start 0 p first events own c a) (kept : IsInStill indices words.cells p c a) where
     told_later : (access : Access) (answer k : ℕ) → counted_by access answer ≡ k
         → MemberTells n width values start k p first (later access answer) (mine access answer) c a
     told_later access answer k counts = counts_it n width values start p first k (later access answer) own (mine access answer) c a change
@@ -470,7 +480,7 @@ module _ (n width p : ℕ) (values : List (Vec ℕ)) (start words : RingWords) (
         (tells_on n width start first events (of access answer) values 0 p own c a told)
 
     pub count_made : Made words s (Load Write) words.write (stage.Raise c a words.write)
-    count_made = quiet s (Load Write) words.write _ refl (change, told_later (Load Write) words.write 0 refl)
+    count_made = quiet s (Load Write) words.write _ refl (change, told_later (Load Write) words.write 0 refl, kept)
 
     pub raise_made : (seen : ℕ) (b : Bool) → (words.write == seen) ≡ b
         → Made (if b then after_store words Write (successor seen) else words) s (Exchange Write seen (successor seen)) words.write
@@ -483,12 +493,12 @@ module _ (n width p : ℕ) (values : List (Vec ℕ)) (start words : RingWords) (
           low = λ i within. omega (arith, below i within);
           out = out;
           leaves = λ q differs. leaves_same n width q words.cells indices;
-          knows = told_later (Exchange Write seen (successor seen)) words.write 1 one;
+          knows = (told_later (Exchange Write seen (successor seen)) words.write 1 one, kept);
         }
     raise_made seen false e =
         let none : counted_by (Exchange Write seen (successor seen)) words.write ≡ 0 = ap (λ (b : Bool). if b then 1 else 0) e in
         quiet s (Exchange Write seen (successor seen)) words.write _ none
-        (change, told_later (Exchange Write seen (successor seen)) words.write 0 none)
+        (change, told_later (Exchange Write seen (successor seen)) words.write 0 none, kept)
 
   -- a copy, after it loaded a cell
   abbrev found : List ℕ
@@ -546,7 +556,7 @@ module _ (n width p : ℕ) (values : List (Vec ℕ)) (start words : RingWords) (
         → KnowsMember n width values start words.cells indices p s first (later look count) (mine look count)
         (if b then stage.Visit l else stage.Done call.Update (Updated true))
     visits_known l so true e = (ltb-true l n e, so)
-    visits_known l so false e = copy_true n width start first (later look count) (mine look count) l (ltb-false l n e) so
+    visits_known l so false e = (copy_true n width start first (later look count) (mine look count) l (ltb-false l n e) so, tt)
 
     visited_known : (b : Bool) → is_shown count ≡ b
         → KnowsMember n width values start words.cells indices p s first (later look count) (mine look count)
@@ -627,12 +637,15 @@ module _ (n width p : ℕ) (values : List (Vec ℕ)) (start words : RingWords) (
   -- a copy looks at the count of changes
   pub look_made : (s : RobustCall) (saw : ℕ) (b : Bool)
       → Made words s (Load Write) words.write (if b then stage.Done call.Update (Updated false) else visits_from n 0)
-  look_made s saw true = quiet s (Load Write) words.write _ refl tt
+  look_made s saw true = quiet s (Load Write) words.write _ refl (tt, tt)
   look_made s saw false = quiet s (Load Write) words.write _ refl (none (nat_lt 0 n) refl)
     where
       none : (b : Bool) → nat_lt 0 n ≡ b
           → KnowsMember n width values start words.cells indices p s first (later (Load Write) words.write)
           (mine (Load Write) words.write) (if b then stage.Visit 0 else stage.Done call.Update (Updated true))
       none true e = (ltb-true 0 n e, λ i low. absurd (omega (arith, low)))
-      none false e = copy_true n width start first (later (Load Write) words.write) (mine (Load Write) words.write) 0 (ltb-false 0 n e)
-          (λ i low. absurd (omega (arith, low)))
+      none false e = (
+        copy_true n width start first (later (Load Write) words.write) (mine (Load Write) words.write) 0 (ltb-false 0 n e)
+            (λ i low. absurd (omega (arith, low))),
+        tt,
+      )

@@ -1,5 +1,5 @@
 -- Every step of a container's machine keeps what the machine keeps.
-use Rattle.std.proofs.Common.{◌≡◌, ℕ, ◌+◌, ◌*◌, ◌<◌, ◌≤◌, Bool, true, false, not, if◌then◌else◌, ◌==◌, ◌&&◌, nat_lt, Option, None}
+use Rattle.std.proofs.Common.{◌≡◌, ℕ, ◌+◌, ◌*◌, ◌<◌, ◌≤◌, inl, Bool, true, false, not, if◌then◌else◌, ◌==◌, ◌&&◌, nat_lt, Option, None}
 use Rattle.std.proofs.Common.{Some}
 use Rattle.std.proofs.Common.{List, [], ◌∷◌, ◌++◌, length, slice_index, take, drop, refl, sym, ◌∙◌, ap, subst, arith, length-append}
 use Rattle.std.proofs.Common.{mod-eq_of_lt}
@@ -26,9 +26,10 @@ use Rattle.iox_robust_steps.specs.ContainerMachine.{may_ask, may_call, member_be
 use Rattle.iox_robust_steps.specs.ContainerMachine.{member_seat, member_stage, member_went, seat_after, width_of}
 use Rattle.iox_robust_steps.specs.ContainerTold.{times_counted}
 use Rattle.iox_robust_steps.specs.ContainerOfSet.{AnsweredCall, answered_to, asked_for, asked_so_far}
+use Rattle.iox_robust_steps.specs.ContainerRecovering.{IsCalm}
 use Rattle.iox_robust_steps.specs.ContainerStays.{LetsPassSoFar}
 use Rattle.iox_robust_steps.specs.ContainerInside.{inside_after}
-use Rattle.iox_robust_steps.specs.ContainerKept.{FitsWhose, HasNoneLost, KnowsMember, MembersAreKept, MembersAreSound, MembersPass}
+use Rattle.iox_robust_steps.specs.ContainerKept.{FitsWhose, HasNoneLost, KnowsMember, MembersAreKept, MembersAreSound, ShownSoFar}
 use Rattle.iox_robust_steps.specs.Kept.{IsConsistent}
 use Rattle.iox_robust_steps.specs.Changes.{is_owner}
 use Rattle.iox_robust_steps.specs.Machine.{HasFewSteps, begun, is_holder, is_lost, may_begin, place_of, seat_at, stage_at}
@@ -56,7 +57,10 @@ use Rattle.iox_robust_steps.proofs.ContainerOfCalls.{member_begun_counted, membe
 use Rattle.iox_robust_steps.proofs.ContainerOfSet.{AsksFor, else_asks, own_asks}
 use Rattle.iox_robust_steps.proofs.ContainerRuns.{KnowsAt, SetStays, acquires, asked, either_seat, ended_told, makes, saw_on, stays}
 use Rattle.iox_robust_steps.proofs.ContainerRuns.{told_append, told_on}
+use Rattle.iox_robust_steps.proofs.ContainerEnds.{was_append, was_ended, was_on}
 use Rattle.iox_robust_steps.proofs.ContainerSeats.{each_member_seat}
+use Rattle.iox_robust_steps.proofs.ContainerShown.{KeepsLost, KnowsIn, all_begun, count_stays, knows_in, showed_append, showed_ended}
+use Rattle.iox_robust_steps.proofs.ContainerShown.{showed_on, shown_next, shown_on}
 use Rattle.iox_robust_steps.proofs.ContainerInside.{calm_more, inside_more, till_out_more}
 use Rattle.iox_robust_steps.proofs.ContainerStaying.{goes}
 use Rattle.iox_robust_steps.proofs.ContainerStays.{calm_step, each_append, each_on, ended_passes, own_passes}
@@ -150,6 +154,10 @@ module _ (m : ContainerParts) (party : ℕ) (fit : member_fits m (GoOn party) �
   longer : length (m.events ++ e ∷ []) ≡ length m.events + 1
   longer = length-append m.events (e ∷ [])
 
+  abbrev Made : Type 0
+  Made = MemberMade n (width_of m) party m.values (empty_words n (width_of m)) m.words x.words m.indices x.indices
+      (stage_at x.indices.seats party) seat.first m.events (own party (drop seat.first m.events)) e next
+
   went_sound : HasFewMoves x → MembersAreSound n x
   went_sound few =
       let s : MembersAreSound n m = k.sound (omega (arith, few, longer)) in
@@ -192,8 +200,66 @@ module _ (m : ContainerParts) (party : ℕ) (fit : member_fits m (GoOn party) �
             (sym (inside_more i None m.events e))
             (goes m party k (omega (arith, few, longer)) s t parts.1 (s.knows party) i within (inside_after i None m.events)
             (s.inside i within)).1;
+        passes = each_append n (m.events ++ e ∷ []) m.finished (member_ended party seat.first (length m.events) t)
+            (each_on n (width_of m) m.values (empty_words n (width_of m)) m.events e m.finished s.told s.passes)
+            (ended_passes n party seat.first m.events e t (s.passing party));
+        passing = each_member_seat (λ (q : ℕ) (t : MemberSeat). LetsPassSoFar n t.stage (own q (drop t.first m.events))
+            × (t.first ≤ length m.events))
+            (λ (q : ℕ) (t : MemberSeat). LetsPassSoFar n t.stage (own q (drop t.first x.events))) m.seats party
+            (seat_after seat next answer (length m.events)) there (λ q. (s.passing q, k.began q))
+            (λ q differs g. subst (λ (es : List Event). LetsPassSoFar n (member_stage m.seats q) es)
+            (sym (own_else_since q (member_seat m.seats q).first m.events e g.1 differs)) g.0)
+            (either_seat (λ (t : MemberSeat). LetsPassSoFar n t.stage (own party (drop t.first x.events))) looks
+            (record { stage = next; first = seat.first; saw = answer; since = length m.events }) (record seat { stage = next })
+            (passes_here few s) (passes_here few s));
+        was_in = was_append x.indices.lost (m.events ++ e ∷ []) m.finished (member_ended party seat.first (length m.events) t)
+            (was_on n (width_of m) m.values (empty_words n (width_of m)) m.indices.lost x.indices.lost set_stays.alive m.events e m.finished
+            s.told s.was_in)
+            (was_ended n (width_of m) m.values (empty_words n (width_of m)) m.words.cells m.indices x.indices.lost set_stays.alive party
+            seat.first m.events e (stage_at m.indices.seats party) (own party (drop seat.first m.events)) s.inside t (s.knows party));
+        shown = each_member_seat (λ (q : ℕ) (t : MemberSeat). ShownSoFar m.indices m.words.cells t.first m.events t.stage
+            × KnowsIn n t.stage × (t.first ≤ length m.events))
+            (λ (q : ℕ) (t : MemberSeat). ShownSoFar x.indices x.words.cells t.first x.events t.stage) m.seats party
+            (seat_after seat next answer (length m.events)) there
+            (λ q. (s.shown q, knows_in m q k (omega (arith, few, longer)) s (member_stage m.seats q) (s.knows q), k.began q))
+            (λ q differs h. shown_on m.indices x.indices m.words.cells x.words.cells m.events e (keeps few s made)
+            set_stays.same_size (lost_stays made) (member_seat m.seats q).first h.2 (member_stage m.seats q) h.1 h.0)
+            (either_seat (λ (t : MemberSeat). ShownSoFar x.indices x.words.cells t.first x.events t.stage) looks
+            (record { stage = next; first = seat.first; saw = answer; since = length m.events }) (record seat { stage = next })
+            (shown_here few s made) (shown_here few s made));
+        showed = showed_append x.indices x.words.cells x.events m.finished (member_ended party seat.first (length m.events) t)
+            (showed_on m.indices x.indices m.words.cells x.words.cells m.events e (keeps few s made) set_stays.same_size
+            (lost_stays made) m.finished
+            (all_begun n (width_of m) m.values (empty_words n (width_of m)) m.events m.finished s.told) s.showed)
+            (showed_ended x.indices x.words.cells x.events party seat.first (length m.events) t (shown_then few s made));
       }
     where
+      lost_stays : Made → (o : ℕ) → is_lost o m.indices.lost ≡ true → is_lost o x.indices.lost ≡ true
+      lost_stays made = (made.leaves (party + 1) (λ same. omega (arith, same))).gone
+
+      keeps : HasFewMoves x → MembersAreSound n m → Made → KeepsLost m.indices x.indices m.words.cells x.words.cells e
+      keeps few s made o i within lost its =
+          let old : _ × _ = (made.leaves (party + 1) (λ same. omega (arith, same))).of_lost o i within lost its in (
+            old.0,
+            count_stays m party k (omega (arith, few, longer)) s t parts.1 (s.knows party) o i within lost old.0,
+          )
+
+      -- what the recovery of the party has of its own call, before it goes on
+      shown_then : HasFewMoves x → MembersAreSound n m → Made → ShownSoFar x.indices x.words.cells seat.first x.events t
+      shown_then few s made = shown_on m.indices x.indices m.words.cells x.words.cells m.events e (keeps few s made) set_stays.same_size
+          (lost_stays made) seat.first (k.began party) t (knows_in m party k (omega (arith, few, longer)) s t (s.knows party))
+          (s.shown party)
+
+      shown_here : HasFewMoves x → MembersAreSound n m → Made → ShownSoFar x.indices x.words.cells seat.first x.events next
+      shown_here few s made = shown_next m party k (omega (arith, few, longer)) s t seat.saw (answer_at (stage_at m.indices.seats party))
+          set_stays.same_size parts.1 (s.knows party) (shown_then few s made)
+
+      passes_here : HasFewMoves x → MembersAreSound n m → LetsPassSoFar n next (own party (drop seat.first (m.events ++ e ∷ [])))
+      passes_here few s = subst (λ (es : List Event). LetsPassSoFar n next es)
+          (sym (own_more_since party seat.first m.events e (k.began party) refl))
+          (own_passes m party k (omega (arith, few, longer)) s seat.saw (answer_at (stage_at m.indices.seats party))
+          finds answer t parts.1 (s.knows party) (own party (drop seat.first m.events)) e refl (s.passing party))
+
       set_few : HasFewMoves x → HasFewSteps m.indices
       set_few few = omega (arith, few, longer, k.few)
 
@@ -249,32 +315,10 @@ module _ (m : ContainerParts) (party : ℕ) (fit : member_fits m (GoOn party) �
           ∙ ap times_counted (sym (take-append_seam m.events (e ∷ [])))
       saw_here s false is = saw_on m e seat (k.since party) (s.saw party)
 
-  went_pass : HasFewMoves x → HasNoneLost x → MembersPass n x
-  went_pass few none =
-      let s : MembersAreSound n m = k.sound (omega (arith, few, longer)) in
-      let h : MembersPass n m = k.pass (omega (arith, few, longer)) (set_stays.grew none) in
-      record {
-        calm = calm_more m.events e h.calm (calm_step m party k (omega (arith, few, longer)) s (set_stays.grew none) t (s.knows party));
-        passes = each_append n (m.events ++ e ∷ []) m.finished (member_ended party seat.first (length m.events) t)
-            (each_on n (width_of m) m.values (empty_words n (width_of m)) m.events e m.finished s.told h.passes)
-            (ended_passes n party seat.first m.events e t (h.passing party));
-        passing = each_member_seat (λ (q : ℕ) (t : MemberSeat). LetsPassSoFar n t.stage (own q (drop t.first m.events))
-            × (t.first ≤ length m.events))
-            (λ (q : ℕ) (t : MemberSeat). LetsPassSoFar n t.stage (own q (drop t.first x.events))) m.seats party
-            (seat_after seat next answer (length m.events)) there (λ q. (h.passing q, k.began q))
-            (λ q differs g. subst (λ (es : List Event). LetsPassSoFar n (member_stage m.seats q) es)
-            (sym (own_else_since q (member_seat m.seats q).first m.events e g.1 differs)) g.0)
-            (either_seat (λ (t : MemberSeat). LetsPassSoFar n t.stage (own party (drop t.first x.events))) looks
-            (record { stage = next; first = seat.first; saw = answer; since = length m.events }) (record seat { stage = next })
-            (passes_here few s none h) (passes_here few s none h));
-      }
-    where
-      passes_here : HasFewMoves x → MembersAreSound n m → HasNoneLost x → MembersPass n m
-          → LetsPassSoFar n next (own party (drop seat.first (m.events ++ e ∷ [])))
-      passes_here few s none h = subst (λ (es : List Event). LetsPassSoFar n next es)
-          (sym (own_more_since party seat.first m.events e (k.began party) refl))
-          (own_passes m party k (omega (arith, few, longer)) s (set_stays.grew none) seat.saw (answer_at (stage_at m.indices.seats party))
-          finds answer t parts.1 (s.knows party) (own party (drop seat.first m.events)) e refl (h.passing party))
+  went_calm : HasFewMoves x → HasNoneLost x → IsCalm x.events
+  went_calm few none = calm_more m.events e (k.calm (omega (arith, few, longer)) (set_stays.grew none))
+      (calm_step m party k (omega (arith, few, longer)) (k.sound (omega (arith, few, longer))) (set_stays.grew none) t
+      ((k.sound (omega (arith, few, longer))).knows party))
 
   asked_here : SoFar n (width_of m) m.values party (member_in_hand next) next (own party (drop seat.first (m.events ++ e ∷ [])))
   asked_here = subst (λ (es : List Event). SoFar n (width_of m) m.values party (member_in_hand next) next es)
@@ -324,7 +368,7 @@ module _ (m : ContainerParts) (party : ℕ) (fit : member_fits m (GoOn party) �
     };
     counted = member_went_counted m party fit k.counted;
     sound = λ few. subst (λ (c : ℕ). MembersAreSound c x) (sym set_stays.same_size) (went_sound few);
-    pass = λ few none. subst (λ (c : ℕ). MembersPass c x) (sym set_stays.same_size) (went_pass few none);
+    calm = went_calm;
   }
 
 -- a party begins a call
@@ -367,7 +411,7 @@ module _ (m : ContainerParts) (party : ℕ) (c : MemberCall) (fit : member_fits 
   begun_leaves : (c : MemberCall) (q : ℕ)
       → LeavesMembers size_of (width_of m) q m.words.cells m.words.cells m.indices (asked_by m.indices party c)
   begun_leaves (call.Add number owner) q = leaves_all_members size_of (width_of m) q m.words.cells m.indices
-      (begun m.indices party (set_call.Acquire owner)) (λ o h. h) (λ o h. h) (λ o i within live h. h) (λ i h. h)
+      (begun m.indices party (set_call.Acquire owner)) refl (λ o h. h) (λ o h. h) (λ o i within live h. h) (λ i h. h)
       (λ o i within lost h. h) (λ o i within lost shown h. h)
   begun_leaves (call.Remove owner index mode) q = leaves_same size_of (width_of m) q m.words.cells m.indices
   begun_leaves call.Update q = leaves_same size_of (width_of m) q m.words.cells m.indices
@@ -468,8 +512,45 @@ module _ (m : ContainerParts) (party : ℕ) (c : MemberCall) (fit : member_fits 
             (place_of (asked_by m.indices party c).places i)) (sym (inside_more i None m.events begin))
             (subst (λ (ps : List Place). FitsWhose (inside_after i None m.events) (slice_index m.words.cells i) (place_of ps i))
             (sym (same_places c)) (s.inside i within));
+        passes = each_on size_of (width_of m) m.values (empty_words size_of (width_of m)) m.events begin m.finished s.told s.passes;
+        passing = each_member_seat
+            (λ (q : ℕ) (t : MemberSeat). LetsPassSoFar size_of t.stage (own q (drop t.first m.events)) × (t.first ≤ length m.events))
+            (λ (q : ℕ) (t : MemberSeat). LetsPassSoFar size_of t.stage (own q (drop t.first y.events))) m.seats party
+            (record (member_seat m.seats party) { stage = member_begun c; first = length m.events }) is_there
+            (λ q. (s.passing q, k.began q))
+            (λ q differs g. subst (λ (es : List Event). LetsPassSoFar size_of (member_stage m.seats q) es)
+            (sym (own_else_since q (member_seat m.seats q).first m.events begin g.1 differs)) g.0)
+            (subst (λ (es : List Event). LetsPassSoFar size_of (member_begun c) es) (sym own_begin) (none_passed c));
+        was_in = was_on size_of (width_of m) m.values (empty_words size_of (width_of m)) m.indices.lost (asked_by m.indices party c).lost
+            set_begun.alive m.events begin m.finished s.told s.was_in;
+        shown = each_member_seat (λ (q : ℕ) (t : MemberSeat). ShownSoFar m.indices m.words.cells t.first m.events t.stage
+            × KnowsIn size_of t.stage × (t.first ≤ length m.events))
+            (λ (q : ℕ) (t : MemberSeat). ShownSoFar y.indices m.words.cells t.first y.events t.stage) m.seats party
+            (record (member_seat m.seats party) { stage = member_begun c; first = length m.events }) is_there
+            (λ q. (s.shown q, knows_in m q k (omega (arith, few, one_longer)) s (member_stage m.seats q) (s.knows q), k.began q))
+            (λ q differs h. shown_on m.indices y.indices m.words.cells m.words.cells m.events begin keeps set_begun.same_size
+            (begun_leaves c (party + 1)).gone (member_seat m.seats q).first h.2 (member_stage m.seats q) h.1 h.0)
+            (none_shown c);
+        showed = showed_on m.indices y.indices m.words.cells m.words.cells m.events begin keeps set_begun.same_size
+            (begun_leaves c (party + 1)).gone m.finished
+            (all_begun size_of (width_of m) m.values (empty_words size_of (width_of m)) m.events m.finished s.told) s.showed;
       }
     where
+      keeps : KeepsLost m.indices y.indices m.words.cells m.words.cells begin
+      keeps o i within lost its = (((begun_leaves c (party + 1)).of_lost o i within lost its).0, inl refl)
+
+      none_shown : (c : MemberCall) → ShownSoFar y.indices m.words.cells (length m.events) y.events (member_begun c)
+      none_shown (call.Add number owner) = tt
+      none_shown (call.Remove owner index mode) = tt
+      none_shown call.Update = tt
+      none_shown (call.Recover owner number mode) = tt
+
+      none_passed : (c : MemberCall) → LetsPassSoFar size_of (member_begun c) (begin ∷ [])
+      none_passed (call.Add number owner) = λ going. refl
+      none_passed (call.Remove owner index mode) = λ going. refl
+      none_passed call.Update = λ going. refl
+      none_passed (call.Recover owner number mode) = λ going. refl
+
       idle : member_is_idle (member_stage m.seats party) ≡ true
       idle = (and_parts (member_is_idle (member_stage m.seats party)) (may_call m party c) begun_parts.1).0
 
@@ -507,29 +588,6 @@ module _ (m : ContainerParts) (party : ℕ) (c : MemberCall) (fit : member_fits 
       idle_asked (stage.Close o j mode) h = absurd (cc)
       idle_asked (stage.Done d a) h = absurd (cc)
 
-  begun_pass : HasFewMoves y → HasNoneLost y → MembersPass size_of y
-  begun_pass few none =
-      let s : MembersAreSound size_of m = k.sound (omega (arith, few, one_longer)) in
-      let h : MembersPass size_of m = k.pass (omega (arith, few, one_longer)) (set_begun.grew none) in
-      record {
-        calm = calm_more m.events begin h.calm tt;
-        passes = each_on size_of (width_of m) m.values (empty_words size_of (width_of m)) m.events begin m.finished s.told h.passes;
-        passing = each_member_seat
-            (λ (q : ℕ) (t : MemberSeat). LetsPassSoFar size_of t.stage (own q (drop t.first m.events)) × (t.first ≤ length m.events))
-            (λ (q : ℕ) (t : MemberSeat). LetsPassSoFar size_of t.stage (own q (drop t.first y.events))) m.seats party
-            (record (member_seat m.seats party) { stage = member_begun c; first = length m.events }) is_there
-            (λ q. (h.passing q, k.began q))
-            (λ q differs g. subst (λ (es : List Event). LetsPassSoFar size_of (member_stage m.seats q) es)
-            (sym (own_else_since q (member_seat m.seats q).first m.events begin g.1 differs)) g.0)
-            (subst (λ (es : List Event). LetsPassSoFar size_of (member_begun c) es) (sym own_begin) (none_passed c));
-      }
-    where
-      none_passed : (c : MemberCall) → LetsPassSoFar size_of (member_begun c) (begin ∷ [])
-      none_passed (call.Add number owner) = λ going. refl
-      none_passed (call.Remove owner index mode) = λ going. refl
-      none_passed call.Update = λ going. refl
-      none_passed (call.Recover owner number mode) = λ going. refl
-
   pub member_begins_keeps : MembersAreKept y
   member_begins_keeps = record {
     indices = set_begun.kept;
@@ -565,7 +623,7 @@ module _ (m : ContainerParts) (party : ℕ) (c : MemberCall) (fit : member_fits 
     };
     counted = member_begun_counted m party c fit k.counted;
     sound = λ few. subst (λ (c : ℕ). MembersAreSound c y) (sym set_begun.same_size) (begun_sound few);
-    pass = λ few none. subst (λ (c : ℕ). MembersPass c y) (sym set_begun.same_size) (begun_pass few none);
+    calm = λ few none. calm_more m.events begin (k.calm (omega (arith, few, one_longer)) (set_begun.grew none)) tt;
   }
 
 happens_keeps : (m : ContainerParts) (step : MemberMove) → member_fits m step ≡ true → MembersAreKept m

@@ -7,8 +7,9 @@ use Rattle.iox_queues_steps.specs.Access.{RingWords}
 use Rattle.iox_queues.specs.declared.bits.machine.Event.{Event}
 use Rattle.iox_robust_steps.specs.ContainerSteps.{is_shown, value_cell}
 use Rattle.iox_robust_steps.specs.ContainerTold.{ComesIn, CopyIsTrue, GoesOut, MemberTells, Shown, WasSo}
-use Rattle.iox_robust_steps.specs.ContainerKept.{HoldsFor, IsLostOwner, IsOf, IsSeenOrOut, KnowsMember}
+use Rattle.iox_robust_steps.specs.ContainerKept.{HoldsFor, IsInStill, IsLostOwner, IsOf, IsSeenOrOut, KnowsMember}
 use Rattle.iox_robust_steps.specs.Machine.{RobustSetState, is_lost, place_of}
+use Rattle.iox_robust_steps.specs.Steps.{decided}
 use Rattle.iox_robust_steps.specs.declared.call.RobustCall.{RobustCall}
 use Rattle.iox_robust_steps.specs.declared.container.call.ContainerCall.{ContainerCall}
 use Rattle.iox_robust_steps.specs.declared.container.call.ContainerCall.TheVariants as stage
@@ -22,6 +23,7 @@ use Rattle.iox_robust_steps.proofs.ContainerWords.{count_before, value_before}
 -- its owners' indices with their counts and values, unless they are lost; no index more; what is out of its own stays out; counts that
 -- only grow; what lies with a count that it saw; and of owners that are lost no index more, nor a member, and each with its member
 pub record LeavesMembers (n width q : ℕ) (cells cells' : List ℕ) (indices indices' : RobustSetState) : Type 0 where
+  pub decisions : indices'.decisions ≡ indices.decisions
   pub alive : (o : ℕ) → is_lost o indices'.lost ≡ false → is_lost o indices.lost ≡ false
   pub gone : (o : ℕ) → is_lost o indices.lost ≡ true → is_lost o indices'.lost ≡ true
   pub held : (o i : ℕ) → i < n → is_lost o indices.lost ≡ false → HoldsFor indices q o i → HoldsFor indices' q o i
@@ -64,6 +66,8 @@ module _ (n width : ℕ) (start : RingWords) (first : ℕ) (events : List Event)
     whole = ap (λ (es : List Event). es ++ e ∷ []) c.whole ∙ append_assoc c.earlier (c.event ∷ c.later) (e ∷ []);
     inside = c.inside;
     its = c.its;
+    count = c.count;
+    stores = c.stores;
     out = c.out;
     in_then = c.in_then;
     is = c.is;
@@ -77,6 +81,8 @@ module _ (n width : ℕ) (start : RingWords) (first : ℕ) (events : List Event)
     whole = ap (λ (es : List Event). es ++ e ∷ []) g.whole ∙ append_assoc g.earlier (g.event ∷ g.later) (e ∷ []);
     inside = g.inside;
     its = g.its;
+    count = g.count;
+    stores = g.stores;
     in_before = g.in_before;
     out = g.out;
   }
@@ -143,6 +149,38 @@ module _ (n width : ℕ) (start : RingWords) (first : ℕ) (events : List Event)
         (λ (out : is_shown (slice_index cells' i) ≡ false). out)
         old.1
 
+    -- the place of an addition's answer is one of the n
+    abbrev IsWithin : MemberCall → MemberAnswer → Type 0
+    IsWithin (call.Add number owner) (Added (Ok index)) = index < n
+    IsWithin (call.Add number owner) (Added (Err why)) = Unit {0}
+    IsWithin (call.Add number owner) (Removed state) = Unit {0}
+    IsWithin (call.Add number owner) (Updated copied) = Unit {0}
+    IsWithin (call.Remove owner index mode) a = Unit {0}
+    IsWithin call.Update a = Unit {0}
+    IsWithin (call.Recover owner number mode) a = Unit {0}
+
+    is_within : (counted : ℕ) (c : MemberCall) (a : MemberAnswer) → MemberTells n width values start counted q first events own c a
+        → IsWithin c a
+    is_within counted (call.Add number owner) (Added (Ok index)) t = t.0
+    is_within counted (call.Add number owner) (Added (Err why)) t = tt
+    is_within counted (call.Add number owner) (Removed state) t = tt
+    is_within counted (call.Add number owner) (Updated copied) t = tt
+    is_within counted (call.Remove owner index mode) a t = tt
+    is_within counted call.Update a t = tt
+    is_within counted (call.Recover owner number mode) a t = tt
+
+    still_in : (c : MemberCall) (a : MemberAnswer) → IsWithin c a
+        → IsInStill indices cells q c a → IsInStill indices' cells' q c a
+    still_in (call.Add number owner) (Added (Ok index)) within h = λ live.
+        let old : HoldsFor indices q owner index × (is_shown (slice_index cells index) ≡ true) = h (l.alive owner live) in
+        still_held owner index true within live old.0 old.1
+    still_in (call.Add number owner) (Added (Err why)) within h = tt
+    still_in (call.Add number owner) (Removed state) within h = tt
+    still_in (call.Add number owner) (Updated copied) within h = tt
+    still_in (call.Remove owner index mode) a within h = tt
+    still_in call.Update a within h = tt
+    still_in (call.Recover owner number mode) a within h = tt
+
     pub knows_member_else : (t : ContainerCall) → KnowsMember n width values start cells indices q s first events own t
         → KnowsMember n width values start cells' indices' q s first (events ++ e ∷ []) own t
     knows_member_else stage.Idle k = tt
@@ -203,8 +241,8 @@ module _ (n width : ℕ) (start : RingWords) (first : ℕ) (events : List Event)
         (k.0, k.1, goes_on_out q index k.2, λ is. l.out index k.1 (l.back index is) (k.3 (l.back index is)))
     knows_member_else (stage.Drop owner index mode) k =
         (k.0, k.1, goes_on_out q index k.2, λ is. l.out index k.1 (l.back index is) (k.3 (l.back index is)), k.4)
-    knows_member_else (stage.Count c a) k = (k.0, tells_on values 0 q own c a k.1)
-    knows_member_else (stage.Raise c a seen) k = (k.0, tells_on values 0 q own c a k.1)
+    knows_member_else (stage.Count c a) k = (k.0, tells_on values 0 q own c a k.1, still_in c a (is_within 0 c a k.1) k.2)
+    knows_member_else (stage.Raise c a seen) k = (k.0, tells_on values 0 q own c a k.1, still_in c a (is_within 0 c a k.1) k.2)
     knows_member_else stage.Look k = tt
     knows_member_else (stage.Visit i) k = (k.0, λ j low. was_on j _ (k.1 j low))
     knows_member_else (stage.Gather i seen next) k = (
@@ -233,8 +271,9 @@ module _ (n width : ℕ) (start : RingWords) (first : ℕ) (events : List Event)
       λ is.
           let before : slice_index cells i ≡ seen = omega (arith, k.4, l.grows i k.1, is) in
           l.in_lost owner i k.1 k.2 (is ∙ sym before) (ap is_shown before ∙ k.6) (k.7 before),
+      ap (λ (d : List (Vec Bool)). decided d number i) l.decisions ∙ k.8,
     )
     knows_member_else (stage.Clear owner number mode i) k =
         (k.0, k.1, still_lost owner k.2, k.3, still_no_member owner i k.1 k.2 k.4)
     knows_member_else (stage.Close owner number mode) k = (k.0, still_lost owner k.1, k.2, k.3)
-    knows_member_else (stage.Done c a) k = tells_on values 1 q own c a k
+    knows_member_else (stage.Done c a) k = (tells_on values 1 q own c a k.0, still_in c a (is_within 1 c a k.0) k.1)

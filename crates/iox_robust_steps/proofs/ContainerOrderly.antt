@@ -18,7 +18,8 @@ use Rattle.iox_robust_steps.specs.ContainerStays.{LetsPassSoFar, ShowsWhose, Sta
 use Rattle.iox_robust_steps.specs.ContainerInside.{inside_after}
 use Rattle.iox_robust_steps.specs.ContainerTold.{AllAreNews, AreMembersTold, MemberTells, counted_by, is_change, times_counted}
 use Rattle.iox_robust_steps.specs.ContainerKept.{FitsWhose, HasNoneLost, IsUnheld, KnowsMember, MembersAreKept, MembersAreOrderly}
-use Rattle.iox_robust_steps.specs.ContainerKept.{MembersAreSound, MembersPass, MembersStay}
+use Rattle.iox_robust_steps.specs.ContainerKept.{MembersAreSound, MembersStay, ShownSoFar}
+use Rattle.iox_robust_steps.specs.ContainerRecovering.{IsCalm}
 use Rattle.iox_robust_steps.specs.Kept.{IsConsistent, IsQuiet}
 use Rattle.iox_robust_steps.specs.Machine.{HasFewSteps, place_of, stage_at, start}
 use Rattle.iox_robust_steps.specs.Steps.{lock_mark}
@@ -31,7 +32,7 @@ use Rattle.iox_robust_steps.specs.declared.container.MemberFinished.{MemberFinis
 use Rattle.iox_robust_steps.specs.declared.container.state.MemberSeat.{MemberSeat}
 use Rattle.iox_robust_steps.specs.declared.state.Place.{Place}
 use Rattle.iox_robust_steps.specs.declared.state.Place.TheVariants as place
-use Rattle.iox_robust_steps.proofs.ContainerMoments.{each_moment}
+use Rattle.iox_robust_steps.proofs.ContainerPassing.{each_moment}
 use Rattle.iox_robust_steps.proofs.ContainerInside.{inside_is, stays_calm}
 use Rattle.iox_robust_steps.proofs.ContainerRecovers.{leave_none, stands_beside}
 use Rattle.iox_robust_steps.proofs.ContainerShows.{answered_all, each_shows_inside}
@@ -49,7 +50,7 @@ pub empty_kept : (capacity parties : ℕ) (values : List (Vec ℕ)) (decisions :
 empty_kept capacity parties values decisions small =
     let width : ℕ = length (table_value values 0) in
     record {
-      indices = start_kept capacity parties decisions (omega (arith, small));
+      indices = start_kept capacity parties decisions true (omega (arith, small));
       few = omega arith;
       small = omega (arith, small, length-replicate {A = ℕ} (capacity + (capacity * width + 1)) 0);
       size = length-replicate {A = ℕ} (capacity + (capacity * width + 1)) 0;
@@ -67,21 +68,23 @@ empty_kept capacity parties values decisions small =
         low = λ i within. omega (arith, zeros i within);
         out = λ i within unheld. ap is_shown (zeros i within);
         knows = λ q. subst (λ (s : MemberSeat). KnowsMember capacity width values (empty_words capacity width)
-            (replicate (capacity + (capacity * width + 1)) 0) (start capacity parties decisions) q
-            (stage_at (start capacity parties decisions).seats q) s.first [] (own q (drop s.first [])) s.stage)
+            (replicate (capacity + (capacity * width + 1)) 0) (start capacity parties decisions true) q
+            (stage_at (start capacity parties decisions true).seats q) s.first [] (own q (drop s.first [])) s.stage)
             (sym (all_resting parties q)) tt;
         told = tt;
         saw = λ q. subst (λ (s : MemberSeat). s.saw ≡ times_counted (take s.since [])) (sym (all_resting parties q)) refl;
         asks = λ q. subst (λ (s : MemberSeat). [] ≡ asked_so_far s.stage) (sym (all_resting parties q)) refl;
         stays = λ i within. tt;
         inside = λ i within. ap is_shown (zeros i within);
-      };
-      pass = λ few none. record {
-        calm = tt;
         passes = tt;
         passing = λ q. subst (λ (s : MemberSeat). LetsPassSoFar capacity s.stage (own q (drop s.first [])))
             (sym (all_resting parties q)) (λ going. refl);
+        was_in = tt;
+        shown = λ q. subst (λ (s : MemberSeat). ShownSoFar (start capacity parties decisions true)
+            (replicate (capacity + (capacity * width + 1)) 0) s.first [] s.stage) (sym (all_resting parties q)) tt;
+        showed = tt;
       };
+      calm = λ few none. tt;
     }
   where
     zeros : (i : ℕ) → i < capacity → slice_index (replicate (capacity + (capacity * length (table_value values 0) + 1)) 0) i ≡ 0
@@ -195,17 +198,13 @@ module _ (m : ContainerParts) (k : MembersAreKept m) (few : HasFewMoves m) where
   -- where no recovery began
   members_stay : HasNoneLost m → MembersStay m
   members_stay none =
-      let passing : MembersPass m.indices.capacity m = k.pass few none in
+      let calm : IsCalm m.events = k.calm few none in
       let stays : (i : ℕ) → i < m.indices.capacity → StaysTillTakenOut m.indices.capacity (width_of m) i None m.events
-      = λ i within. stays_calm m.indices.capacity (width_of m) i None m.events passing.calm (sound.stays i within) in
+      = λ i within. stays_calm m.indices.capacity (width_of m) i None m.events calm (sound.stays i within) in
       record {
         stays = stays;
         whose = λ i within. subst (λ (o : Option ℕ). ShowsWhose i o (slice_index m.words.cells i) m.indices.events)
-            (inside_is i None m.events passing.calm) (shows_whose i (inside_after i None m.events) (sound.inside i within));
-        passes = passing.passes;
-        passing = passing.passing;
-        moments = each_moment m.indices.capacity (width_of m) m.values (empty_words m.indices.capacity (width_of m)) size_is m.events
-            m.finished sound.told passing.passes stays;
+            (inside_is i None m.events calm) (shows_whose i (inside_after i None m.events) (sound.inside i within));
         shows = each_shows m.indices.capacity (width_of m) m.values (empty_words m.indices.capacity (width_of m)) size_is empty_out
             m.events m.finished sound.told stays;
       }
@@ -224,6 +223,12 @@ module _ (m : ContainerParts) (k : MembersAreKept m) (few : HasFewMoves m) where
     shows = each_shows_inside m.indices.capacity (width_of m) k.indices.small m.values
         (empty_words m.indices.capacity (width_of m)) size_is empty_out m.events m.finished
         (answered_all (empty_words m.indices.capacity (width_of m)) m.words m.events k.recorded.answered) sound.told sound.stays;
+    passes = sound.passes;
+    passing = sound.passing;
+    moments = each_moment m.indices.capacity (width_of m) k.indices.small m.values
+        (empty_words m.indices.capacity (width_of m)) size_is m.indices.lost m.events m.finished
+        (answered_all (empty_words m.indices.capacity (width_of m)) m.words m.events k.recorded.answered) sound.told sound.passes
+        sound.stays sound.was_in;
     beside = λ q. stands_beside m.indices.capacity (width_of m) m.values (empty_words m.indices.capacity (width_of m)) m.words.cells
         m.indices
         q (member_seat m.seats q).first (stage_at m.indices.seats q) m.events (own q (drop (member_seat m.seats q).first m.events))
@@ -231,6 +236,7 @@ module _ (m : ContainerParts) (k : MembersAreKept m) (few : HasFewMoves m) where
     left = leave_none m.indices inner.freed m.words.cells m.indices.capacity (width_of m) m.values
         (empty_words m.indices.capacity (width_of m)) m.events m.finished sound.told (all_reasons m.indices inner.told m.finished
         (λ (q : ℕ). asked_so_far (member_stage m.seats q)) sound.asks);
+    shown = sound.showed;
     news = λ q. news_of (member_seat m.seats q).saw (member_seat m.seats q).since (sound.saw q) m.finished sound.told;
     unrecovered = members_stay;
   }

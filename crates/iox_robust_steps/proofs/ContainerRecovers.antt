@@ -16,7 +16,7 @@ use Rattle.iox_queues_steps.specs.declared.schedule.Stepped.TheVariants as stepp
 use Rattle.iox_queues.specs.Told.{own}
 use Rattle.iox_queues.specs.Values.{table_value}
 use Rattle.iox_queues.specs.declared.bits.machine.Event.{Event}
-use Rattle.iox_robust_steps.specs.ContainerKept.{IsToFree, KnowsMember, MembersAreKept, MembersAreSound}
+use Rattle.iox_robust_steps.specs.ContainerKept.{KnowsMember, MembersAreKept, MembersAreSound}
 use Rattle.iox_robust_steps.specs.ContainerMachine.{ContainerParts, HasFewMoves, MemberStepsTo, empty_words, member_call}
 use Rattle.iox_robust_steps.specs.ContainerMachine.{member_happens, member_seat, member_stage, member_went, width_of}
 use Rattle.iox_robust_steps.specs.ContainerOfSet.{HaveReasons, HasReason}
@@ -25,13 +25,10 @@ use Rattle.iox_robust_steps.specs.ContainerRecovering.{RecoversMembersSo, Stands
 use Rattle.iox_robust_steps.specs.ContainerRecovering.{TakesOutOnlyItsOwn}
 use Rattle.iox_robust_steps.specs.ContainerSteps.{is_shown, member_in_hand, member_next, value_cell}
 use Rattle.iox_robust_steps.specs.ContainerTold.{AreMembersTold, MemberTells}
-use Rattle.iox_robust_steps.specs.Machine.{RobustSetState, seat_at, stage_at}
-use Rattle.iox_robust_steps.specs.Steps.{call_in_hand, decided}
-use Rattle.iox_robust_steps.specs.Told.{AreFreed, FreedBy, IsAskedSoFar}
-use Rattle.iox_robust_steps.specs.declared.call.Call.{Call}
+use Rattle.iox_robust_steps.specs.Machine.{RobustSetState, stage_at}
+use Rattle.iox_robust_steps.specs.Told.{AreFreed, FreedBy}
 use Rattle.iox_robust_steps.specs.declared.call.Call.TheVariants as set_call
 use Rattle.iox_robust_steps.specs.declared.call.RobustCall.{RobustCall}
-use Rattle.iox_robust_steps.specs.declared.call.RobustCall.TheVariants as set_stage
 use Rattle.iox_robust_steps.specs.declared.container.call.ContainerCall.{ContainerCall}
 use Rattle.iox_robust_steps.specs.declared.container.call.ContainerCall.TheVariants as stage
 use Rattle.iox_robust_steps.specs.declared.container.call.MemberAnswer.{MemberAnswer}
@@ -43,7 +40,6 @@ use Rattle.iox_robust_steps.specs.declared.container.MemberMove.{MemberMove}
 use Rattle.iox_robust_steps.specs.declared.container.MemberMove.TheVariants.{Begin, GoOn}
 use Rattle.iox_robust_steps.specs.declared.machine.Finished.{Finished}
 use Rattle.iox_robust_steps.proofs.ContainerWords.{count_else, count_here, count_position, next_shown, values_stay}
-use Rattle.iox_robust_steps.proofs.Theirs.{OfRecovery, asked_of}
 
 -- the set's recovery left its owner no index that it was to free
 freed_among : (decisions : List (Vec Bool)) (lost cells : List ℕ) (n : ℕ) (before : List Finished) (f : Finished) (after : List Finished)
@@ -119,21 +115,6 @@ module _ (m : ContainerParts) (party : ℕ) (k : MembersAreKept m) (few : length
   Recovers t = IfRecoversMembers n width m.indices cells (after_access m.words (member_next n width m.values t)).cells (event t ∷ [])
       (member_in_hand t)
 
-  -- the set's recovery was to free the index
-  wanted_there : (owner number : ℕ) (mode : ReleaseMode) (i : ℕ) → IsToFree owner number mode i inner
-      → decided m.indices.decisions number i ≡ true
-  wanted_there owner number mode i to_free =
-      let asked : IsAskedSoFar n m.indices.decisions party (call_in_hand inner) inner
-      (own party (drop (seat_at m.indices.seats party).first m.indices.events)) = k.indices.recorded.going party in
-      let of : OfRecovery n m.indices.decisions owner number inner
-      = (subst (λ (o : Option Call). IsAskedSoFar n m.indices.decisions party o inner
-      (own party (drop (seat_at m.indices.seats party).first m.indices.events))
-      → OfRecovery n m.indices.decisions owner number inner) (sym (ap call_in_hand to_free.1))
-      (λ a. asked_of n m.indices.decisions owner number party mode inner
-      (own party (drop (seat_at m.indices.seats party).first m.indices.events)) a)) asked in
-      let clear : OfRecovery n m.indices.decisions owner number (set_stage.Clear owner number mode i to_free.0)
-      = subst (OfRecovery n m.indices.decisions owner number) to_free.1 of in clear.2
-
   module _ (owner number : ℕ) (mode : ReleaseMode) (i seen : ℕ) (kn : KnowsOwn (stage.Expel owner number mode i seen)) where
     expels : (b : Bool) → (word_of m.words (Cell i) == seen) ≡ b
         → RecoversMembersSo n width m.indices cells (if b then after_store m.words (Cell i) (successor seen) else m.words).cells owner
@@ -156,7 +137,7 @@ module _ (m : ContainerParts) (party : ℕ) (k : MembersAreKept m) (few : length
 
         taken : TakesOut m.indices cells (after_store m.words (Cell i) (successor seen)).cells owner number i
         taken = record {
-          wanted = wanted_there owner number mode i kn.3;
+          wanted = kn.8;
           in_before = ap is_shown is ∙ kn.6;
           owned = kn.7 is;
           out = ap is_shown (count_here n width cells k.size k.small i (successor seen) kn.1 ∙ up) ∙ next_shown seen ∙ ap not kn.6;

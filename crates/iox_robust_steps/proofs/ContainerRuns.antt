@@ -4,6 +4,7 @@ use Rattle.std.proofs.Common.{nat_lt, List, [], ◌∷◌, ◌++◌, length, set
 use Rattle.std.proofs.Common.{length-append}
 use Rattle.std.specs.Global.{Vec}
 use Rattle.std.proofs.Math.Seq.{take-append_seam}
+use Rattle.std.proofs.lemmas.Bool.{and_parts}
 use Rattle.std.proofs.lemmas.List.{take-append-le}
 use Rattle.iox_container.specs.declared.release.ReleaseMode.{ReleaseMode}
 use Rattle.iox_queues_steps.specs.Access.{RingWords, after_access, answer_of, word_of}
@@ -14,7 +15,7 @@ use Rattle.iox_queues.specs.Moments.{words_after}
 use Rattle.iox_queues.specs.Recorded.{Answered}
 use Rattle.iox_queues.specs.Told.{own}
 use Rattle.iox_queues.specs.declared.bits.machine.Event.{Event}
-use Rattle.iox_robust_steps.specs.ContainerSteps.{answer_at, is_clearing, member_next, member_take}
+use Rattle.iox_robust_steps.specs.ContainerSteps.{answer_at, is_clearing, is_shown, member_next, member_take}
 use Rattle.iox_robust_steps.specs.ContainerMachine.{ContainerParts, HasFewMoves, asked_at, empty_words}
 use Rattle.iox_robust_steps.specs.ContainerMachine.{may_ask, member_ended}
 use Rattle.iox_robust_steps.specs.ContainerMachine.{member_seat, width_of}
@@ -34,12 +35,13 @@ use Rattle.iox_robust_steps.specs.declared.state.Seat.{Seat}
 use Rattle.iox_robust_steps.proofs.ContainerAsking.{ask_made, clear_made, close_made, drop_made, enter_made, leave_made, search_made}
 use Rattle.iox_robust_steps.proofs.ContainerGoing.{MemberMade, count_made, expel_made, fill_made, gather_made, hide_made, look_made}
 use Rattle.iox_robust_steps.proofs.ContainerGoing.{quiet, raise_made, show_made, sink_made, visit_made, watch_made}
+use Rattle.iox_robust_steps.proofs.Knowing.{lost_before}
 use Rattle.iox_robust_steps.proofs.Runs.{begun_keeps, went_keeps}
 use Rattle.iox_robust_steps.proofs.Seats.{seat_else}
 
 -- each step of the set is one event more
-pub went_length : (i : RobustSetState) (p : ℕ) → length (went i p).events ≡ length i.events + 1
-went_length i p = length-append i.events (_ ∷ [])
+pub went_length : (i : RobustSetState) (p : ℕ) (insists : Bool) → length (went i p insists).events ≡ length i.events + 1
+went_length i p insists = length-append i.events (_ ∷ [])
 
 -- the words are those that the steps left
 pub answered_after : (words end : RingWords) (events : List Event) → Answered words events end → end ≡ words_after words events
@@ -93,7 +95,7 @@ module _ (n width : ℕ) (values : List (Vec ℕ)) (start : RingWords) (cells : 
   ended_told (stage.Done c answer) k = (
     (
       subst (λ (es : List Event). MemberTells n width values start 1 party first es (own party (drop first es)) c answer)
-          (sym (take-append_seam events (e ∷ []))) k,
+          (sym (take-append_seam events (e ∷ []))) k.0,
       record { begun = began; ended = omega (arith, length-append events (e ∷ [])) },
     ),
     tt,
@@ -106,21 +108,24 @@ module _ (m : ContainerParts) (party : ℕ) (k : MembersAreKept m) where
     pub kept : IsKept i
     pub same_size : i.capacity ≡ m.indices.capacity
     pub grew : i.lost ≡ [] → m.indices.lost ≡ []
+    pub alive : (o : ℕ) → is_lost o i.lost ≡ false → is_lost o m.indices.lost ≡ false
     pub steps : length i.events ≤ length m.indices.events + 1
     pub others : (q : ℕ) → (party ≡ q → ⊥) → stage_at i.seats q ≡ stage_at m.indices.seats q
 
   pub stays : SetStays m.indices
-  stays = record { kept = k.indices; same_size = refl; grew = λ h. h; steps = omega arith; others = λ q differs. refl }
+  stays = record { kept = k.indices; same_size = refl; grew = λ h. h; alive = λ o h. h; steps = omega arith; others = λ q differs. refl }
 
   stage_else : (q : ℕ) (seat : Seat) → (party ≡ q → ⊥) → stage_at (set m.indices.seats party seat) q ≡ stage_at m.indices.seats q
   stage_else q seat differs = ap (λ (s : Seat). s.stage) (seat_else m.indices.seats party q seat (λ same. differs (sym same)))
 
-  goes_on : robust.fits m.indices (set_move.GoOn party) ≡ true → SetStays (went m.indices party)
-  goes_on fit = record {
-    kept = went_keeps m.indices party fit k.indices;
+  goes_on : (insists : Bool) → robust.fits m.indices (set_move.GoOn party) ≡ true → (insists ≡ true → m.indices.may_insist ≡ true)
+      → SetStays (went m.indices party insists)
+  goes_on insists fit allowed = record {
+    kept = went_keeps m.indices party insists fit k.indices allowed;
     same_size = refl;
     grew = λ h. h;
-    steps = omega (arith, went_length m.indices party);
+    alive = λ o h. h;
+    steps = omega (arith, went_length m.indices party insists);
     others = λ q differs. stage_else q _ differs;
   }
 
@@ -130,6 +135,7 @@ module _ (m : ContainerParts) (party : ℕ) (k : MembersAreKept m) where
     kept = begun_keeps m.indices party (set_call.Acquire owner) fit k.indices;
     same_size = refl;
     grew = λ h. h;
+    alive = λ o h. h;
     steps = omega (arith, length-append m.indices.events (record { party = party; access = Local; answer = 0 } ∷ []));
     others = λ q differs. stage_else q _ differs;
   }
@@ -141,6 +147,7 @@ module _ (m : ContainerParts) (party : ℕ) (k : MembersAreKept m) where
     kept = begun_keeps m.indices party (set_call.Release owner index mode) fit k.indices;
     same_size = refl;
     grew = λ h. h;
+    alive = λ o h. h;
     steps = omega (arith, length-append m.indices.events (record { party = party; access = Local; answer = 0 } ∷ []));
     others = λ q differs. stage_else q _ differs;
   }
@@ -152,19 +159,31 @@ module _ (m : ContainerParts) (party : ℕ) (k : MembersAreKept m) where
     kept = begun_keeps m.indices party (set_call.Recover owner number mode) fit k.indices;
     same_size = refl;
     grew = λ h. absurd (omega (arith, ap (λ (os : List ℕ). length os) h, length-append m.indices.lost (owner ∷ [])));
+    alive = λ o h. lost_before o owner m.indices.lost h;
     steps = omega (arith, length-append m.indices.events (record { party = party; access = Local; answer = 0 } ∷ []));
     others = λ q differs. stage_else q _ differs;
   }
 
+  never : false ≡ true → m.indices.may_insist ≡ true
+  never h = absurd (cc)
+
+  -- where the set is asked with this step, it makes one, and insists only where it may
+  pub asks_fit : (b : Bool) → robust.fits m.indices (if b then set_move.GoOn party else set_move.Insist party) ≡ true
+      → (robust.fits m.indices (set_move.GoOn party) ≡ true) × (not b ≡ true → m.indices.may_insist ≡ true)
+  asks_fit true fit = (fit, never)
+  asks_fit false fit =
+      let both : (m.indices.may_insist ≡ true) × (robust.fits m.indices (set_move.GoOn party) ≡ true)
+      = and_parts m.indices.may_insist (robust.fits m.indices (set_move.GoOn party)) fit in (both.1, λ h. both.0)
+
   pub asked : (t : ContainerCall) → may_ask m.indices party t ≡ true → SetStays (asked_at m.indices party t)
   asked stage.Idle fit = absurd (cc)
-  asked (stage.Enter number owner) fit = goes_on fit
+  asked (stage.Enter number owner) fit = goes_on false fit never
   asked (stage.Fill number owner index next) fit = stays
   asked (stage.Show number owner index seen) fit = stays
   asked (stage.Sink owner index mode) fit = stays
   asked (stage.Hide owner index mode seen) fit = stays
   asked (stage.Leave owner index mode) fit = releases owner index mode fit
-  asked (stage.Drop owner index mode) fit = goes_on fit
+  asked (stage.Drop owner index mode) fit = goes_on false fit never
   asked (stage.Count c answer) fit = stays
   asked (stage.Raise c answer seen) fit = stays
   asked stage.Look fit = stays
@@ -172,10 +191,11 @@ module _ (m : ContainerParts) (party : ℕ) (k : MembersAreKept m) where
   asked (stage.Gather i seen next) fit = stays
   asked (stage.Search o j mode) fit = recovers o j mode fit
   asked (stage.Watch o j mode i) fit = stays
-  asked (stage.Ask o j mode i seen) fit = goes_on fit
+  asked (stage.Ask o j mode i seen) fit =
+      let both : _ × _ = asks_fit (is_shown seen) fit in goes_on (not (is_shown seen)) both.0 both.1
   asked (stage.Expel o j mode i seen) fit = stays
-  asked (stage.Clear o j mode i) fit = goes_on fit
-  asked (stage.Close o j mode) fit = goes_on fit
+  asked (stage.Clear o j mode i) fit = goes_on false fit never
+  asked (stage.Close o j mode) fit = goes_on false fit never
   asked (stage.Done c answer) fit = stays
 
 -- one step inside a call
@@ -233,8 +253,8 @@ module _ (m : ContainerParts) (party : ℕ) (k : MembersAreKept m) (few : length
   fewer : HasFewMoves m
   fewer = omega (arith, few)
 
-  inner_few : robust.fits m.indices (set_move.GoOn party) ≡ true → HasFewSteps (went m.indices party)
-  inner_few fit = omega (arith, went_length m.indices party, k.few, few)
+  inner_few : (insists : Bool) → HasFewSteps (went m.indices party insists)
+  inner_few insists = omega (arith, went_length m.indices party insists, k.few, few)
 
   consistent : IsConsistent m.indices
   consistent = k.indices.sound (omega (arith, k.few, few))
@@ -258,8 +278,8 @@ module _ (m : ContainerParts) (party : ℕ) (k : MembersAreKept m) (few : length
   pub makes : (t : ContainerCall) → may_ask m.indices party t ≡ true → KnowsOwn t → Makes t
   makes stage.Idle fit kn = absurd (cc)
   makes (stage.Enter number owner) fit kn = enter_made width party m.values start m.words m.events mine seat.first m.indices k.indices
-      s.low s.out fit
-      (inner_few fit) number owner kn
+      s.low s.out false fit
+      (inner_few false) number owner kn
   makes (stage.Fill number owner index next) fit kn = fill_made n width party m.values start m.words m.indices m.events mine seat.first now
       k.size k.small s.low s.out
       consistent.whole.cells (k.began party) few write_low inner number owner index next kn.0 kn.1
@@ -281,14 +301,14 @@ module _ (m : ContainerParts) (party : ℕ) (k : MembersAreKept m) (few : length
       s.low s.out owner
       index mode fit kn
   makes (stage.Drop owner index mode) fit kn = drop_made width party m.values start m.words m.events mine seat.first m.indices k.indices
-      s.low s.out fit
-      (inner_few fit) owner index mode kn
+      s.low s.out false fit
+      (inner_few false) owner index mode kn
   makes (stage.Count c a) fit kn = count_made n width party m.values start m.words m.indices m.events mine seat.first now k.size k.small
       s.low s.out
-      consistent.whole.cells (k.began party) few write_low inner c a kn.0 kn.1
+      consistent.whole.cells (k.began party) few write_low inner c a kn.0 kn.1 kn.2
   makes (stage.Raise c a seen) fit kn = raise_made n width party m.values start m.words m.indices m.events mine seat.first now k.size
       k.small s.low s.out
-      consistent.whole.cells (k.began party) few write_low inner c a kn.0 kn.1 seen (m.words.write == seen) refl
+      consistent.whole.cells (k.began party) few write_low inner c a kn.0 kn.1 kn.2 seen (m.words.write == seen) refl
   makes stage.Look fit kn = look_made n width party m.values start m.words m.indices m.events mine seat.first now k.size k.small s.low s.out
       consistent.whole.cells (k.began party) few write_low inner seat.saw (m.words.write == seat.saw)
   makes (stage.Visit i) fit kn = visit_made n width party m.values start m.words m.indices m.events mine seat.first now k.size k.small
@@ -305,18 +325,18 @@ module _ (m : ContainerParts) (party : ℕ) (k : MembersAreKept m) (few : length
       k.size k.small s.low s.out
       consistent.whole.cells (k.began party) few write_low inner owner number mode i kn.0 kn.1 kn.2 kn.3
   makes (stage.Ask owner number mode i seen) fit kn = ask_made width party m.values start m.words m.events mine seat.first m.indices
-      k.indices s.low s.out fit
-      (inner_few fit) owner number mode i seen kn
+      k.indices s.low s.out (not (is_shown seen)) (asks_fit m party k (is_shown seen) fit).0
+      (inner_few (not (is_shown seen))) owner number mode i seen refl kn
   makes (stage.Expel owner number mode i seen) fit kn = expel_made n width party m.values start m.words m.indices m.events mine seat.first
       now k.size k.small s.low s.out
       consistent.whole.cells (k.began party) few write_low inner owner number mode i seen kn.0 kn.1
       kn.2 kn.3 kn.5 kn.6 kn.7 (word_of m.words (Cell i) == seen) refl
   makes (stage.Clear owner number mode i) fit kn = clear_made width party m.values start m.words m.events mine seat.first m.indices
-      k.indices s.low s.out fit
-      (inner_few fit) owner number mode i kn
+      k.indices s.low s.out false fit
+      (inner_few false) owner number mode i kn
   makes (stage.Close owner number mode) fit kn = close_made width party m.values start m.words m.events mine seat.first m.indices k.indices
-      s.low s.out fit
-      (inner_few fit) owner number mode kn
+      s.low s.out false fit
+      (inner_few false) owner number mode kn
   makes (stage.Done c a) fit kn = quiet n width party m.values start m.words m.indices m.events mine seat.first now k.size k.small s.low
       s.out
       consistent.whole.cells (k.began party) few write_low inner Local 0 stage.Idle refl tt

@@ -130,7 +130,8 @@ release_gives_own i answer owner index mode (stage.Lock c count) h differs = ref
 release_gives_own i answer owner index mode (stage.Done c answered) h differs = refl
 
 -- a step of the set
-module _ (m : RobustSetState) (p : ℕ) (fit : fits m (GoOn p) ≡ true) (k : IsKept m) (few : HasFewSteps (went m p)) where
+module _ (m : RobustSetState) (p : ℕ) (insists : Bool) (fit : fits m (GoOn p) ≡ true) (k : IsKept m)
+    (few : HasFewSteps (went m p insists)) where
   abbrev s : RobustCall
   s = stage_at m.seats p
 
@@ -141,14 +142,14 @@ module _ (m : RobustSetState) (p : ℕ) (fit : fits m (GoOn p) ≡ true) (k : Is
   event = record { party = p; access = call_next s; answer = answer }
 
   c : IsConsistent m
-  c = k.sound (fewer m p fit k few)
+  c = k.sound (fewer m p insists fit k few)
 
   abbrev places' : List Place
   places' = places_after m.places p s answer
 
   step : MadeStep m.capacity p m.words (after_access m.words (call_next s)) m.places places' m.lost m.events
-      (own p (drop (seat_at m.seats p).first m.events)) event (call_take m.capacity m.decisions s answer)
-  step = went_made m p fit k few c
+      (own p (drop (seat_at m.seats p).first m.events)) event (call_take m.capacity m.decisions insists s answer)
+  step = went_made m p insists fit k few c
 
   pub not_halted : is_halted m.lost s ≡ false
   not_halted = turn (is_halted m.lost s) (and_parts (not (call_is_idle s)) (not (is_halted m.lost s))
@@ -160,7 +161,7 @@ module _ (m : RobustSetState) (p : ℕ) (fit : fits m (GoOn p) ≡ true) (k : Is
 
   -- another party's indices stay its own, unless their owner is lost
   pub keeps_for : (q o i : ℕ) → (p ≡ q → ⊥) → i < m.capacity → is_lost o m.lost ≡ false → HoldsFor m q o i
-      → HoldsFor (went m p) q o i
+      → HoldsFor (went m p insists) q o i
   keeps_for q o i differs within live holds =
       let owns : IsOwner (slice_index m.words.cells i)
       = subst (λ (x : Place). CellFits x (slice_index m.words.cells i)) holds.0 (c.whole.cells i within) in
@@ -220,7 +221,8 @@ abbrev pub JustTook : ℕ → ℕ → ℕ → List Place → List Place → List
 JustTook n p owner places places' cells' i t = answer_at t ≡ Some (Acquired (Ok i))
     → (i < n) × (place_of places' i ≡ place.Held p) × (slice_index cells' i ≡ owner) × IsUnheld places i
 
-module _ (n p : ℕ) (decisions : List (Vec Bool)) (words : RingWords) (places : List Place) (lost : List ℕ) (es : List Event)
+module _ (n p : ℕ) (decisions : List (Vec Bool)) (insists : Bool) (words : RingWords) (places : List Place) (lost : List ℕ)
+    (es : List Event)
     (many : length places ≡ n) (size : length words.cells ≡ n + 1) (i owner : ℕ) where
   no_index : (after : List Place) (cells : List ℕ) (b : Bool) (one other : RobustCall) → JustTook n p owner places after cells i one
       → JustTook n p owner places after cells i other → JustTook n p owner places after cells i (if b then one else other)
@@ -240,7 +242,7 @@ module _ (n p : ℕ) (decisions : List (Vec Bool)) (words : RingWords) (places :
 
   pub took_now : (t : RobustCall) → call_in_hand t ≡ Some (call.Acquire owner) → is_halted lost t ≡ false → Knows n words places lost p es t
       → JustTook n p owner places (places_after places p t (answer_to t)) (after_access words (call_next t)).cells i
-      (call_take n decisions t (answer_to t))
+      (call_take n decisions insists t (answer_to t))
   took_now stage.Idle is live k h = absurd (cc)
   took_now (stage.Acquire o) is live k h = no_index places words.cells (words.read == lock_mark)
       (stage.Done (call.Acquire o) (Acquired (Err IsLocked))) (claims_from n o 0 words.read) (λ h. absurd (cc))

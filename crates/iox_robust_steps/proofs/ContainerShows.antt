@@ -1,5 +1,5 @@
 -- A copy shows each member that is in at each moment of it, with its value, whoever is recovered.
-use Rattle.std.proofs.Common.{◌≡◌, ℕ, ◌+◌, ◌-◌, ◌*◌, ◌%◌, ◌^◌, ◌<◌, ◌≤◌, Bool, true, false, if◌then◌else◌, ◌==◌, ◌&&◌, Option, Some}
+use Rattle.std.proofs.Common.{◌≡◌, ℕ, ◌+◌, ◌*◌, ◌%◌, ◌^◌, ◌<◌, ◌≤◌, Bool, true, false, if◌then◌else◌, ◌==◌, ◌&&◌, Option, Some}
 use Rattle.std.proofs.Common.{None}
 use Rattle.std.proofs.Common.{List, [], ◌∷◌, ◌++◌, length, set, slice_index, take, drop, refl, sym, ◌∙◌, ap, subst, arith, append_assoc}
 use Rattle.std.proofs.Common.{length-append, mod-eq_of_lt, length-take-le, take-append-drop}
@@ -17,10 +17,9 @@ use Rattle.iox_queues.specs.Told.{own}
 use Rattle.iox_queues.specs.declared.bits.machine.Event.{Event}
 use Rattle.iox_robust_steps.specs.ContainerInside.{EachShowsInside, IsInside, MayBeMadeSo, ShowsInside, StaysTillOut, inside_after}
 use Rattle.iox_robust_steps.specs.ContainerInside.{inside_by}
-use Rattle.iox_robust_steps.specs.ContainerMoments.{IsSoUpTo}
 use Rattle.iox_robust_steps.specs.ContainerSteps.{is_shown, value_cell}
 use Rattle.iox_robust_steps.specs.ContainerStays.{MayBeStored}
-use Rattle.iox_robust_steps.specs.ContainerThroughout.{IfCopied, ShowsStaying}
+use Rattle.iox_robust_steps.specs.ContainerThroughout.{IfCopied, IsSoUpTo, ShowsStaying}
 use Rattle.iox_robust_steps.specs.ContainerTold.{AreMembersTold, CopyIsTrue, MemberTells, WasSo, shown_at}
 use Rattle.iox_robust_steps.specs.declared.container.call.MemberAnswer.{MemberAnswer}
 use Rattle.iox_robust_steps.specs.declared.container.call.MemberAnswer.TheVariants.{Added, Removed, Updated}
@@ -31,17 +30,17 @@ use Rattle.iox_robust_steps.proofs.ContainerMoments.{length_after, words_behind}
 use Rattle.iox_robust_steps.proofs.Ending.{same_cells}
 
 -- some steps, and then others
-inside_behind : (place : ℕ) (now : Option ℕ) (xs ys : List Event)
+pub inside_behind : (place : ℕ) (now : Option ℕ) (xs ys : List Event)
     → inside_after place now (xs ++ ys) ≡ inside_after place (inside_after place now xs) ys
 inside_behind place now [] ys = refl
 inside_behind place now (x ∷ xs) ys = inside_behind place (inside_by place x.party x.access x.answer now) xs ys
 
-out_behind : (n width place : ℕ) (now : Option ℕ) (xs ys : List Event) → StaysTillOut n width place now (xs ++ ys)
+pub out_behind : (n width place : ℕ) (now : Option ℕ) (xs ys : List Event) → StaysTillOut n width place now (xs ++ ys)
     → StaysTillOut n width place (inside_after place now xs) ys
 out_behind n width place now [] ys h = h
 out_behind n width place now (x ∷ xs) ys h = out_behind n width place (inside_by place x.party x.access x.answer now) xs ys h.1
 
-out_before : (n width place : ℕ) (now : Option ℕ) (xs ys : List Event) → StaysTillOut n width place now (xs ++ ys)
+pub out_before : (n width place : ℕ) (now : Option ℕ) (xs ys : List Event) → StaysTillOut n width place now (xs ++ ys)
     → StaysTillOut n width place now xs
 out_before n width place now [] ys h = tt
 out_before n width place now (x ∷ xs) ys h = (h.0, out_before n width place (inside_by place x.party x.access x.answer now) xs ys h.1)
@@ -54,13 +53,23 @@ pub answered_all : (words end : RingWords) (events : List Event) → Answered wo
 answered_all words end [] h = refl
 answered_all words end (x ∷ events) h = (h.0, answered_all (after_access words x.access) end events h.1)
 
-answered_before : (words : RingWords) (xs ys : List Event) → AreAnswered words (xs ++ ys) → AreAnswered words xs
+pub answered_before : (words : RingWords) (xs ys : List Event) → AreAnswered words (xs ++ ys) → AreAnswered words xs
 answered_before words [] ys h = refl
 answered_before words (x ∷ xs) ys h = (h.0, answered_before (after_access words x.access) xs ys h.1)
 
-answered_behind : (words : RingWords) (xs ys : List Event) → AreAnswered words (xs ++ ys) → AreAnswered (words_after words xs) ys
+pub answered_behind : (words : RingWords) (xs ys : List Event) → AreAnswered words (xs ++ ys) → AreAnswered (words_after words xs) ys
 answered_behind words [] ys h = h
 answered_behind words (x ∷ xs) ys h = answered_behind (after_access words x.access) xs ys h.1
+
+-- the first steps
+pub first_stay : (n width k i : ℕ) (events : List Event) → StaysTillOut n width i None events
+    → StaysTillOut n width i None (take k events)
+first_stay n width k i events h = out_before n width i None (take k events) (drop k events)
+    (subst (λ (es : List Event). StaysTillOut n width i None es) (sym (take-append-drop k events)) h)
+
+pub first_answered : (start : RingWords) (k : ℕ) (events : List Event) → AreAnswered start events → AreAnswered start (take k events)
+first_answered start k events h = answered_before start (take k events) (drop k events)
+    (subst (AreAnswered start) (sym (take-append-drop k events)) h)
 
 -- what the count of a place says of whose member is in
 abbrev Says : Option ℕ → ℕ → Type 0
@@ -194,7 +203,7 @@ module _ (n width place : ℕ) (within : place < n) where
       = sym (ap (λ (b : Bool). if b then (if is_shown value then Some q else None) else Some p) (eq-eqb cell place same)
       ∙ ap (λ (b : Bool). if b then Some q else None) hidden) ∙ kept in cc
 
-  count_along : (p : ℕ) (events : List Event) (words : RingWords) → length words.cells ≡ n + (n * width + 1) → AreAnswered words events
+  pub count_along : (p : ℕ) (events : List Event) (words : RingWords) → length words.cells ≡ n + (n * width + 1) → AreAnswered words events
       → StaysTillOut n width place (Some p) events
       → ((xs ys : List Event) → events ≡ xs ++ ys → inside_after place (Some p) xs ≡ Some p)
       → slice_index (words_after words events).cells place ≡ slice_index words.cells place
@@ -202,7 +211,7 @@ module _ (n width place : ℕ) (within : place < n) where
       (λ q cell value may kept same. not_out p q cell value (sym same) (may.0 (sym same)).1 kept)
       (λ cell low other same. other (sym same))
 
-  value_along : (small : n < 2 ^ 62) (p j : ℕ) → j < width → (events : List Event) (words : RingWords)
+  pub value_along : (small : n < 2 ^ 62) (p j : ℕ) → j < width → (events : List Event) (words : RingWords)
       → length words.cells ≡ n + (n * width + 1) → AreAnswered words events → StaysTillOut n width place (Some p) events
       → ((xs ys : List Event) → events ≡ xs ++ ys → inside_after place (Some p) xs ≡ Some p)
       → slice_index (words_after words events).cells (value_cell n width place j) ≡ slice_index words.cells (value_cell n width place j)
@@ -332,15 +341,6 @@ module _ (n width : ℕ) (small : n < 2 ^ 62) (values : List (Vec ℕ)) (start :
   shows_of party first events mine call.Update (Updated false) began answered told stays = tt
   shows_of party first events mine (call.Recover owner number mode) a began answered told stays = tt
 
-  -- the first steps
-  first_stay : (k : ℕ) (events : List Event) (i : ℕ) → StaysTillOut n width i None events → StaysTillOut n width i None (take k events)
-  first_stay k events i h = out_before n width i None (take k events) (drop k events)
-      (subst (λ (es : List Event). StaysTillOut n width i None es) (sym (take-append-drop k events)) h)
-
-  first_answered : (k : ℕ) (events : List Event) → AreAnswered start events → AreAnswered start (take k events)
-  first_answered k events h = answered_before start (take k events) (drop k events)
-      (subst (AreAnswered start) (sym (take-append-drop k events)) h)
-
   pub each_shows_inside : (events : List Event) (finished : List MemberFinished) → AreAnswered start events
       → AreMembersTold n width values start events finished → ((i : ℕ) → i < n → StaysTillOut n width i None events)
       → EachShowsInside n width start events finished
@@ -348,6 +348,6 @@ module _ (n width : ℕ) (small : n < 2 ^ 62) (values : List (Vec ℕ)) (start :
   each_shows_inside events (f ∷ finished) answered told stays = (
     shows_of f.party f.first (take f.last events) (own f.party (drop f.first (take f.last events))) f.call f.answer
         (omega (arith, told.0.1.begun, told.0.1.ended, length-take-le f.last events (omega (arith, told.0.1.ended))))
-        (first_answered f.last events answered) told.0.0 (λ i within. first_stay f.last events i (stays i within)),
+        (first_answered start f.last events answered) told.0.0 (λ i within. first_stay n width f.last i events (stays i within)),
     each_shows_inside events finished answered told.1 stays,
   )

@@ -28,7 +28,7 @@ use Rattle.iox_robust_steps.specs.declared.machine.Move.TheVariants.{GoOn}
 use Rattle.iox_robust_steps.specs.declared.state.Place.{Place}
 use Rattle.iox_robust_steps.specs.declared.state.Place.TheVariants as place
 use Rattle.iox_robust_steps.proofs.ContainerLost.{held_stays}
-use Rattle.iox_robust_steps.proofs.ContainerRuns.{went_length}
+use Rattle.iox_robust_steps.proofs.ContainerRuns.{asks_fit, went_length}
 use Rattle.iox_robust_steps.proofs.ContainerSet.{not_halted}
 use Rattle.iox_robust_steps.proofs.ContainerStays.{fill_stays, fits_on, hide_stays, show_stays}
 use Rattle.iox_robust_steps.proofs.ContainerWords.{count_else, count_here, count_position, next_shown}
@@ -62,8 +62,8 @@ module _ (m : ContainerParts) (party : ℕ) (k : MembersAreKept m) (few : length
       × FitsWhose (inside_by i party access (answer_of m.words access) o) (slice_index (after_access m.words access).cells i)
       (place_of places' i)
 
-  inner_few : fits m.indices (GoOn party) ≡ true → HasFewSteps (went m.indices party)
-  inner_few fit = omega (arith, went_length m.indices party, k.few, few)
+  inner_few : (insists : Bool) → HasFewSteps (went m.indices party insists)
+  inner_few insists = omega (arith, went_length m.indices party insists, k.few, few)
 
   consistent : IsConsistent m.indices
   consistent = k.indices.sound (omega (arith, k.few, few))
@@ -99,12 +99,12 @@ module _ (m : ContainerParts) (party : ℕ) (k : MembersAreKept m) (few : length
       → inner ≡ set_stage.Clear owner number mode j seen → slice_index m.indices.words.cells j ≡ seen → i ≡ j → ⊥
 
   -- the set makes a step
-  asks : (fit : fits m.indices (GoOn party) ≡ true) (i : ℕ) (o : Option ℕ) → Fits i o → ReleasesNone i → RecoversNone i
-      → FitsWhose o (count i) (place_of (went m.indices party).places i)
-  asks fit i o h releases recovers =
-      fits_on o (count i) (place_of m.indices.places i) (place_of (went m.indices party).places i)
+  asks : (insists : Bool) (fit : fits m.indices (GoOn party) ≡ true) (i : ℕ) (o : Option ℕ) → Fits i o → ReleasesNone i → RecoversNone i
+      → FitsWhose o (count i) (place_of (went m.indices party insists).places i)
+  asks insists fit i o h releases recovers =
+      fits_on o (count i) (place_of m.indices.places i) (place_of (went m.indices party insists).places i)
       (λ q shown is. held_stays n party m.indices.words m.indices.places m.indices.lost k.indices.cells inner_own
-      consistent.whole.cells q i is inner (not_halted m.indices party fit k.indices (inner_few fit)) (consistent.knows party)
+      consistent.whole.cells q i is inner (not_halted m.indices party insists fit k.indices (inner_few insists)) (consistent.knows party)
       (releases shown) (recovers shown)) h
 
   -- a call on the set that is another one
@@ -130,7 +130,7 @@ module _ (m : ContainerParts) (party : ℕ) (k : MembersAreKept m) (few : length
       (consistent.knows party) in
       let live : is_lost other m.indices.lost ≡ false
       = sym (ap (λ (t : RobustCall). is_halted m.indices.lost t) same)
-      ∙ not_halted m.indices party fit k.indices (inner_few fit) in
+      ∙ not_halted m.indices party false fit k.indices (inner_few false) in
       let held : place_of m.indices.places index ≡ place.Held party
       = ap (place_of m.indices.places) index_is ∙ (known.3 live).0 in
       let wrong : true ≡ false = sym shown ∙ ap (λ (l : ℕ). is_shown (count l)) (at ∙ sym index_is) ∙ out held in cc
@@ -181,7 +181,7 @@ module _ (m : ContainerParts) (party : ℕ) (k : MembersAreKept m) (few : length
   goes stage.Idle fit kn i inside o h = absurd (cc)
   goes (stage.Enter number owner) fit kn i inside o h = (
     tt,
-    asks fit i o h (no_release (set_call.Acquire owner) kn.2 (λ other j mode same. cc) i)
+    asks false fit i o h (no_release (set_call.Acquire owner) kn.2 (λ other j mode same. cc) i)
         (no_recovery (set_call.Acquire owner) kn.2 (λ other j mode same. cc) i),
   )
   goes (stage.Fill number owner index next) fit kn i inside o h = either_made (nat_lt next width)
@@ -200,7 +200,7 @@ module _ (m : ContainerParts) (party : ℕ) (k : MembersAreKept m) (few : length
   goes (stage.Leave owner index mode) fit kn i inside o h = (tt, h)
   goes (stage.Drop owner index mode) fit kn i inside o h = (
     tt,
-    asks fit i o h (releases_own fit owner index mode kn.4 kn.3 i)
+    asks false fit i o h (releases_own fit owner index mode kn.4 kn.3 i)
         (no_recovery (set_call.Release owner index mode) kn.4 (λ other j mode same. cc) i),
   )
   goes (stage.Count c a) fit kn i inside o h = (tt, h)
@@ -217,14 +217,15 @@ module _ (m : ContainerParts) (party : ℕ) (k : MembersAreKept m) (few : length
   goes (stage.Watch owner number mode j) fit kn i inside o h = (tt, h)
   goes (stage.Ask owner number mode j seen) fit kn i inside o h = (
     tt,
-    asks fit i o h (no_release (set_call.Recover owner number mode) (ap call_in_hand kn.3) (λ other l mode same. cc) i)
+    asks (not (is_shown seen)) (asks_fit m party k (is_shown seen) fit).0 i o h (no_release (set_call.Recover owner number mode)
+        (ap call_in_hand kn.3) (λ other l mode same. cc) i)
         (λ shown other number' mode' l found same is at.
         let wrong : set_stage.Look owner number mode j ≡ set_stage.Clear other number' mode' l found = sym kn.3 ∙ same in cc),
   )
   goes (stage.Expel owner number mode j seen) fit kn i inside o h = expels owner number mode j seen kn i inside o h
   goes (stage.Clear owner number mode j) fit kn i inside o h = (
     tt,
-    asks fit i o h (no_release (set_call.Recover owner number mode) (ap call_in_hand kn.3.1) (λ other l mode same. cc) i)
+    asks false fit i o h (no_release (set_call.Recover owner number mode) (ap call_in_hand kn.3.1) (λ other l mode same. cc) i)
         (λ shown other number' mode' l found same is at.
         let both : set_stage.Clear owner number mode j kn.3.0 ≡ set_stage.Clear other number' mode' l found = sym kn.3.1 ∙ same in
         let place_is : j ≡ l = cc in
@@ -236,7 +237,7 @@ module _ (m : ContainerParts) (party : ℕ) (k : MembersAreKept m) (few : length
   )
   goes (stage.Close owner number mode) fit kn i inside o h = (
     tt,
-    asks fit i o h (no_release (set_call.Recover owner number mode) kn.2 (λ other l mode same. cc) i)
+    asks false fit i o h (no_release (set_call.Recover owner number mode) kn.2 (λ other l mode same. cc) i)
         (λ shown other number' mode' l found same is at. let wrong : true ≡ false = sym kn.3 ∙ ap is_settling same in cc),
   )
   goes (stage.Done c a) fit kn i inside o h = (tt, h)

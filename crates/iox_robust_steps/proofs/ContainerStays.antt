@@ -15,6 +15,7 @@ use Rattle.iox_queues_steps.specs.declared.access.Word.TheVariants.{Cell}
 use Rattle.iox_queues.specs.Told.{own}
 use Rattle.iox_queues.specs.Values.{table_value}
 use Rattle.iox_queues.specs.declared.bits.machine.Event.{Event}
+use Rattle.iox_robust_steps.specs.ContainerSteps.{asked_for_place, closed}
 use Rattle.iox_robust_steps.specs.ContainerSteps.{dropped, entered, is_shown, member_is_idle, member_is_over, member_next, member_take}
 use Rattle.iox_robust_steps.specs.ContainerSteps.{value_cell, visited, visits_from, watches_from}
 use Rattle.iox_robust_steps.specs.ContainerMachine.{ContainerParts, empty_words, may_ask, member_ended, member_seat, width_of}
@@ -213,7 +214,7 @@ module _ (n width p : ℕ) (cells : List ℕ) (size : length cells ≡ n + (n * 
 
 -- one step inside a call
 module _ (m : ContainerParts) (party : ℕ) (k : MembersAreKept m) (few : length m.events + 1 < 2 ^ 64 - 1)
-    (s : MembersAreSound m.indices.capacity m) (none : m.indices.lost ≡ []) where
+    (s : MembersAreSound m.indices.capacity m) where
   abbrev n : ℕ
   n = m.indices.capacity
 
@@ -230,43 +231,15 @@ module _ (m : ContainerParts) (party : ℕ) (k : MembersAreKept m) (few : length
   KnowsOwn t = KnowsMember n width m.values (empty_words n width) m.words.cells m.indices party inner
       (member_seat m.seats party).first m.events (own party (drop (member_seat m.seats party).first m.events)) t
 
-  nobody : (owner : ℕ) → is_lost owner m.indices.lost ≡ false
-  nobody owner = ap (is_lost owner) none
-
-  -- no recovery of the set is under way
-  not_lost : (owner : ℕ) → IsLostOwner m.indices owner → ⊥
-  not_lost owner lost = let wrong : true ≡ false = sym lost.1 ∙ nobody owner in cc
+  alive : (owner : ℕ) → not (is_lost owner m.indices.lost) ≡ true → is_lost owner m.indices.lost ≡ false
+  alive owner = of (is_lost owner m.indices.lost)
+    where
+      of : (b : Bool) → not b ≡ true → b ≡ false
+      of true h = absurd (cc)
+      of false h = refl
 
   up : (index seen : ℕ) → index < n → seen ≡ slice_index m.words.cells index → successor seen ≡ seen + 1
   up index seen within is = omega (arith, is, s.low index within, few)
-
-  either_calm : (b : Bool) (one other : Access) → IsCalmAccess one → IsCalmAccess other → IsCalmAccess (if b then one else other)
-  either_calm true one other h g = h
-  either_calm false one other h g = g
-
-  -- a step that exchanges no count
-  pub calm_step : (t : ContainerCall) → KnowsOwn t → IsCalmAccess (access_at t)
-  calm_step stage.Idle kn = tt
-  calm_step (stage.Enter number owner) kn = tt
-  calm_step (stage.Fill number owner index next) kn = either_calm (nat_lt next width) (Store (Cell (value_cell n width index next)) _)
-      (Load (Cell index)) tt tt
-  calm_step (stage.Show number owner index seen) kn = tt
-  calm_step (stage.Sink owner index mode) kn = tt
-  calm_step (stage.Hide owner index mode seen) kn = tt
-  calm_step (stage.Leave owner index mode) kn = tt
-  calm_step (stage.Drop owner index mode) kn = tt
-  calm_step (stage.Count c a) kn = tt
-  calm_step (stage.Raise c a seen) kn = tt
-  calm_step stage.Look kn = tt
-  calm_step (stage.Visit i) kn = tt
-  calm_step (stage.Gather i seen next) kn = either_calm (nat_lt next width) (Load (Cell (value_cell n width i next))) (Load (Cell i)) tt tt
-  calm_step (stage.Search o j mode) kn = tt
-  calm_step (stage.Watch o j mode i) kn = tt
-  calm_step (stage.Ask o j mode i seen) kn = tt
-  calm_step (stage.Expel o j mode i seen) kn = absurd (not_lost o kn.2)
-  calm_step (stage.Clear o j mode i) kn = tt
-  calm_step (stage.Close o j mode) kn = tt
-  calm_step (stage.Done c a) kn = tt
 
   -- what a party's own step lets pass is what its call let pass more
   turns : (index seen : ℕ) (b : Bool) → index < n → seen ≡ slice_index m.words.cells index
@@ -297,6 +270,16 @@ module _ (m : ContainerParts) (party : ℕ) (k : MembersAreKept m) (few : length
   watches_passed : (owner number : ℕ) (mode : ReleaseMode) (i : ℕ) → HasPassed [] (watches_from n owner number mode i)
   watches_passed owner number mode i = either_passed (nat_lt i n) (stage.Watch owner number mode i) (stage.Close owner number mode) [] refl
       refl
+
+  place_passed : (owner number : ℕ) (mode : ReleaseMode) (i seen : ℕ) (finds : Bool)
+      → HasPassed [] (asked_for_place n owner number mode i seen finds)
+  place_passed owner number mode i seen finds = either_passed (not finds) _ _ [] (watches_passed owner number mode (successor i))
+      (either_passed (is_shown seen) (stage.Expel owner number mode i seen) (stage.Clear owner number mode i) [] refl refl)
+
+  closed_passed : (owner number : ℕ) (mode : ReleaseMode) (got : Option Answer) → HasPassed [] (closed owner number mode got)
+  closed_passed owner number mode None = refl
+  closed_passed owner number mode (Some (Acquired got)) = refl
+  closed_passed owner number mode (Some (Settled state)) = refl
 
   entered_passed : (number owner : ℕ) (got : Option Answer) → HasPassed [] (entered number owner got)
   entered_passed number owner None = refl
@@ -340,10 +323,10 @@ module _ (m : ContainerParts) (party : ℕ) (k : MembersAreKept m) (few : length
         filled_passed index next (slice_index (table_value m.values number) next) kn.1 (nat_lt next width) refl
         ∙ either_passed (nat_lt next width) (stage.Fill number owner index (next + 1)) (stage.Show number owner index answer) [] refl refl
     lets_pass (stage.Show number owner index seen) fit kn over =
-        counted_at index seen false kn.1 (kn.2 (nobody owner)).2 (kn.2 (nobody owner)).1
+        counted_at index seen false kn.1 (kn.2 (alive owner fit)).2 (kn.2 (alive owner fit)).1
     lets_pass (stage.Sink owner index mode) fit kn over = refl
     lets_pass (stage.Hide owner index mode seen) fit kn over =
-        counted_at index seen true kn.1 (kn.2 (nobody owner)).2 (kn.2 (nobody owner)).1
+        counted_at index seen true kn.1 (kn.2 (alive owner fit)).2 (kn.2 (alive owner fit)).1
     lets_pass (stage.Leave owner index mode) fit kn over = refl
     lets_pass (stage.Drop owner index mode) fit kn over = dropped_passed owner index mode got
     lets_pass (stage.Count c a) fit kn over = append-nil (passed_with c a)
@@ -357,11 +340,11 @@ module _ (m : ContainerParts) (party : ℕ) (k : MembersAreKept m) (few : length
         ∙ either_passed (nat_lt next width) (stage.Gather i seen (next + 1)) _ [] refl
         (either_passed (answer == seen) _ _ [] (visits_passed (successor i)) (visited_passed i answer))
     lets_pass (stage.Search o j mode) fit kn over = watches_passed o j mode 0
-    lets_pass (stage.Watch o j mode i) fit kn over = absurd (not_lost o kn.2)
-    lets_pass (stage.Ask o j mode i seen) fit kn over = absurd (not_lost o kn.2)
-    lets_pass (stage.Expel o j mode i seen) fit kn over = absurd (not_lost o kn.2)
-    lets_pass (stage.Clear o j mode i) fit kn over = absurd (not_lost o kn.2)
-    lets_pass (stage.Close o j mode) fit kn over = absurd (not_lost o kn.1)
+    lets_pass (stage.Watch o j mode i) fit kn over = refl
+    lets_pass (stage.Ask o j mode i seen) fit kn over = place_passed o j mode i seen finds
+    lets_pass (stage.Expel o j mode i seen) fit kn over = refl
+    lets_pass (stage.Clear o j mode i) fit kn over = watches_passed o j mode (successor i)
+    lets_pass (stage.Close o j mode) fit kn over = closed_passed o j mode got
     lets_pass (stage.Done c a) fit kn over = absurd (cc)
 
     -- a call that is over isn't in hand then
@@ -418,3 +401,41 @@ module _ (m : ContainerParts) (party : ℕ) (k : MembersAreKept m) (few : length
         of false over = λ going.
             passed_more n es e ∙ ap (λ (ps : List Passing). ps ++ passed_by n e.access) (before (busy_at t fit))
             ∙ ap (λ (a : Access). passed_so_far t ++ passed_by n a) is ∙ lets_pass t fit kn over
+
+  -- where no recovery began
+  module _ (none : m.indices.lost ≡ []) where
+    nobody : (owner : ℕ) → is_lost owner m.indices.lost ≡ false
+    nobody owner = ap (is_lost owner) none
+
+    -- no recovery of the set is under way
+    not_lost : (owner : ℕ) → IsLostOwner m.indices owner → ⊥
+    not_lost owner lost = let wrong : true ≡ false = sym lost.1 ∙ nobody owner in cc
+
+    either_calm : (b : Bool) (one other : Access) → IsCalmAccess one → IsCalmAccess other → IsCalmAccess (if b then one else other)
+    either_calm true one other h g = h
+    either_calm false one other h g = g
+
+    -- a step that exchanges no count
+    pub calm_step : (t : ContainerCall) → KnowsOwn t → IsCalmAccess (access_at t)
+    calm_step stage.Idle kn = tt
+    calm_step (stage.Enter number owner) kn = tt
+    calm_step (stage.Fill number owner index next) kn = either_calm (nat_lt next width) (Store (Cell (value_cell n width index next)) _)
+        (Load (Cell index)) tt tt
+    calm_step (stage.Show number owner index seen) kn = tt
+    calm_step (stage.Sink owner index mode) kn = tt
+    calm_step (stage.Hide owner index mode seen) kn = tt
+    calm_step (stage.Leave owner index mode) kn = tt
+    calm_step (stage.Drop owner index mode) kn = tt
+    calm_step (stage.Count c a) kn = tt
+    calm_step (stage.Raise c a seen) kn = tt
+    calm_step stage.Look kn = tt
+    calm_step (stage.Visit i) kn = tt
+    calm_step (stage.Gather i seen next) kn = either_calm (nat_lt next width) (Load (Cell (value_cell n width i next))) (Load (Cell i))
+        tt tt
+    calm_step (stage.Search o j mode) kn = tt
+    calm_step (stage.Watch o j mode i) kn = tt
+    calm_step (stage.Ask o j mode i seen) kn = tt
+    calm_step (stage.Expel o j mode i seen) kn = absurd (not_lost o kn.2)
+    calm_step (stage.Clear o j mode i) kn = tt
+    calm_step (stage.Close o j mode) kn = tt
+    calm_step (stage.Done c a) kn = tt

@@ -13,10 +13,9 @@ use Rattle.iox_queues_steps.specs.declared.access.Word.TheVariants.{Write, Read,
 use Rattle.iox_queues.specs.Moments.{words_after}
 use Rattle.iox_queues.specs.Told.{own}
 use Rattle.iox_queues.specs.declared.bits.machine.Event.{Event}
-use Rattle.iox_robust_steps.specs.ContainerMoments.{IsSoUpTo}
 use Rattle.iox_robust_steps.specs.ContainerSteps.{is_shown, value_cell}
 use Rattle.iox_robust_steps.specs.ContainerStays.{MayBeMade, StaysTillTakenOut, stored_by, whose_after}
-use Rattle.iox_robust_steps.specs.ContainerThroughout.{EachShowsWhoStays, IfCopied, IsTheirs, ShowsStaying, ShowsWhoStays}
+use Rattle.iox_robust_steps.specs.ContainerThroughout.{EachShowsWhoStays, IfCopied, IsSoUpTo, IsTheirs, ShowsStaying, ShowsWhoStays}
 use Rattle.iox_robust_steps.specs.ContainerTold.{AreMembersTold, CopyIsTrue, MemberTells, WasSo, shown_at}
 use Rattle.iox_robust_steps.specs.declared.container.call.MemberAnswer.{MemberAnswer}
 use Rattle.iox_robust_steps.specs.declared.container.call.MemberAnswer.TheVariants.{Added, Removed, Updated}

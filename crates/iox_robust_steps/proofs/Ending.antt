@@ -185,10 +185,10 @@ locked_ended (x ∷ xs) party first last s h = or_on (has_locked x.call x.answer
     (or_true (has_locked x.call x.answer))
 
 -- a set that a call locked was locked by one after a party went on
-pub locked_on : (m : RobustSetState) (party : ℕ) → IsLockedByRelease m → IsLockedByRelease (went m party)
-locked_on m party (inl ended) = inl (locked_among m.finished
+pub locked_on : (m : RobustSetState) (party : ℕ) (insists : Bool) → IsLockedByRelease m → IsLockedByRelease (went m party insists)
+locked_on m party insists (inl ended) = inl (locked_among m.finished
     (call_ended party (seat_at m.seats party).first (length m.events) (stage_at m.seats party)) ended)
-locked_on m party (inr going) = elim (cases_eq going.0 party) [
+locked_on m party insists (inr going) = elim (cases_eq going.0 party) [
   | inl same ↦ inl (locked_ended m.finished party (seat_at m.seats party).first (length m.events) (stage_at m.seats party)
       (ap (λ (q : ℕ). is_locking (stage_at m.seats q)) (sym same) ∙ going.1))
   | inr differs ↦ inr (

@@ -3,7 +3,7 @@ use Rattle.std.proofs.Common.{◌≡◌, ℕ, ◌+◌, ◌%◌, ◌^◌, ◌<◌
 use Rattle.std.proofs.Common.{nat_lt, List, [], ◌∷◌, ◌++◌, length, set, slice_index, refl, sym, ◌∙◌, ap, subst, arith, mod-eq_of_lt}
 use Rattle.std.specs.Global.{Vec}
 use Rattle.std.proofs.Math.Seq.{get_or-set_same, get_or-set_other}
-use Rattle.std.proofs.lemmas.Bool.{cases_eq, eq-eqb, eqb-false, ltb-false}
+use Rattle.std.proofs.lemmas.Bool.{cases_eq, eq-eqb, eqb-false, ltb-false, or_left, or_right}
 use Rattle.iox_container.specs.declared.release.ReleaseMode.{ReleaseMode}
 use Rattle.iox_container.specs.declared.release.ReleaseMode.TheVariants.{LockIfLastIndex, Default}
 use Rattle.iox_container.specs.declared.release.ReleaseState.TheVariants.{Locked, Unlocked}
@@ -11,6 +11,7 @@ use Rattle.iox_queues_steps.specs.Access.{RingWords, after_access, after_store, 
 use Rattle.iox_queues_steps.specs.declared.access.Word.TheVariants.{Cell}
 use Rattle.iox_queues.specs.declared.bits.machine.Event.{Event}
 use Rattle.iox_robust_steps.specs.Steps.{call_next, call_take, claims_from, decided, is_freed, is_marked_by, lock_mark, looks_from}
+use Rattle.iox_robust_steps.specs.Steps.{is_seen_of}
 use Rattle.iox_robust_steps.specs.Steps.{reserved, scans_from, settles}
 use Rattle.iox_robust_steps.specs.Told.{AreFreed, FreedBelow, FreedBy}
 use Rattle.iox_robust_steps.specs.Machine.{call_ended, is_halted, is_lost}
@@ -188,7 +189,8 @@ looks_freed n decisions lost cells owner number i Default false e h
     = (h.0, h.1, h.2, λ j low is. h.3 j (omega (arith, low, ltb-false i n e)) is)
 
 -- the call of a party in hand after its own step
-module _ (n p : ℕ) (decisions : List (Vec Bool)) (words : RingWords) (places : List Place) (lost : List ℕ) (es : List Event)
+module _ (n p : ℕ) (decisions : List (Vec Bool)) (insists : Bool) (words : RingWords) (places : List Place) (lost : List ℕ)
+    (es : List Event)
     (small : n < 2 ^ 62)
     (size : length words.cells ≡ n + 1) where
   abbrev after : RobustCall → List ℕ
@@ -233,7 +235,7 @@ module _ (n p : ℕ) (decisions : List (Vec Bool)) (words : RingWords) (places :
   answer s = answer_of words (call_next s)
 
   pub frees_next : (s : RobustCall) → Knows n words places lost p es s → FreesSoFar n decisions lost (after s) s
-      → FreesSoFar n decisions lost (after s) (call_take n decisions s (answer s))
+      → FreesSoFar n decisions lost (after s) (call_take n decisions insists s (answer s))
   frees_next stage.Idle k h = tt
   frees_next (stage.Acquire owner) k h
       = either_free words.cells (words.read == lock_mark) _ _ tt (claims_freed words.cells owner 0 words.read)
@@ -246,31 +248,26 @@ module _ (n p : ℕ) (decisions : List (Vec Bool)) (words : RingWords) (places :
   frees_next (stage.Confirm owner i) k h = tt
   frees_next (stage.Undo owner i) k h = tt
   frees_next (stage.Free owner i mode) k h = settles_freed (after (stage.Free owner i mode)) owner i mode
-  frees_next (stage.Look owner number mode i) k h = test (is_freed decisions owner number i (word_of words (Cell i))) refl
+  frees_next (stage.Look owner number mode i) k h = test (is_freed decisions insists owner number i (word_of words (Cell i))) refl
     where
-      other_cell : is_freed decisions owner number i (word_of words (Cell i)) ≡ false → decided decisions number i ≡ true
+      other_cell : is_freed decisions insists owner number i (word_of words (Cell i)) ≡ false → decided decisions number i ≡ true
           → IsNotOf owner (slice_index words.cells i)
       other_cell not_freed is = (
-        λ same. differs (ap (λ (b : Bool). (b || (word_of words (Cell i) == reserved owner)) && decided decisions number i)
-            (eq-eqb (word_of words (Cell i)) owner (cell_at i k.2 ∙ same)) ∙ is),
-        λ same. differs (both (word_of words (Cell i) == owner)
-            (ap (λ (b : Bool). ((word_of words (Cell i) == owner) || b) && decided decisions number i)
-            (eq-eqb (word_of words (Cell i)) (reserved owner) (cell_at i k.2 ∙ same)))),
+        λ same. differs (or_left (word_of words (Cell i) == owner) (word_of words (Cell i) == reserved owner)
+            (eq-eqb (word_of words (Cell i)) owner (cell_at i k.2 ∙ same))),
+        λ same. differs (or_right (word_of words (Cell i) == owner) (word_of words (Cell i) == reserved owner)
+            (eq-eqb (word_of words (Cell i)) (reserved owner) (cell_at i k.2 ∙ same))),
       )
         where
-          differs : is_freed decisions owner number i (word_of words (Cell i)) ≡ true → ⊥
-          differs freed = let wrong : true ≡ false = sym freed ∙ not_freed in cc
+          freed_if : (b : Bool) → is_seen_of owner (word_of words (Cell i)) ≡ b → b ≡ true
+              → is_freed decisions insists owner number i (word_of words (Cell i)) ≡ true
+          freed_if b seen so = ap (λ (c : Bool). c && (insists || decided decisions number i)) (seen ∙ so)
+              ∙ or_right insists (decided decisions number i) is
 
-          or_yes : (b : Bool) → (b || true) ≡ true
-          or_yes true = refl
-          or_yes false = refl
+          differs : is_seen_of owner (word_of words (Cell i)) ≡ true → ⊥
+          differs seen = let wrong : true ≡ false = sym (freed_if true seen refl) ∙ not_freed in cc
 
-          both : (b : Bool)
-              → is_freed decisions owner number i (word_of words (Cell i)) ≡ ((b || true) && decided decisions number i)
-              → is_freed decisions owner number i (word_of words (Cell i)) ≡ true
-          both b h = h ∙ ap (λ (c : Bool). c && decided decisions number i) (or_yes b) ∙ is
-
-      test : (b : Bool) → is_freed decisions owner number i (word_of words (Cell i)) ≡ b
+      test : (b : Bool) → is_freed decisions insists owner number i (word_of words (Cell i)) ≡ b
           → FreesSoFar n decisions lost words.cells (if b then stage.Clear owner number mode i (word_of words (Cell i))
           else looks_from n owner number mode (successor i))
       test true e = (h, inl (sym (cell_at i k.2)))

@@ -115,7 +115,8 @@ same_party : (p q : ℕ) → ◌≡◌ {A = Place} (place.Held p) (place.Held q)
 same_party p q h = cc
 
 -- one step of a party at each stage
-module _ (n p : ℕ) (decisions : List (Vec Bool)) (words : RingWords) (places : List Place) (lost : List ℕ) (events es : List Event)
+module _ (n p : ℕ) (decisions : List (Vec Bool)) (insists : Bool) (words : RingWords) (places : List Place) (lost : List ℕ)
+    (events es : List Event)
     (w : WordsFit n words places events) (small : n < 2 ^ 62) (size : length words.cells ≡ n + 1) (many : length places ≡ n)
     (few : length events + 1 < 2 ^ 64 - 1) where
   abbrev cell : ℕ → ℕ
@@ -163,7 +164,7 @@ module _ (n p : ℕ) (decisions : List (Vec Bool)) (words : RingWords) (places :
 
   acquire_made : (owner : ℕ) → IsOwner owner → MoveNone es
       → MadeStep n p words words places places lost events es (of (Load Read) words.read)
-      (call_take n decisions (stage.Acquire owner) words.read)
+      (call_take n decisions insists (stage.Acquire owner) words.read)
   acquire_made owner owns none = quiet_made (Load Read) words.read _ (λ j. refl) (λ j. refl)
       (test (words.read == lock_mark) refl)
     where
@@ -182,7 +183,7 @@ module _ (n p : ℕ) (decisions : List (Vec Bool)) (words : RingWords) (places :
       → ((j : ℕ) → j < i → list_any (saw_filled j) es ≡ true)
       → MadeStep n p words (after_access words (Exchange (Cell i) 0 (reserved owner))) places
       (places_after places p (stage.Claim owner i count) (cell i)) lost events es (of (Exchange (Cell i) 0 (reserved owner)) (cell i))
-      (call_take n decisions (stage.Claim owner i count) (cell i))
+      (call_take n decisions insists (stage.Claim owner i count) (cell i))
   claim_made owner i count owns none within below saw = test (cell i == 0) refl
     where
       gave : (j : ℕ) → gave_by j (Exchange (Cell i) 0 (reserved owner)) (cell i) ≡ 0
@@ -256,7 +257,7 @@ module _ (n p : ℕ) (decisions : List (Vec Bool)) (words : RingWords) (places :
       → (place_of places i ≡ place.Claimed p) × (slice_index words.cells i ≡ reserved owner)
       → MadeStep n p words (after_access words (Exchange Read count (successor count))) places
       (places_after places p (stage.Count owner i count) words.read) lost events es (of (Exchange Read count (successor count)) words.read)
-      (call_take n decisions (stage.Count owner i count) words.read)
+      (call_take n decisions insists (stage.Count owner i count) words.read)
   count_made owner i count owns none within below stands = test (words.read == count) refl
     where
       moves : MoveNone (es ++ of (Exchange Read count (successor count)) words.read ∷ [])
@@ -454,22 +455,22 @@ module _ (n p : ℕ) (decisions : List (Vec Bool)) (words : RingWords) (places :
 
   look_made : (owner number i : ℕ) (mode : ReleaseMode) → IsOwner owner → TakeNone es → i < n → is_lost owner lost ≡ true
       → MadeStep n p words words places places lost events es (of (Load (Cell i)) (cell i))
-      (call_take n decisions (stage.Look owner number mode i) (cell i))
+      (call_take n decisions insists (stage.Look owner number mode i) (cell i))
   look_made owner number i mode owns none within is =
-      quiet_made (Load (Cell i)) (cell i) _ (λ j. refl) (λ j. refl) (test (is_freed decisions owner number i (cell i)) refl)
+      quiet_made (Load (Cell i)) (cell i) _ (λ j. refl) (λ j. refl) (test (is_freed decisions insists owner number i (cell i)) refl)
     where
       takes : TakeNone (es ++ of (Load (Cell i)) (cell i) ∷ [])
       takes = takes_none es (of (Load (Cell i)) (cell i)) (λ j. refl) none
 
-      seen : is_freed decisions owner number i (cell i) ≡ true → (cell i ≡ owner) ⊎ (cell i ≡ reserved owner)
+      seen : is_freed decisions insists owner number i (cell i) ≡ true → (cell i ≡ owner) ⊎ (cell i ≡ reserved owner)
       seen h = go (or_cases (cell i == owner) (cell i == reserved owner)
-          (and_parts ((cell i == owner) || (cell i == reserved owner)) (decided decisions number i) h).0)
+          (and_parts ((cell i == owner) || (cell i == reserved owner)) (insists || decided decisions number i) h).0)
         where
           go : ((cell i == owner) ≡ true) ⊎ ((cell i == reserved owner) ≡ true) → (cell i ≡ owner) ⊎ (cell i ≡ reserved owner)
           go (inl e) = inl (eqb-true (cell i) owner e)
           go (inr e) = inr (eqb-true (cell i) (reserved owner) e)
 
-      test : (b : Bool) → is_freed decisions owner number i (cell i) ≡ b
+      test : (b : Bool) → is_freed decisions insists owner number i (cell i) ≡ b
           → Knows n words places lost p (es ++ of (Load (Cell i)) (cell i) ∷ [])
           (if b then stage.Clear owner number mode i (cell i) else looks_from n owner number mode (successor i))
       test true e = (owns, takes, within, is, seen e)
@@ -557,7 +558,7 @@ module _ (n p : ℕ) (decisions : List (Vec Bool)) (words : RingWords) (places :
 
   settle_made : (c : Call) → Settles c es
       → MadeStep n p words words places places lost events es (of (Load Read) words.read)
-      (call_take n decisions (stage.Settle c) words.read)
+      (call_take n decisions insists (stage.Settle c) words.read)
   settle_made c k = quiet_made (Load Read) words.read _ (λ j. refl) (λ j. refl) (test (words.read == lock_mark) refl)
     where
       still : Settles c (es ++ of (Load Read) words.read ∷ [])
@@ -572,7 +573,7 @@ module _ (n p : ℕ) (decisions : List (Vec Bool)) (words : RingWords) (places :
 
   scan_made : (c : Call) (i count : ℕ) → Settles c es → i < n → QuietBelow words places count i
       → MadeStep n p words words places places lost events es (of (Load (Cell i)) (cell i))
-      (call_take n decisions (stage.Scan c i count) (cell i))
+      (call_take n decisions insists (stage.Scan c i count) (cell i))
   scan_made c i count k within quiet = quiet_made (Load (Cell i)) (cell i) _ (λ j. refl) (λ j. refl) (test (cell i == 0) refl)
     where
       still : Settles c (es ++ of (Load (Cell i)) (cell i) ∷ [])
@@ -606,7 +607,7 @@ module _ (n p : ℕ) (decisions : List (Vec Bool)) (words : RingWords) (places :
 
   lock_made : (c : Call) (count : ℕ) → Settles c es → QuietBelow words places count n
       → MadeStep n p words (after_access words (Exchange Read count lock_mark)) places places lost events es
-      (of (Exchange Read count lock_mark) words.read) (call_take n decisions (stage.Lock c count) words.read)
+      (of (Exchange Read count lock_mark) words.read) (call_take n decisions insists (stage.Lock c count) words.read)
   lock_made c count k quiet = test (words.read == count) refl
     where
       still : Settles c (es ++ of (Exchange Read count lock_mark) words.read ∷ [])
@@ -647,7 +648,7 @@ module _ (n p : ℕ) (decisions : List (Vec Bool)) (words : RingWords) (places :
 
   pub made : (s : RobustCall) → call_is_idle s ≡ false → is_halted lost s ≡ false → Knows n words places lost p es s
       → MadeStep n p words (after_access words (call_next s)) places (places_after places p s (answer_of words (call_next s))) lost
-      events es (of (call_next s) (answer_of words (call_next s))) (call_take n decisions s (answer_of words (call_next s)))
+      events es (of (call_next s) (answer_of words (call_next s))) (call_take n decisions insists s (answer_of words (call_next s)))
   made stage.Idle busy live k = absurd (cc)
   made (stage.Acquire owner) busy live k = acquire_made owner k.0 k.1
   made (stage.Claim owner i count) busy live k = claim_made owner i count k.0 k.1 k.2 k.3 k.4

@@ -7,6 +7,7 @@ pub mod Asked
 pub mod OfCalls
 pub mod Theirs
 pub mod Holders
+pub mod Named
 pub mod Ending
 pub mod Freeing
 pub mod Recovering
@@ -27,10 +28,13 @@ pub mod ContainerStays
 pub mod ContainerStaying
 pub mod ContainerOfCalls
 pub mod ContainerAsked
+pub mod ContainerEnds
+pub mod ContainerShown
 pub mod ContainerKeeps
 pub mod ContainerCopies
 pub mod ContainerCalls
 pub mod ContainerMoments
 pub mod ContainerThroughout
 pub mod ContainerShows
+pub mod ContainerPassing
 pub mod ContainerOrderly

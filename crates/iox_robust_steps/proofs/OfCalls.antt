@@ -20,7 +20,7 @@ use Rattle.iox_robust_steps.specs.declared.call.RobustCall.{RobustCall}
 use Rattle.iox_robust_steps.specs.declared.call.RobustCall.TheVariants as stage
 use Rattle.iox_robust_steps.specs.declared.machine.Finished.{Finished}
 use Rattle.iox_robust_steps.specs.declared.machine.Move.{Move}
-use Rattle.iox_robust_steps.specs.declared.machine.Move.TheVariants.{Begin, GoOn}
+use Rattle.iox_robust_steps.specs.declared.machine.Move.TheVariants.{Begin, GoOn, Insist}
 use Rattle.iox_robust_steps.specs.declared.state.Seat.{Seat}
 use Rattle.iox_queues.proofs.Spans.{IsOneOf, of_calls_on}
 use Rattle.iox_queues.proofs.Turns.{steps_tell_calls}
@@ -47,18 +47,18 @@ busy (stage.Scan d place count) c h = refl
 busy (stage.Lock d count) c h = refl
 busy (stage.Done d answer) c h = refl
 
-module _ (n : ℕ) (decisions : List (Vec Bool)) (party first number answer : ℕ) where
+module _ (n : ℕ) (decisions : List (Vec Bool)) (insists : Bool) (party first number answer : ℕ) where
   abbrev step : RobustCall → Event
   step s = record { party = party; access = call_next s; answer = answer }
 
   stays : (s : RobustCall) (c : Call) → call_in_hand s ≡ Some c → call_is_over s ≡ false
-      → begun_at (record { stage = call_take n decisions s answer; first = first }) ≡ Some first
+      → begun_at (record { stage = call_take n decisions insists s answer; first = first }) ≡ Some first
   stays s c h over = ap (λ (b : Bool). if b then None else Some first)
-      (busy (call_take n decisions s answer) c (same_call n decisions s answer c h over))
+      (busy (call_take n decisions insists s answer) c (same_call n decisions insists s answer c h over))
 
   went_one : (s : RobustCall) → call_is_idle s ≡ false
       → IsOneOf (step s) number (begun_at (record { stage = s; first = first }))
-      (begun_at (record { stage = call_take n decisions s answer; first = first })) (spans_ended (call_ended party first number s))
+      (begun_at (record { stage = call_take n decisions insists s answer; first = first })) (spans_ended (call_ended party first number s))
   went_one stage.Idle in_call = absurd (cc)
   went_one (stage.Acquire owner) in_call = inr (inl (first, refl, refl, stays (stage.Acquire owner) _ refl refl, refl))
   went_one (stage.Claim owner place count) in_call
@@ -88,22 +88,23 @@ not_true : (b : Bool) → not b ≡ true → b ≡ false
 not_true true h = absurd (cc)
 not_true false h = refl
 
-pub went_counted : (m : RobustSetState) (party : ℕ) → fits m (GoOn party) ≡ true → StepsAreOfCalls m → StepsAreOfCalls (went m party)
-went_counted m party fit k =
+pub went_counted : (m : RobustSetState) (party : ℕ) (insists : Bool) → fits m (GoOn party) ≡ true → StepsAreOfCalls m
+    → StepsAreOfCalls (went m party insists)
+went_counted m party insists fit k =
     let parts : (nat_lt party (length m.seats) ≡ true) × (_ ≡ true)
     = and_parts (nat_lt party (length m.seats)) _ fit in
     let answer : ℕ = answer_of m.words (call_next (stage_at m.seats party)) in
     let seat : Seat = record
-    { stage = call_take m.capacity m.decisions (stage_at m.seats party) answer; first = (seat_at m.seats party).first } in
+    { stage = call_take m.capacity m.decisions insists (stage_at m.seats party) answer; first = (seat_at m.seats party).first } in
     let event : Event = record { party = party; access = call_next (stage_at m.seats party); answer = answer } in
     let ended : List Finished = call_ended party (seat_at m.seats party).first (length m.events) (stage_at m.seats party) in
-    subst (λ (ss : List Span). AreOfCalls (went m party).events ss (λ (q : ℕ). begun_at (seat_at (went m party).seats q)))
+    subst (λ (ss : List Span). AreOfCalls (went m party insists).events ss (λ (q : ℕ). begun_at (seat_at (went m party insists).seats q)))
     (sym (ended_more m.finished ended))
     (of_calls_on m.events event (spans_ended m.finished) (spans_ended ended) (λ (q : ℕ). begun_at (seat_at m.seats q))
-    (λ (q : ℕ). begun_at (seat_at (went m party).seats q)) k
+    (λ (q : ℕ). begun_at (seat_at (went m party insists).seats q)) k
     (subst (λ (s : Seat). IsOneOf event (length m.events) (begun_at (seat_at m.seats party)) (begun_at s) (spans_ended ended))
     (sym (seat_here m.seats party seat (ltb-true party (length m.seats) parts.0)))
-    (went_one m.capacity m.decisions party (seat_at m.seats party).first (length m.events) answer (stage_at m.seats party)
+    (went_one m.capacity m.decisions insists party (seat_at m.seats party).first (length m.events) answer (stage_at m.seats party)
     (not_true (call_is_idle (stage_at m.seats party)) (and_parts (not (call_is_idle (stage_at m.seats party))) _ parts.1).0)))
     (λ q differs. ap begun_at (seat_else m.seats party q seat (λ same. differs (sym same)))))
 
@@ -127,8 +128,9 @@ begun_counted m party c fit k =
     ))
     (λ q differs. ap begun_at (seat_else m.seats party q seat (λ same. differs (sym same)))))
 
-pub start_counted : (capacity parties : ℕ) (decisions : List (Vec Bool)) → StepsAreOfCalls (start capacity parties decisions)
-start_counted capacity parties decisions = record {
+pub start_counted : (capacity parties : ℕ) (decisions : List (Vec Bool)) (may_insist : Bool)
+    → StepsAreOfCalls (start capacity parties decisions may_insist)
+start_counted capacity parties decisions may_insist = record {
   steps = λ q. subst (λ (o : Option ℕ). [] ≡ [] ++ span_in_hand q [] o) (sym (nobody q)) refl;
   locals = λ q. subst (λ (o : Option ℕ). [] ≡ [] ++ bound_in_hand o) (sym (nobody q)) refl;
   within = tt;
@@ -146,6 +148,15 @@ made_step m (Begin party c) = record {
   its = refl;
 }
 made_step m (GoOn party) = record {
+  event = record {
+    party = party;
+    access = call_next (stage_at m.seats party);
+    answer = answer_of m.words (call_next (stage_at m.seats party));
+  };
+  added = refl;
+  its = refl;
+}
+made_step m (Insist party) = record {
   event = record {
     party = party;
     access = call_next (stage_at m.seats party);
@@ -183,10 +194,10 @@ none_ended party first last (stage.Scan c place count) going = refl
 none_ended party first last (stage.Lock c count) going = refl
 none_ended party first last (stage.Done c a) going = absurd (cc)
 
-module _ (n : ℕ) (decisions : List (Vec Bool)) (before : List Finished) (party first last answer : ℕ) where
+module _ (n : ℕ) (decisions : List (Vec Bool)) (insists : Bool) (before : List Finished) (party first last answer : ℕ) where
   -- the last step of a call ends it, and no other one is in hand then
   ends_it : (s : RobustCall) → call_is_over s ≡ true
-      → (call_in_hand (call_take n decisions s answer) ≡ None)
+      → (call_in_hand (call_take n decisions insists s answer) ≡ None)
       × EndsOne Call Finished calls_of.whose calls_of.which before (before ++ call_ended party first last s) party (call_in_hand s)
   ends_it (stage.Idle) over = absurd (cc)
   ends_it (stage.Acquire owner) over = absurd (cc)
@@ -210,6 +221,34 @@ module _ (n : ℕ) (decisions : List (Vec Bool)) (before : List Finished) (party
     },
   )
 
+-- an access of a party, inside its call or as the last step of it
+module _ (m : RobustSetState) (party : ℕ) (insists : Bool) (within : party < length m.seats) where
+  abbrev got : ℕ
+  got = answer_of m.words (call_next (stage_at m.seats party))
+
+  abbrev onward : RobustCall
+  onward = call_take m.capacity m.decisions insists (stage_at m.seats party) got
+
+  goes_on : call_is_over (stage_at m.seats party) ≡ false
+      → LeavesCalls Call (hands m) (hands (went m party insists)) party (hands m party) × ((went m party insists).finished ≡ m.finished)
+  goes_on going = (
+    leaves m (went m party insists) party (record { stage = onward; first = (seat_at m.seats party).first }) (hands m party) refl within
+        (keeps_call m.capacity m.decisions insists (stage_at m.seats party) got going),
+    ap (λ (fs : List Finished). m.finished ++ fs)
+        (none_ended party (seat_at m.seats party).first (length m.events) (stage_at m.seats party) going) ∙ append-nil m.finished,
+  )
+
+  ends_so : call_is_over (stage_at m.seats party) ≡ true
+      → LeavesCalls Call (hands m) (hands (went m party insists)) party None
+      × EndsOne Call Finished calls_of.whose calls_of.which m.finished (went m party insists).finished party (hands m party)
+  ends_so over =
+      let both : (call_in_hand onward ≡ None) × _
+      = ends_it m.capacity m.decisions insists m.finished party (seat_at m.seats party).first (length m.events) got
+      (stage_at m.seats party) over in (
+        leaves m (went m party insists) party (record { stage = onward; first = (seat_at m.seats party).first }) None refl within both.0,
+        both.1,
+      )
+
 goes : (m : RobustSetState) (step : Move) → fits m step ≡ true → ends m step ≡ false
     → LeavesCalls Call (hands m) (hands (happens m step)) (party_of step) (call_of_step m step)
     × ((happens m step).finished ≡ m.finished)
@@ -218,29 +257,15 @@ goes m (Begin party c) fit going = (
       (is_there m.seats party _ fit) (begun_call m.capacity c),
   refl,
 )
-goes m (GoOn party) fit going =
-    let answer : ℕ = answer_of m.words (call_next (stage_at m.seats party)) in (
-      leaves m (went m party) party
-          (record { stage = call_take m.capacity m.decisions (stage_at m.seats party) answer; first = (seat_at m.seats party).first })
-          (hands m party) refl (is_there m.seats party _ fit) (keeps_call m.capacity m.decisions (stage_at m.seats party) answer going),
-      ap (λ (fs : List Finished). m.finished ++ fs)
-          (none_ended party (seat_at m.seats party).first (length m.events) (stage_at m.seats party) going) ∙ append-nil m.finished,
-    )
+goes m (GoOn party) fit going = goes_on m party false (is_there m.seats party _ fit) going
+goes m (Insist party) fit going = goes_on m party true (is_there m.seats party _ (and_parts m.may_insist _ fit).1) going
 
 ended : (m : RobustSetState) (step : Move) → fits m step ≡ true → ends m step ≡ true
     → LeavesCalls Call (hands m) (hands (happens m step)) (party_of step) None
     × EndsOne Call Finished calls_of.whose calls_of.which m.finished (happens m step).finished (party_of step) (call_of_step m step)
 ended m (Begin party c) fit over = absurd (cc)
-ended m (GoOn party) fit over =
-    let answer : ℕ = answer_of m.words (call_next (stage_at m.seats party)) in
-    let both : (call_in_hand (call_take m.capacity m.decisions (stage_at m.seats party) answer) ≡ None) × _
-    = ends_it m.capacity m.decisions m.finished party (seat_at m.seats party).first (length m.events) answer (stage_at m.seats party)
-    over in (
-      leaves m (went m party) party
-          (record { stage = call_take m.capacity m.decisions (stage_at m.seats party) answer; first = (seat_at m.seats party).first })
-          None refl (is_there m.seats party _ fit) both.0,
-      both.1,
-    )
+ended m (GoOn party) fit over = ends_so m party false (is_there m.seats party _ fit) over
+ended m (Insist party) fit over = ends_so m party true (is_there m.seats party _ (and_parts m.may_insist _ fit).1) over
 
 pub steps_tell : (m : RobustSetState) (step : Move) (r : Stepped) (n : RobustSetState) → StepsTo m step r n → TellsStep m step r n
 steps_tell m step r n h = steps_tell_calls RobustSetState Move fits ends happens Call Finished calls_of m step (party_of step)

@@ -22,21 +22,21 @@ use Rattle.iox_robust_steps.specs.declared.call.Call.TheVariants as call
 use Rattle.iox_robust_steps.specs.declared.call.RobustCall.{RobustCall}
 use Rattle.iox_robust_steps.specs.declared.call.RobustCall.TheVariants as stage
 use Rattle.iox_robust_steps.specs.declared.machine.Move.{Move}
-use Rattle.iox_robust_steps.specs.declared.machine.Move.TheVariants.{Begin, GoOn}
+use Rattle.iox_robust_steps.specs.declared.machine.Move.TheVariants.{Begin, GoOn, Insist}
 use Rattle.iox_robust_steps.specs.declared.state.Place.{Place}
 use Rattle.iox_robust_steps.specs.declared.state.Place.TheVariants as place
 use Rattle.iox_robust_steps.proofs.Theirs.{OfRecovery, asked_of}
 
-module _ (n : ℕ) (decisions : List (Vec Bool)) (words : RingWords) (places : List Place) where
+module _ (n : ℕ) (decisions : List (Vec Bool)) (may : Bool) (words : RingWords) (places : List Place) where
   -- a step that changes nothing
-  unchanged : (o : Option Call) → IfRecovers n decisions words words places places o
+  unchanged : (o : Option Call) → IfRecovers n decisions may words words places places o
   unchanged None = tt
   unchanged (Some (call.Acquire owner)) = tt
   unchanged (Some (call.Release owner index mode)) = tt
   unchanged (Some (call.Recover owner number mode)) = record { each = λ i within. inl (refl, refl); count = inl refl }
 
   -- one that locks the set
-  locking : (b : Bool) (o : Option Call) → IfRecovers n decisions words (if b then after_store words Read lock_mark else words) places
+  locking : (b : Bool) (o : Option Call) → IfRecovers n decisions may words (if b then after_store words Read lock_mark else words) places
       places o
   locking false o = unchanged o
   locking true None = tt
@@ -49,8 +49,8 @@ module _ (n : ℕ) (decisions : List (Vec Bool)) (words : RingWords) (places : L
     cell = word_of words (Cell j)
 
     -- one that frees an index, if its cell is what it saw there
-    clearing : OfRecovery n decisions owner number (stage.Clear owner number mode j seen) → (b : Bool) → (cell == seen) ≡ b
-        → RecoversSo n decisions words (if b then after_store words (Cell j) 0 else words) places
+    clearing : OfRecovery n decisions may owner number (stage.Clear owner number mode j seen) → (b : Bool) → (cell == seen) ≡ b
+        → RecoversSo n decisions may words (if b then after_store words (Cell j) 0 else words) places
         (if b then set places j place.Empty else places) owner number
     clearing k false e = record { each = λ i within. inl (refl, refl); count = inl refl }
     clearing k true e = record {
@@ -76,8 +76,8 @@ module _ (n : ℕ) (decisions : List (Vec Bool)) (words : RingWords) (places : L
         its (inr h) = inr (held ∙ h)
 
         freed : (i : ℕ) → i ≡ j
-            → FreesIndex decisions words (after_store words (Cell j) 0) places (set places j place.Empty) owner number i
-        freed i same = subst (λ (l : ℕ). FreesIndex decisions words (after_store words (Cell j) 0) places (set places j place.Empty)
+            → FreesIndex decisions may words (after_store words (Cell j) 0) places (set places j place.Empty) owner number i
+        freed i same = subst (λ (l : ℕ). FreesIndex decisions may words (after_store words (Cell j) 0) places (set places j place.Empty)
             owner number l) (sym same) (record {
               wanted = k.2;
               owned = its k.3;
@@ -88,8 +88,8 @@ module _ (n : ℕ) (decisions : List (Vec Bool)) (words : RingWords) (places : L
 
   -- one step of a party at each stage
   recovers : (size : length words.cells ≡ n + 1) (many : length places ≡ n) (p : ℕ) (es : List Event) (s : RobustCall)
-      → IsAskedSoFar n decisions p (call_in_hand s) s es
-      → IfRecovers n decisions words (after_access words (call_next s)) places (places_after places p s (answer_of words (call_next s)))
+      → IsAskedSoFar n decisions may p (call_in_hand s) s es
+      → IfRecovers n decisions may words (after_access words (call_next s)) places (places_after places p s (answer_of words (call_next s)))
       (call_in_hand s)
   recovers size many p es stage.Idle a = tt
   recovers size many p es (stage.Acquire owner) a = tt
@@ -100,15 +100,17 @@ module _ (n : ℕ) (decisions : List (Vec Bool)) (words : RingWords) (places : L
   recovers size many p es (stage.Free owner i mode) a = tt
   recovers size many p es (stage.Look owner number mode i) a = unchanged (Some (call.Recover owner number mode))
   recovers size many p es (stage.Clear owner number mode i seen) a = clearing size many owner number i seen mode
-      (asked_of n decisions owner number p mode (stage.Clear owner number mode i seen) es a) (word_of words (Cell i) == seen) refl
+      (asked_of n decisions may owner number p mode (stage.Clear owner number mode i seen) es a) (word_of words (Cell i) == seen) refl
   recovers size many p es (stage.Settle c) a = unchanged (Some c)
   recovers size many p es (stage.Scan c i count) a = unchanged (Some c)
   recovers size many p es (stage.Lock c count) a = locking (words.read == count) (Some c)
   recovers size many p es (stage.Done c answer) a = unchanged (Some c)
 
 happens_frees : (m : RobustSetState) (step : Move) → IsKept m → FreesOnlyItsOwn m step (happens m step)
-happens_frees m (Begin party c) k = unchanged m.capacity m.decisions m.words m.places (Some c)
-happens_frees m (GoOn party) k = recovers m.capacity m.decisions m.words m.places k.cells k.places party
+happens_frees m (Begin party c) k = unchanged m.capacity m.decisions m.may_insist m.words m.places (Some c)
+happens_frees m (GoOn party) k = recovers m.capacity m.decisions m.may_insist m.words m.places k.cells k.places party
+    (own party (drop (seat_at m.seats party).first m.events)) (stage_at m.seats party) (k.recorded.going party)
+happens_frees m (Insist party) k = recovers m.capacity m.decisions m.may_insist m.words m.places k.cells k.places party
     (own party (drop (seat_at m.seats party).first m.events)) (stage_at m.seats party) (k.recorded.going party)
 
 pub steps_free : (m : RobustSetState) (step : Move) (r : Stepped) (n : RobustSetState) → StepsTo m step r n → IsKept m
@@ -116,6 +118,6 @@ pub steps_free : (m : RobustSetState) (step : Move) (r : Stepped) (n : RobustSet
 steps_free m step stepped.Went n h k = subst (FreesOnlyItsOwn m step) (sym h.2) (happens_frees m step k)
 steps_free m step stepped.Finished n h k = subst (FreesOnlyItsOwn m step) (sym h.2) (happens_frees m step k)
 steps_free m step stepped.Skipped n h k =
-    subst (FreesOnlyItsOwn m step) (sym h.1) (unchanged m.capacity m.decisions m.words m.places (call_of_step m step))
+    subst (FreesOnlyItsOwn m step) (sym h.1) (unchanged m.capacity m.decisions m.may_insist m.words m.places (call_of_step m step))
 steps_free m step stepped.NoMemory n h k =
-    subst (FreesOnlyItsOwn m step) (sym h.1) (unchanged m.capacity m.decisions m.words m.places (call_of_step m step))
+    subst (FreesOnlyItsOwn m step) (sym h.1) (unchanged m.capacity m.decisions m.may_insist m.words m.places (call_of_step m step))

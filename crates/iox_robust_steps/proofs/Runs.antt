@@ -27,7 +27,7 @@ use Rattle.iox_robust_steps.specs.declared.call.Call.TheVariants as call
 use Rattle.iox_robust_steps.specs.declared.call.RobustCall.{RobustCall}
 use Rattle.iox_robust_steps.specs.declared.call.RobustCall.TheVariants as stage
 use Rattle.iox_robust_steps.specs.declared.machine.Move.{Move}
-use Rattle.iox_robust_steps.specs.declared.machine.Move.TheVariants.{Begin, GoOn}
+use Rattle.iox_robust_steps.specs.declared.machine.Move.TheVariants.{Begin, GoOn, Insist}
 use Rattle.iox_robust_steps.specs.declared.state.Place.{Place}
 use Rattle.iox_robust_steps.specs.declared.state.Place.TheVariants as place
 use Rattle.iox_robust_steps.specs.declared.state.Seat.{Seat}
@@ -40,6 +40,7 @@ use Rattle.iox_robust_steps.proofs.Freeing.{NothingNew, ended_freed, freed_appen
 use Rattle.iox_robust_steps.proofs.Freeing.{looks_freed, nothing_new}
 use Rattle.iox_robust_steps.proofs.Going.{MadeStep, made}
 use Rattle.iox_robust_steps.proofs.Holders.{holder_is, one_holds}
+use Rattle.iox_robust_steps.proofs.Named.{stands_begun, stands_went}
 use Rattle.iox_robust_steps.proofs.Knowing.{knows_else, knows_lost, mark_on, tells_locked}
 use Rattle.iox_robust_steps.proofs.OfCalls.{begun_call, begun_counted, went_counted}
 use Rattle.iox_robust_steps.proofs.Seats.{each_seat, seat_else, seat_here}
@@ -51,7 +52,7 @@ not_is true h = absurd (cc)
 not_is false h = refl
 
 -- a party goes on
-module _ (m : RobustSetState) (party : ℕ) (fit : fits m (GoOn party) ≡ true) (k : IsKept m) where
+module _ (m : RobustSetState) (party : ℕ) (insists : Bool) (fit : fits m (GoOn party) ≡ true) (k : IsKept m) where
   abbrev s : RobustCall
   s = stage_at m.seats party
 
@@ -62,7 +63,7 @@ module _ (m : RobustSetState) (party : ℕ) (fit : fits m (GoOn party) ≡ true)
   event = record { party = party; access = call_next s; answer = answer }
 
   abbrev seat : Seat
-  seat = record { stage = call_take m.capacity m.decisions s answer; first = (seat_at m.seats party).first }
+  seat = record { stage = call_take m.capacity m.decisions insists s answer; first = (seat_at m.seats party).first }
 
   parts : (nat_lt party (length m.seats) ≡ true) × ((not (call_is_idle s) && not (is_halted m.lost s)) ≡ true)
   parts = and_parts (nat_lt party (length m.seats)) (not (call_is_idle s) && not (is_halted m.lost s)) fit
@@ -79,23 +80,23 @@ module _ (m : RobustSetState) (party : ℕ) (fit : fits m (GoOn party) ≡ true)
   longer : length (m.events ++ event ∷ []) ≡ length m.events + 1
   longer = length-append m.events (event ∷ [])
 
-  pub fewer : HasFewSteps (went m party) → HasFewSteps m
+  pub fewer : HasFewSteps (went m party insists) → HasFewSteps m
   fewer few = omega (arith, few, longer)
 
-  pub went_made : HasFewSteps (went m party) → IsConsistent m
+  pub went_made : HasFewSteps (went m party insists) → IsConsistent m
       → MadeStep m.capacity party m.words (after_access m.words (call_next s)) m.places (places_after m.places party s answer) m.lost
       m.events (own party (drop (seat_at m.seats party).first m.events)) event seat.stage
-  went_made few c = made m.capacity party m.decisions m.words m.places m.lost m.events
+  went_made few c = made m.capacity party m.decisions insists m.words m.places m.lost m.events
       (own party (drop (seat_at m.seats party).first m.events)) c.whole k.small k.cells k.places (omega (arith, few, longer)) s busy live
       (c.knows party)
 
-  went_locked : HasFewSteps (went m party) → is_locked m ≡ true → is_locked (went m party) ≡ true
+  went_locked : HasFewSteps (went m party insists) → is_locked m ≡ true → is_locked (went m party insists) ≡ true
   went_locked few = mark_on m.words.read (after_access m.words (call_next s)).read (went_made few (k.sound (fewer few))).stays
 
   -- what is told of its call, if that has its answer
-  over_told : HasFewSteps (went m party) → IsConsistent m → (t : RobustCall)
+  over_told : HasFewSteps (went m party insists) → IsConsistent m → (t : RobustCall)
       → Knows m.capacity m.words m.places m.lost party (own party (drop (seat_at m.seats party).first m.events)) t
-      → ToldIfOver m.capacity (is_locked (went m party)) t (own party (drop (seat_at m.seats party).first m.events))
+      → ToldIfOver m.capacity (is_locked (went m party insists)) t (own party (drop (seat_at m.seats party).first m.events))
   over_told few c stage.Idle h = tt
   over_told few c (stage.Acquire owner) h = tt
   over_told few c (stage.Claim owner i count) h = tt
@@ -108,10 +109,10 @@ module _ (m : RobustSetState) (party : ℕ) (fit : fits m (GoOn party) ≡ true)
   over_told few c (stage.Settle d) h = tt
   over_told few c (stage.Scan d i count) h = tt
   over_told few c (stage.Lock d count) h = tt
-  over_told few c (stage.Done d a) h = tells_locked m.capacity (is_locked m) (is_locked (went m party))
+  over_told few c (stage.Done d a) h = tells_locked m.capacity (is_locked m) (is_locked (went m party insists))
       (own party (drop (seat_at m.seats party).first m.events)) (went_locked few) d a h
 
-  went_sound : HasFewSteps (went m party) → IsConsistent (went m party)
+  went_sound : HasFewSteps (went m party insists) → IsConsistent (went m party insists)
   went_sound few =
       let c : IsConsistent m = k.sound (fewer few) in
       let step : MadeStep m.capacity party m.words (after_access m.words (call_next s)) m.places (places_after m.places party s answer)
@@ -131,14 +132,16 @@ module _ (m : RobustSetState) (party : ℕ) (fit : fits m (GoOn party) ≡ true)
             (subst (λ (es : List Event). Knows m.capacity (after_access m.words (call_next s)) (places_after m.places party s answer)
             m.lost party es seat.stage)
             (sym (own_more_since party (seat_at m.seats party).first m.events event (k.began party) refl)) step.knows);
-        told = told_append m.capacity (is_locked (went m party)) (m.events ++ event ∷ []) m.finished
+        told = told_append m.capacity (is_locked (went m party insists)) (m.events ++ event ∷ []) m.finished
             (call_ended party (seat_at m.seats party).first (length m.events) s)
-            (told_on m.capacity (is_locked m) (is_locked (went m party)) m.events event m.finished (went_locked few) k.recorded.among
+            (told_on m.capacity (is_locked m) (is_locked (went m party insists)) m.events event m.finished
+            (went_locked few) k.recorded.among
             c.told)
-            (ended_told m.capacity (is_locked (went m party)) party (seat_at m.seats party).first m.events event s
+            (ended_told m.capacity (is_locked (went m party insists)) party (seat_at m.seats party).first m.events event s
             (over_told few c s (c.knows party)));
+        named = stands_went m party insists within c k.cells k.places (k.began party) step.whole;
         locked_by = λ locked. elim (step.locks (eqb-true (after_access m.words (call_next s)).read lock_mark locked)) [
-          | inl before ↦ locked_on m party (c.locked_by (eq-eqb m.words.read lock_mark before))
+          | inl before ↦ locked_on m party insists (c.locked_by (eq-eqb m.words.read lock_mark before))
           | inr now ↦ inr (party, subst (λ (seat : Seat). is_locking seat.stage ≡ true) (sym (seat_here m.seats party seat within)) now)
         ];
         frees = each_seat (λ (q : ℕ) (t : Seat). FreesSoFar m.capacity m.decisions m.lost m.words.cells t.stage)
@@ -146,7 +149,7 @@ module _ (m : RobustSetState) (party : ℕ) (fit : fits m (GoOn party) ≡ true)
             m.seats party seat within c.frees
             (λ q differs h. frees_on m.capacity m.decisions m.lost m.words.cells (after_access m.words (call_next s)).cells (new c)
             (stage_at m.seats q) h)
-            (frees_next m.capacity party m.decisions m.words m.places m.lost
+            (frees_next m.capacity party m.decisions insists m.words m.places m.lost
             (own party (drop (seat_at m.seats party).first m.events)) k.small k.cells s (c.knows party)
             (frees_on m.capacity m.decisions m.lost m.words.cells (after_access m.words (call_next s)).cells (new c) s (c.frees party)));
         freed = freed_append m.capacity m.decisions m.lost (after_access m.words (call_next s)).cells m.finished
@@ -161,14 +164,14 @@ module _ (m : RobustSetState) (party : ℕ) (fit : fits m (GoOn party) ≡ true)
       new c = nothing_new m.capacity party m.words m.places m.lost k.cells (own party (drop (seat_at m.seats party).first m.events)) s live
           (c.knows party)
 
-  ended_asked : AreAsked m.capacity m.decisions (m.events ++ event ∷ []) (went m party).finished
-  ended_asked = asked_append m.capacity m.decisions (m.events ++ event ∷ []) m.finished
+  ended_asked : AreAsked m.capacity m.decisions m.may_insist (m.events ++ event ∷ []) (went m party insists).finished
+  ended_asked = asked_append m.capacity m.decisions m.may_insist (m.events ++ event ∷ []) m.finished
       (call_ended party (seat_at m.seats party).first (length m.events) s)
-      (ended_asked_on m.capacity m.decisions m.events event m.finished k.recorded.among k.recorded.ended)
-      (call_asked m.capacity m.decisions party (seat_at m.seats party).first m.events event s (k.recorded.going party))
+      (ended_asked_on m.capacity m.decisions m.may_insist m.events event m.finished k.recorded.among k.recorded.ended)
+      (call_asked m.capacity m.decisions m.may_insist party (seat_at m.seats party).first m.events event s (k.recorded.going party))
 
-  pub went_keeps : IsKept (went m party)
-  went_keeps = record {
+  pub went_keeps : (insists ≡ true → m.may_insist ≡ true) → IsKept (went m party insists)
+  went_keeps allowed = record {
     small = k.small;
     cells = same_cells m.words (call_next s) ∙ k.cells;
     places = same_places m.places party s answer ∙ k.places;
@@ -180,14 +183,15 @@ module _ (m : RobustSetState) (party : ℕ) (fit : fits m (GoOn party) ≡ true)
           (among_on m.events event m.finished k.recorded.among)
           (ended_among m.events event party (seat_at m.seats party).first s (k.began party));
       ended = ended_asked;
-      frees = each_frees m.capacity m.decisions (m.events ++ event ∷ []) (went m party).finished ended_asked;
-      going = asked_all m.capacity m.decisions m.seats m.events event seat within k.began k.recorded.going
-          (subst (λ (es : List Event). IsAskedSoFar m.capacity m.decisions party (call_in_hand seat.stage) seat.stage es)
+      frees = each_frees m.capacity m.decisions m.may_insist (m.events ++ event ∷ []) (went m party insists).finished ended_asked;
+      going = asked_all m.capacity m.decisions m.may_insist m.seats m.events event seat within k.began k.recorded.going
+          (subst (λ (es : List Event). IsAskedSoFar m.capacity m.decisions m.may_insist party (call_in_hand seat.stage) seat.stage es)
           (sym (own_more_since party (seat_at m.seats party).first m.events event (k.began party) refl))
-          (asked_next m.capacity m.decisions party (own party (drop (seat_at m.seats party).first m.events)) event s refl
+          (asked_next m.capacity m.decisions m.may_insist insists allowed party (own party (drop
+          (seat_at m.seats party).first m.events)) event s refl
           (k.recorded.going party)));
     };
-    counted = went_counted m party fit k.counted;
+    counted = went_counted m party insists fit k.counted;
     sound = went_sound;
   }
 
@@ -309,6 +313,7 @@ module _ (m : RobustSetState) (party : ℕ) (c : Call) (fit : fits m (Begin part
             (subst (λ (es : List Event). Knows m.capacity m.words m.places (lost_begun m.lost c) party es (call_begun m.capacity c))
             (sym first_own) (begun_knows c may));
         told = told_on m.capacity (is_locked m) (is_locked m) m.events begin m.finished (λ h. h) k.recorded.among o.told;
+        named = λ i p is. stands_begun m party c idle p i (slice_index m.words.cells i) (o.named i p is);
         locked_by = λ locked. elim (o.locked_by locked) [
           | inl ended ↦ inl ended
           | inr going ↦ inr (
@@ -326,14 +331,14 @@ module _ (m : RobustSetState) (party : ℕ) (c : Call) (fit : fits m (Begin part
       not_idle : (q : ℕ) → is_locking (stage_at m.seats q) ≡ true → q ≡ party → ⊥
       not_idle q locks same = idle_locks (stage_at m.seats party) idle (ap (λ (q : ℕ). is_locking (stage_at m.seats q)) (sym same) ∙ locks)
 
-  begun_asked : IsAskedSoFar m.capacity m.decisions party (call_in_hand (call_begun m.capacity c)) (call_begun m.capacity c)
+  begun_asked : IsAskedSoFar m.capacity m.decisions m.may_insist party (call_in_hand (call_begun m.capacity c)) (call_begun m.capacity c)
       (own party (drop (length m.events) (m.events ++ begin ∷ [])))
-  begun_asked = subst (λ (o : Option Call). IsAskedSoFar m.capacity m.decisions party o (call_begun m.capacity c)
+  begun_asked = subst (λ (o : Option Call). IsAskedSoFar m.capacity m.decisions m.may_insist party o (call_begun m.capacity c)
       (own party (drop (length m.events) (m.events ++ begin ∷ [])))) (sym (begun_call m.capacity c))
       (record { between = []; whole = first_own; goes = refl })
 
-  still_asked : AreAsked m.capacity m.decisions (m.events ++ begin ∷ []) m.finished
-  still_asked = ended_asked_on m.capacity m.decisions m.events begin m.finished k.recorded.among k.recorded.ended
+  still_asked : AreAsked m.capacity m.decisions m.may_insist (m.events ++ begin ∷ []) m.finished
+  still_asked = ended_asked_on m.capacity m.decisions m.may_insist m.events begin m.finished k.recorded.among k.recorded.ended
 
   pub begun_keeps : IsKept (begun m party c)
   begun_keeps = record {
@@ -346,8 +351,8 @@ module _ (m : RobustSetState) (party : ℕ) (c : Call) (fit : fits m (Begin part
       answered = answered_on (start_words m.capacity) m.words m.events begin refl k.recorded.answered;
       among = among_on m.events begin m.finished k.recorded.among;
       ended = still_asked;
-      frees = each_frees m.capacity m.decisions (m.events ++ begin ∷ []) m.finished still_asked;
-      going = asked_all m.capacity m.decisions m.seats m.events begin begun_seat there k.began k.recorded.going begun_asked;
+      frees = each_frees m.capacity m.decisions m.may_insist (m.events ++ begin ∷ []) m.finished still_asked;
+      going = asked_all m.capacity m.decisions m.may_insist m.seats m.events begin begun_seat there k.began k.recorded.going begun_asked;
     };
     counted = begun_counted m party c fit k.counted;
     sound = begun_sound;
@@ -355,7 +360,10 @@ module _ (m : RobustSetState) (party : ℕ) (c : Call) (fit : fits m (Begin part
 
 happens_keeps : (m : RobustSetState) (step : Move) → fits m step ≡ true → IsKept m → IsKept (happens m step)
 happens_keeps m (Begin party c) fit k = begun_keeps m party c fit k
-happens_keeps m (GoOn party) fit k = went_keeps m party fit k
+happens_keeps m (GoOn party) fit k = went_keeps m party false fit k (λ h. absurd (cc))
+happens_keeps m (Insist party) fit k =
+    let both : (m.may_insist ≡ true) × (fits m (GoOn party) ≡ true) = and_parts m.may_insist (fits m (GoOn party)) fit in
+    went_keeps m party true both.1 k (λ h. both.0)
 
 pub steps_keep : (m : RobustSetState) (step : Move) (r : Stepped) (n : RobustSetState) → StepsTo m step r n → IsKept m → IsKept n
 steps_keep m step stepped.Went n h k = subst IsKept (sym h.2) (happens_keeps m step h.0 k)
@@ -369,7 +377,10 @@ PassesTo m n = HasFewSteps n → HasFewSteps m × StaysLocked m n
 
 happens_goes : (m : RobustSetState) (step : Move) → fits m step ≡ true → IsKept m → PassesTo m (happens m step)
 happens_goes m (Begin party c) fit k few = (fewer_begun m party c fit k few, λ h. h)
-happens_goes m (GoOn party) fit k few = (fewer m party fit k few, went_locked m party fit k few)
+happens_goes m (GoOn party) fit k few = (fewer m party false fit k few, went_locked m party false fit k few)
+happens_goes m (Insist party) fit k few =
+    let both : (m.may_insist ≡ true) × (fits m (GoOn party) ≡ true) = and_parts m.may_insist (fits m (GoOn party)) fit in
+    (fewer m party true both.1 k few, went_locked m party true both.1 k few)
 
 pub steps_go : (m : RobustSetState) (step : Move) (r : Stepped) (n : RobustSetState) → StepsTo m step r n → IsKept m → PassesTo m n
 steps_go m step stepped.Went n h k = subst (PassesTo m) (sym h.2) (happens_goes m step h.0 k)
@@ -393,6 +404,7 @@ orderly m k few =
       held = λ i p h. holder_is i p m.events (place_of m.places i) (s.whole.turns i) (s.whole.balance i) (s.whole.holders i) h;
       turns = s.whole.turns;
       cells = s.whole.cells;
+      named = s.named;
       holds = s.whole.balance;
       locked_by = s.locked_by;
       none_out = λ locked i. omega (arith, s.whole.balance i, none i (eqb-true m.words.read lock_mark locked) s);

@@ -26,8 +26,9 @@ no_turns : (i k : ℕ) → TakesTurns i (take k [])
 no_turns i zero = (omega arith, omega arith)
 no_turns i (suc k) = (omega arith, omega arith)
 
-pub start_kept : (capacity parties : ℕ) (decisions : List (Vec Bool)) → capacity < 2 ^ 62 → IsKept (start capacity parties decisions)
-start_kept capacity parties decisions small = record {
+pub start_kept : (capacity parties : ℕ) (decisions : List (Vec Bool)) (may_insist : Bool) → capacity < 2 ^ 62
+    → IsKept (start capacity parties decisions may_insist)
+start_kept capacity parties decisions may_insist small = record {
   small = small;
   cells = length-replicate {A = ℕ} (capacity + 1) 0;
   places = length-replicate {A = Place} capacity place.Empty;
@@ -37,10 +38,10 @@ start_kept capacity parties decisions small = record {
     among = tt;
     ended = tt;
     frees = tt;
-    going = λ q. subst (λ (s : Seat). IsAskedSoFar capacity decisions q (call_in_hand s.stage) s.stage (own q (drop s.first [])))
+    going = λ q. subst (λ (s : Seat). IsAskedSoFar capacity decisions may_insist q (call_in_hand s.stage) s.stage (own q (drop s.first [])))
         (sym (all_idle parties q)) tt;
   };
-  counted = start_counted capacity parties decisions;
+  counted = start_counted capacity parties decisions may_insist;
   sound = λ few. record {
     whole = record {
       cells = λ i below. subst (λ (p : Place). CellFits p (slice_index (replicate (capacity + 1) 0) i)) (sym (all_empty capacity i))
@@ -54,6 +55,7 @@ start_kept capacity parties decisions small = record {
     knows = λ q. subst (λ (s : Seat). Knows capacity (start_words capacity) (replicate capacity place.Empty) [] q (own q (drop s.first []))
         s.stage) (sym (all_idle parties q)) tt;
     told = tt;
+    named = λ i p is. absurd (let wrong : place.Empty ≡ place.Held p = sym (all_empty capacity i) ∙ is in cc);
     locked_by = λ locked. absurd (cc);
     frees = λ q. subst (λ (s : Seat). FreesSoFar capacity decisions [] (replicate (capacity + 1) 0) s.stage) (sym (all_idle parties q)) tt;
     freed = tt;

@@ -18,7 +18,7 @@ use Rattle.iox_robust_steps.specs.declared.state.Place.TheVariants as place
 use Rattle.iox_robust_steps.proofs.Counts.{more_given, more_taken, turns_on}
 
 -- no step both takes an index and gives it back
-never_both : (i : ℕ) (access : Access) (answer : ℕ) → took_by i access ≡ gave_by i access answer → gave_by i access answer ≡ 0
+pub never_both : (i : ℕ) (access : Access) (answer : ℕ) → took_by i access ≡ gave_by i access answer → gave_by i access answer ≡ 0
 never_both i (Load word) answer h = refl
 never_both i (Store word value) answer h = refl
 never_both i (Exchange Write old new) answer h = refl

@@ -6,10 +6,9 @@ use Rattle.iox_queues_steps.specs.declared.access.Access.{Access}
 use Rattle.iox_queues_steps.specs.declared.access.Access.TheVariants.{Load, Store, Exchange, Local}
 use Rattle.iox_queues.specs.Told.{own}
 use Rattle.iox_queues.specs.declared.bits.machine.Event.{Event}
-use Rattle.iox_robust_steps.specs.ContainerMoments.{IsSoUpTo}
 use Rattle.iox_robust_steps.specs.ContainerSteps.{is_shown}
 use Rattle.iox_robust_steps.specs.ContainerStays.{MayBeStored}
-use Rattle.iox_robust_steps.specs.ContainerThroughout.{IfCopied, ShowsStaying}
+use Rattle.iox_robust_steps.specs.ContainerThroughout.{IfCopied, IsSoUpTo, ShowsStaying}
 use Rattle.iox_robust_steps.specs.ContainerTold.{shown_at}
 use Rattle.iox_robust_steps.specs.declared.container.MemberFinished.{MemberFinished}
 

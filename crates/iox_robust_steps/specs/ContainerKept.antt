@@ -1,5 +1,5 @@
 -- What every step of a container's machine keeps.
-use Rattle.std.specs.Prelude.{ℕ, ◌≡◌, ◌+◌, ◌*◌, ◌^◌, ◌<◌, ◌≤◌, ◌⊎◌, true, false, Ok, Option, Some, None, List, [], length}
+use Rattle.std.specs.Prelude.{ℕ, ◌≡◌, ◌+◌, ◌*◌, ◌^◌, ◌<◌, ◌≤◌, ◌⊎◌, true, false, Ok, Err, ◌∷◌, Option, Some, None, List, [], length}
 use Rattle.std.specs.Prelude.{slice_index, take, drop}
 use Rattle.std.specs.Global.{Vec}
 use Rattle.iox_queues_steps.specs.Access.{RingWords}
@@ -10,8 +10,8 @@ use Rattle.iox_robust_steps.specs.ContainerSteps.{answer_at, is_shown, value_cel
 use Rattle.iox_robust_steps.specs.ContainerThroughout.{EachShowsWhoStays}
 use Rattle.iox_robust_steps.specs.ContainerMachine.{ContainerParts, HasFewMoves, MembersAreRecorded, empty_words, member_seat, member_stage}
 use Rattle.iox_robust_steps.specs.ContainerMachine.{width_of}
-use Rattle.iox_robust_steps.specs.ContainerInside.{EachShowsInside, StaysTillOut, inside_after}
-use Rattle.iox_robust_steps.specs.ContainerMoments.{EachHasItsMoment}
+use Rattle.iox_robust_steps.specs.ContainerInside.{EachShowsInside, IsInside, StaysTillOut, inside_after}
+use Rattle.iox_robust_steps.specs.ContainerMoments.{EachHasItsMoment, IsExpelledIn}
 use Rattle.iox_robust_steps.specs.ContainerRecovering.{IsCalm, LeaveNone, StandsBeside, is_settling}
 use Rattle.iox_robust_steps.specs.ContainerOfSet.{AsksSet, HaveReasons}
 use Rattle.iox_robust_steps.specs.ContainerStays.{EachLetsPass, LetsPassSoFar, MembersAreOfCalls, ShowsWhose, StaysTillTakenOut}
@@ -21,13 +21,18 @@ use Rattle.iox_robust_steps.specs.ContainerTold.{is_change}
 use Rattle.iox_robust_steps.specs.ContainerTold.{shown_at, times_counted}
 use Rattle.iox_robust_steps.specs.Machine.{IsOrderly, RobustSetState, is_locked, is_lost, place_of, stage_at}
 use Rattle.iox_robust_steps.specs.Kept.{IsKept, IsOwner}
-use Rattle.iox_robust_steps.specs.Steps.{call_in_hand, reserved}
+use Rattle.iox_robust_steps.specs.Steps.{call_in_hand, decided, reserved}
 use Rattle.iox_robust_steps.specs.Told.{Holds}
 use Rattle.iox_robust_steps.specs.declared.call.Answer.TheVariants.{Acquired}
 use Rattle.iox_robust_steps.specs.declared.call.Call.TheVariants as set_call
 use Rattle.iox_robust_steps.specs.declared.call.RobustCall.{RobustCall}
 use Rattle.iox_robust_steps.specs.declared.call.RobustCall.TheVariants as set_stage
 use Rattle.iox_container.specs.declared.release.ReleaseMode.{ReleaseMode}
+use Rattle.iox_robust_steps.specs.declared.container.call.MemberAnswer.{MemberAnswer}
+use Rattle.iox_robust_steps.specs.declared.container.call.MemberAnswer.TheVariants.{Added, Removed, Updated}
+use Rattle.iox_robust_steps.specs.declared.container.call.MemberCall.{MemberCall}
+use Rattle.iox_robust_steps.specs.declared.container.call.MemberCall.TheVariants as call
+use Rattle.iox_robust_steps.specs.declared.container.MemberFinished.{MemberFinished}
 use Rattle.iox_robust_steps.specs.declared.container.call.ContainerCall.{ContainerCall}
 use Rattle.iox_robust_steps.specs.declared.container.call.ContainerCall.TheVariants as stage
 use Rattle.iox_robust_steps.specs.declared.state.Place.{Place}
@@ -64,9 +69,85 @@ IsOf owner cell = (cell ≡ owner) ⊎ (cell ≡ reserved owner)
 abbrev pub IsToFree : ℕ → ℕ → ReleaseMode → ℕ → RobustCall → Type 0
 IsToFree owner number mode i s = (x : ℕ) × (s ≡ set_stage.Clear owner number mode i x) × IsOf owner x
 
+-- the member of an addition that isn't refused is in, where the party holds the index, unless the recovery of the owner began
+abbrev pub IsInStill : RobustSetState → List ℕ → ℕ → MemberCall → MemberAnswer → Type 0
+IsInStill indices cells party (call.Add number owner) (Added (Ok index)) =
+    UnlessLost indices owner (HoldsFor indices party owner index × (is_shown (slice_index cells index) ≡ true))
+IsInStill indices cells party (call.Add number owner) (Added (Err why)) = Unit {0}
+IsInStill indices cells party (call.Add number owner) (Removed state) = Unit {0}
+IsInStill indices cells party (call.Add number owner) (Updated copied) = Unit {0}
+IsInStill indices cells party (call.Remove owner index mode) answer = Unit {0}
+IsInStill indices cells party call.Update answer = Unit {0}
+IsInStill indices cells party (call.Recover owner number mode) answer = Unit {0}
+
+-- so it was when the addition ended, after these steps
+abbrev pub WasIn : List ℕ → ℕ → List Event → MemberCall → MemberAnswer → Type 0
+WasIn lost party events (call.Add number owner) (Added (Ok index)) = is_lost owner lost ≡ false → IsInside party index events
+WasIn lost party events (call.Add number owner) (Added (Err why)) = Unit {0}
+WasIn lost party events (call.Add number owner) (Removed state) = Unit {0}
+WasIn lost party events (call.Add number owner) (Updated copied) = Unit {0}
+WasIn lost party events (call.Remove owner index mode) answer = Unit {0}
+WasIn lost party events call.Update answer = Unit {0}
+WasIn lost party events (call.Recover owner number mode) answer = Unit {0}
+
+-- so of each of these calls
+abbrev pub EachWasIn : List ℕ → List Event → List MemberFinished → Type 0
+EachWasIn lost events [] = Unit {0}
+EachWasIn lost events (f ∷ finished) = WasIn lost f.party (take f.last events) f.call f.answer × EachWasIn lost events finished
+
 -- where a place's index is this owner's still, its count is the one that was seen, or shows no member
 abbrev pub IsSeenOrOut : ℕ → ℕ → ℕ → ℕ → Type 0
 IsSeenOrOut owner cell count seen = IsOf owner cell → (count ≡ seen) ⊎ (is_shown count ≡ false)
+
+-- where an index is this owner's still, or shows that it is about to take it, a member is in at the place, or a recovery took one out by
+-- a step since `first`
+abbrev pub HasShown : RobustSetState → List ℕ → ℕ → List Event → ℕ → ℕ → Type 0
+HasShown indices cells first events owner i = IsOf owner (slice_index indices.words.cells i)
+    → (is_shown (slice_index cells i) ≡ true) ⊎ IsExpelledIn i (drop first events)
+
+-- so of the first m indices, and the recovery of the owner began
+abbrev pub HaveShown : RobustSetState → List ℕ → ℕ → List Event → ℕ → ℕ → Type 0
+HaveShown indices cells first events owner m =
+    IsLostOwner indices owner × ((i : ℕ) → i < m → HasShown indices cells first events owner i)
+
+-- so a recovery leaves each index of its owner
+abbrev pub LeavesShown : RobustSetState → List ℕ → ℕ → List Event → MemberCall → Type 0
+LeavesShown indices cells first events (call.Add number owner) = Unit {0}
+LeavesShown indices cells first events (call.Remove owner index mode) = Unit {0}
+LeavesShown indices cells first events call.Update = Unit {0}
+LeavesShown indices cells first events (call.Recover owner number mode) =
+    HaveShown indices cells first events owner indices.capacity
+
+-- so does each of these calls
+abbrev pub LeaveShown : RobustSetState → List ℕ → List Event → List MemberFinished → Type 0
+LeaveShown indices cells events [] = Unit {0}
+LeaveShown indices cells events (f ∷ finished) =
+    LeavesShown indices cells f.first events f.call × LeaveShown indices cells events finished
+
+-- so far as a call in hand is; a recovery that saw a member at its place has that one, too
+abbrev pub ShownSoFar : RobustSetState → List ℕ → ℕ → List Event → ContainerCall → Type 0
+ShownSoFar indices cells first events stage.Idle = Unit {0}
+ShownSoFar indices cells first events (stage.Enter number owner) = Unit {0}
+ShownSoFar indices cells first events (stage.Fill number owner index next) = Unit {0}
+ShownSoFar indices cells first events (stage.Show number owner index seen) = Unit {0}
+ShownSoFar indices cells first events (stage.Sink owner index mode) = Unit {0}
+ShownSoFar indices cells first events (stage.Hide owner index mode seen) = Unit {0}
+ShownSoFar indices cells first events (stage.Leave owner index mode) = Unit {0}
+ShownSoFar indices cells first events (stage.Drop owner index mode) = Unit {0}
+ShownSoFar indices cells first events (stage.Count c answer) = LeavesShown indices cells first events c
+ShownSoFar indices cells first events (stage.Raise c answer seen) = LeavesShown indices cells first events c
+ShownSoFar indices cells first events stage.Look = Unit {0}
+ShownSoFar indices cells first events (stage.Visit i) = Unit {0}
+ShownSoFar indices cells first events (stage.Gather i seen next) = Unit {0}
+ShownSoFar indices cells first events (stage.Search owner number mode) = Unit {0}
+ShownSoFar indices cells first events (stage.Watch owner number mode i) = HaveShown indices cells first events owner i
+ShownSoFar indices cells first events (stage.Ask owner number mode i seen) =
+    HaveShown indices cells first events owner i × (is_shown seen ≡ true → HasShown indices cells first events owner i)
+ShownSoFar indices cells first events (stage.Expel owner number mode i seen) = HaveShown indices cells first events owner i
+ShownSoFar indices cells first events (stage.Clear owner number mode i) = HaveShown indices cells first events owner i
+ShownSoFar indices cells first events (stage.Close owner number mode) =
+    HaveShown indices cells first events owner indices.capacity
+ShownSoFar indices cells first events (stage.Done c answer) = LeavesShown indices cells first events c
 
 -- what a copy has of each place before this one was so at a moment
 abbrev pub SawBelow : ℕ → ℕ → RingWords → ℕ → List Event → List Event → ℕ → Type 0
@@ -108,8 +189,10 @@ KnowsMember n width values start cells indices party s first events own (stage.D
     × (call_in_hand s ≡ Some (set_call.Release owner index mode))
 KnowsMember n width values start cells indices party s first events own (stage.Count c answer) =
     (is_change c answer ≡ true) × MemberTells n width values start 0 party first events own c answer
+    × IsInStill indices cells party c answer
 KnowsMember n width values start cells indices party s first events own (stage.Raise c answer seen) =
     (is_change c answer ≡ true) × MemberTells n width values start 0 party first events own c answer
+    × IsInStill indices cells party c answer
 KnowsMember n width values start cells indices party s first events own stage.Look = Unit {0}
 KnowsMember n width values start cells indices party s first events own (stage.Visit i) =
     (i < n) × SawBelow n width start first events own i
@@ -126,6 +209,7 @@ KnowsMember n width values start cells indices party s first events own (stage.E
     (times_counted own ≡ 0) × (i < n) × IsLostOwner indices owner × IsToFree owner number mode i s
     × (seen ≤ slice_index cells i) × IsSeenOrOut owner (slice_index indices.words.cells i) (slice_index cells i) seen
     × (is_shown seen ≡ true) × (slice_index cells i ≡ seen → slice_index indices.words.cells i ≡ owner)
+    × (decided indices.decisions number i ≡ true)
 KnowsMember n width values start cells indices party s first events own (stage.Clear owner number mode i) =
     (times_counted own ≡ 0) × (i < n) × IsLostOwner indices owner × IsToFree owner number mode i s
     × (IsOf owner (slice_index indices.words.cells i) → is_shown (slice_index cells i) ≡ false)
@@ -133,7 +217,7 @@ KnowsMember n width values start cells indices party s first events own (stage.C
     (times_counted own ≡ 0) × IsLostOwner indices owner × (call_in_hand s ≡ Some (set_call.Recover owner number mode))
     × (is_settling s ≡ true)
 KnowsMember n width values start cells indices party s first events own (stage.Done c answer) =
-    MemberTells n width values start 1 party first events own c answer
+    MemberTells n width values start 1 party first events own c answer × IsInStill indices cells party c answer
 
 -- nobody holds the index
 abbrev pub IsUnheld : List Place → ℕ → Type 0
@@ -146,7 +230,7 @@ FitsWhose (Some party) count x = (is_shown count ≡ true) × (x ≡ place.Held 
 
 -- where the premise holds, in a container of n places: the counts count the steps, no member is in where nobody holds the index, each
 -- call in hand knows its steps, each that ended is told, and the copies saw the count of changes that was; the set's calls are those of
--- the container's; and a member stays till it is taken out
+-- the container's; a member stays till it is taken out; each call lets pass what it answers; and that of an addition was in when it ended
 pub record MembersAreSound (n : ℕ) (m : ContainerParts) : Type 0 where
   pub write : m.words.write ≡ times_counted m.events
   pub low : (i : ℕ) → i < n → slice_index m.words.cells i ≤ length m.events
@@ -159,16 +243,15 @@ pub record MembersAreSound (n : ℕ) (m : ContainerParts) : Type 0 where
   pub asks : (q : ℕ) → AsksSet m q
   pub stays : (i : ℕ) → i < n → StaysTillOut n (width_of m) i None m.events
   pub inside : (i : ℕ) → i < n → FitsWhose (inside_after i None m.events) (slice_index m.words.cells i) (place_of m.indices.places i)
+  pub passes : EachLetsPass n m.events m.finished
+  pub passing : (q : ℕ) → LetsPassSoFar n (member_stage m.seats q) (own q (drop (member_seat m.seats q).first m.events))
+  pub was_in : EachWasIn m.indices.lost m.events m.finished
+  pub shown : (q : ℕ) → ShownSoFar m.indices m.words.cells (member_seat m.seats q).first m.events (member_stage m.seats q)
+  pub showed : LeaveShown m.indices m.words.cells m.events m.finished
 
 -- no recovery began
 abbrev pub HasNoneLost : ContainerParts → Type 0
 HasNoneLost m = m.indices.lost ≡ []
-
--- where no recovery began: no count is exchanged, and each call lets pass what it answers
-pub record MembersPass (n : ℕ) (m : ContainerParts) : Type 0 where
-  pub calm : IsCalm m.events
-  pub passes : EachLetsPass n m.events m.finished
-  pub passing : (q : ℕ) → LetsPassSoFar n (member_stage m.seats q) (own q (drop (member_seat m.seats q).first m.events))
 
 -- what stands however many steps were made, and what stands where the premise holds
 pub record MembersAreKept (m : ContainerParts) : Type 0 where
@@ -181,30 +264,28 @@ pub record MembersAreKept (m : ContainerParts) : Type 0 where
   pub recorded : MembersAreRecorded m
   pub counted : MembersAreOfCalls m
   pub sound : HasFewMoves m → MembersAreSound m.indices.capacity m
-  pub pass : HasFewMoves m → HasNoneLost m → MembersPass m.indices.capacity m
+  pub calm : HasFewMoves m → HasNoneLost m → IsCalm m.events
 
--- what every list of steps keeps where no recovery began: a member stays, with its value, till the party that put it in takes it out, by
--- its removal, since each call lets pass by its own steps just what it answers; the count of a place says whose member is in, and that
--- party holds the index; an addition and a removal have a step of their own up to which the member isn't in, or is, at each moment of the
--- call, and is, or isn't, from then on; and a copy shows each member that is in at each moment of it, with the value that it has then
+-- what every list of steps keeps where no recovery began: a member stays, with its value, till the party that put it in takes it out; the
+-- count of a place says whose member is in, and that party holds the index; and a copy shows each member that is in at each moment of it,
+-- with the value that it has then
 pub record MembersStay (m : ContainerParts) : Type 0 where
   pub stays : (i : ℕ) → i < m.indices.capacity → StaysTillTakenOut m.indices.capacity (width_of m) i None m.events
   pub whose : (i : ℕ) → i < m.indices.capacity
       → ShowsWhose i (whose_after i None m.events) (slice_index m.words.cells i) m.indices.events
-  pub passes : EachLetsPass m.indices.capacity m.events m.finished
-  pub passing : (q : ℕ)
-      → LetsPassSoFar m.indices.capacity (member_stage m.seats q) (own q (drop (member_seat m.seats q).first m.events))
-  pub moments : EachHasItsMoment m.indices.capacity (width_of m) m.values (empty_words m.indices.capacity (width_of m)) m.events m.finished
   pub shows : EachShowsWhoStays m.indices.capacity (width_of m) (empty_words m.indices.capacity (width_of m)) m.events m.finished
 
 -- what every list of steps keeps, whoever is recovered: of the set of indices all that its own machine keeps; what its answer says of each
 -- call that ended; a party's calls on the set are those of its additions, removals and recoveries, whose answers they are; a member is in
 -- only where a party holds the index, so none is in where the set is locked; a member stays, with its value, till the party that put it in
 -- takes it out, or a recovery does, and the count of a place says whose member is in; a copy shows each member that is in at each moment
--- of it, with the value that it has then; a recovery in hand stands beside that of the set, so that it goes on as the set found; after a
--- whole recovery none of the members is in that it was to take out of its owner, for good; and a change that began and ended since a
--- party's last copy moved the count of changes on from what that copy saw, so that the next copy doesn't answer that there was none. Where
--- no recovery began, more stands
+-- of it, with the value that it has then; each call lets pass by its own steps just what it answers; an addition and a removal have a step
+-- of their own up to which the member isn't in, or is, at each moment of the call, and is, or isn't, from then on, but for what a recovery
+-- takes out; a recovery in hand stands beside that of the set, so that it goes on as the set found; after a whole recovery none of the
+-- members is in that it was to take out of its owner, for good, and no index of the owner is held at which no member was in, but where a
+-- recovery took one out since; and a change that began and ended since a party's last copy moved the
+-- count of changes on from what that copy saw, so that the next copy doesn't answer that there was none. Where no recovery began, more
+-- stands
 pub record MembersAreOrderly (m : ContainerParts) : Type 0 where
   pub indices : IsOrderly m.indices
   pub told : AreMembersTold m.indices.capacity (width_of m) m.values (empty_words m.indices.capacity (width_of m)) m.events m.finished
@@ -216,7 +297,13 @@ pub record MembersAreOrderly (m : ContainerParts) : Type 0 where
   pub inside : (i : ℕ) → i < m.indices.capacity
       → ShowsWhose i (inside_after i None m.events) (slice_index m.words.cells i) m.indices.events
   pub shows : EachShowsInside m.indices.capacity (width_of m) (empty_words m.indices.capacity (width_of m)) m.events m.finished
+  pub passes : EachLetsPass m.indices.capacity m.events m.finished
+  pub passing : (q : ℕ)
+      → LetsPassSoFar m.indices.capacity (member_stage m.seats q) (own q (drop (member_seat m.seats q).first m.events))
+  pub moments : EachHasItsMoment m.indices.capacity (width_of m) m.values (empty_words m.indices.capacity (width_of m))
+      m.indices.lost m.events m.finished
   pub beside : (q : ℕ) → StandsBeside (member_stage m.seats q) (stage_at m.indices.seats q)
   pub left : LeaveNone m.indices m.words.cells m.finished
+  pub shown : LeaveShown m.indices m.words.cells m.events m.finished
   pub news : (q : ℕ) → AllAreNews (member_seat m.seats q).saw (member_seat m.seats q).since m.words.write m.finished
   pub unrecovered : HasNoneLost m → MembersStay m

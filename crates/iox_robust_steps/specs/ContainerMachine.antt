@@ -20,6 +20,7 @@ use Rattle.iox_robust_steps.specs.ContainerSteps.{member_next, member_take}
 use Rattle.iox_robust_steps.specs.Machine.{RobustSetState}
 use Rattle.iox_robust_steps.specs.Machine as robust
 use Rattle.iox_robust_steps.specs.declared.call.Call.TheVariants as set_call
+use Rattle.iox_robust_steps.specs.declared.machine.Move.{Move}
 use Rattle.iox_robust_steps.specs.declared.machine.Move.TheVariants as set_move
 use Rattle.iox_robust_steps.specs.declared.container.call.MemberAnswer.TheVariants.{Added, Removed, Updated}
 use Rattle.iox_robust_steps.specs.declared.container.call.MemberCall.{MemberCall}
@@ -72,6 +73,10 @@ may_call m party (call.Remove owner index mode) =
 may_call m party call.Update = true
 may_call m party (call.Recover owner number mode) = robust.fits m.indices (set_move.Begin party (set_call.Recover owner number mode))
 
+-- a recovery that saw no member at a place insists that its index is freed
+abbrev pub asks_with : ℕ → ℕ → Move
+asks_with party seen = if is_shown seen then set_move.GoOn party else set_move.Insist party
+
 -- the step that a call at this stage asks of the set fits there, if it asks one; and no member is put in or taken out for an owner whose
 -- recovery began
 abbrev pub may_ask : RobustSetState → ℕ → ContainerCall → Bool
@@ -90,7 +95,7 @@ may_ask indices party (stage.Visit place) = true
 may_ask indices party (stage.Gather place seen next) = true
 may_ask indices party (stage.Search owner number mode) = robust.fits indices (set_move.Begin party (set_call.Recover owner number mode))
 may_ask indices party (stage.Watch owner number mode i) = true
-may_ask indices party (stage.Ask owner number mode i seen) = robust.fits indices (set_move.GoOn party)
+may_ask indices party (stage.Ask owner number mode i seen) = robust.fits indices (asks_with party seen)
 may_ask indices party (stage.Expel owner number mode i seen) = true
 may_ask indices party (stage.Clear owner number mode i) = robust.fits indices (set_move.GoOn party)
 may_ask indices party (stage.Close owner number mode) = robust.fits indices (set_move.GoOn party)
@@ -113,16 +118,16 @@ asked_by indices party (call.Remove owner index mode) = indices
 asked_by indices party call.Update = indices
 asked_by indices party (call.Recover owner number mode) = indices
 
--- the set after a party at this stage went on
+-- the set after a party at this stage went on; a recovery that saw no member at a place insists that its index is freed
 abbrev pub asked_at : RobustSetState → ℕ → ContainerCall → RobustSetState
 asked_at indices party stage.Idle = indices
-asked_at indices party (stage.Enter number owner) = robust.went indices party
+asked_at indices party (stage.Enter number owner) = robust.went indices party false
 asked_at indices party (stage.Fill number owner index next) = indices
 asked_at indices party (stage.Show number owner index seen) = indices
 asked_at indices party (stage.Sink owner index mode) = indices
 asked_at indices party (stage.Hide owner index mode seen) = indices
 asked_at indices party (stage.Leave owner index mode) = robust.begun indices party (set_call.Release owner index mode)
-asked_at indices party (stage.Drop owner index mode) = robust.went indices party
+asked_at indices party (stage.Drop owner index mode) = robust.went indices party false
 asked_at indices party (stage.Count c answer) = indices
 asked_at indices party (stage.Raise c answer seen) = indices
 asked_at indices party stage.Look = indices
@@ -130,10 +135,10 @@ asked_at indices party (stage.Visit place) = indices
 asked_at indices party (stage.Gather place seen next) = indices
 asked_at indices party (stage.Search owner number mode) = robust.begun indices party (set_call.Recover owner number mode)
 asked_at indices party (stage.Watch owner number mode i) = indices
-asked_at indices party (stage.Ask owner number mode i seen) = robust.went indices party
+asked_at indices party (stage.Ask owner number mode i seen) = robust.went indices party (not (is_shown seen))
 asked_at indices party (stage.Expel owner number mode i seen) = indices
-asked_at indices party (stage.Clear owner number mode i) = robust.went indices party
-asked_at indices party (stage.Close owner number mode) = robust.went indices party
+asked_at indices party (stage.Clear owner number mode i) = robust.went indices party false
+asked_at indices party (stage.Close owner number mode) = robust.went indices party false
 asked_at indices party (stage.Done c answer) = indices
 
 -- the machine after a begin
@@ -242,7 +247,7 @@ empty_words capacity width = record { cells = replicate (capacity + (capacity * 
 -- an empty container of these values, with so many parties, and with the decisions of recoveries
 abbrev pub empty_parts : ℕ → ℕ → List (Vec ℕ) → List (Vec Bool) → ContainerParts
 empty_parts capacity parties values decisions = record {
-  indices = robust.start capacity parties decisions;
+  indices = robust.start capacity parties decisions true;
   values = values;
   words = empty_words capacity (length (table_value values 0));
   seats = replicate parties resting;

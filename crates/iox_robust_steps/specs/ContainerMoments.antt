@@ -1,12 +1,18 @@
--- The moment at which a member comes in or goes out: a step of its party's own, inside its call.
-use Rattle.std.specs.Prelude.{ℕ, ◌≡◌, ◌<◌, ◌≤◌, true, Ok, Err, Some, None, List, [], ◌∷◌, ◌++◌, length, slice_index, take}
+-- The moment at which a member comes in or goes out: a step of its party's own, inside its call, whoever is recovered.
+use Rattle.std.specs.Prelude.{ℕ, ◌≡◌, ◌<◌, ◌≤◌, ◌⊎◌, Bool, true, false, ◌==◌, ◌&&◌, Ok, Err, None, List, [], ◌∷◌, ◌++◌}
+use Rattle.std.specs.Prelude.{length, slice_index, take}
 use Rattle.std.specs.Global.{Vec}
 use Rattle.iox_queues_steps.specs.Access.{RingWords}
+use Rattle.iox_queues_steps.specs.declared.access.Word.TheVariants.{Write, Read, Cell}
+use Rattle.iox_queues_steps.specs.declared.access.Access.{Access}
+use Rattle.iox_queues_steps.specs.declared.access.Access.TheVariants.{Load, Store, Exchange, Local}
 use Rattle.iox_queues.specs.Moments.{words_after}
 use Rattle.iox_queues.specs.Values.{table_value}
 use Rattle.iox_queues.specs.declared.bits.machine.Event.{Event}
+use Rattle.iox_robust_steps.specs.ContainerInside.{IsInside, inside_after}
 use Rattle.iox_robust_steps.specs.ContainerSteps.{is_shown, value_cell}
-use Rattle.iox_robust_steps.specs.ContainerStays.{whose_after}
+use Rattle.iox_robust_steps.specs.ContainerThroughout.{IsSoUpTo}
+use Rattle.iox_robust_steps.specs.Machine.{is_lost}
 use Rattle.iox_robust_steps.specs.declared.container.call.MemberAnswer.{MemberAnswer}
 use Rattle.iox_robust_steps.specs.declared.container.call.MemberAnswer.TheVariants.{Added, Removed, Updated}
 use Rattle.iox_robust_steps.specs.declared.container.call.MemberCall.{MemberCall}
@@ -15,7 +21,7 @@ use Rattle.iox_robust_steps.specs.declared.container.MemberFinished.{MemberFinis
 
 -- after these steps a member of the party is in at the place, and the count of the place shows it
 pub record IsIn (start : RingWords) (party place : ℕ) (events : List Event) : Type 0 where
-  pub its : whose_after place None events ≡ Some party
+  pub its : IsInside party place events
   pub shown : is_shown (slice_index (words_after start events).cells place) ≡ true
 
 -- so with just this value
@@ -26,27 +32,43 @@ pub record IsInWith (n width : ℕ) (start : RingWords) (party place : ℕ) (val
 
 -- after these steps no member of the party is in at the place
 abbrev pub IsNotIn : ℕ → ℕ → List Event → Type 0
-IsNotIn party place events = whose_after place None events ≡ Some party → ⊥
-
--- it is so at each moment from the step `first` on, up to the end of these steps
-abbrev pub IsSoUpTo : (List Event → Type 0) → ℕ → List Event → Type 0
-IsSoUpTo IsSo first events = (steps rest : List Event) → events ≡ steps ++ rest → first ≤ length steps → IsSo steps
+IsNotIn party place events = IsInside party place events → ⊥
 
 -- it is so after some steps, and at each moment of those behind them
 abbrev pub IsSoFrom : (List Event → Type 0) → List Event → List Event → Type 0
 IsSoFrom IsSo earlier later = (steps rest : List Event) → later ≡ steps ++ rest → IsSo (earlier ++ steps)
 
--- the moment of an addition, which the party began with the step `first`, is a step of its own: up to it no member of the party is in at
--- the place at any moment of the call, and from then on its member is in at each one, with just this value
-pub record AddsAt (n width : ℕ) (start : RingWords) (party first : ℕ) (events : List Event) (place : ℕ) (value : List ℕ) : Type 0 where
+-- a step with its answer takes the member out that is in at the place, as recoveries alone do: its exchange of the count is won
+abbrev pub expels : ℕ → Access → ℕ → Bool
+expels place (Load word) answer = false
+expels place (Store word value) answer = false
+expels place (Exchange Write old new) answer = false
+expels place (Exchange Read old new) answer = false
+expels place (Exchange (Cell cell) old new) answer = (cell == place) && (answer == old)
+expels place Local answer = false
+
+-- by one of these steps a recovery takes the member out that is in at the place
+abbrev pub IsExpelledIn : ℕ → List Event → Type 0
+IsExpelledIn place [] = ⊥
+IsExpelledIn place (event ∷ events) = (expels place event.access event.answer ≡ true) ⊎ IsExpelledIn place events
+
+-- the moment of an addition, which the party began with the step `first`, is a step of its own: nobody's member is in at the place before
+-- it, and none of the party is at any moment of the call up to it, but one that a recovery takes out in time; from then on its member is
+-- in at each one, with just this value, till a recovery takes it out; and till these steps end none does, unless the owner is lost
+pub record AddsAt (n width : ℕ) (start : RingWords) (gone : Bool) (party first : ℕ) (events : List Event) (place : ℕ) (value : List ℕ)
+    : Type 0 where
   pub earlier : List Event
   pub moment : Event
   pub later : List Event
   pub whole : events ≡ earlier ++ moment ∷ later
   pub inside : first ≤ length earlier
   pub its : moment.party ≡ party
-  pub not_yet : IsSoUpTo (IsNotIn party place) first earlier
-  pub from_then : IsSoFrom (IsInWith n width start party place value) (earlier ++ moment ∷ []) later
+  pub none_in : inside_after place None earlier ≡ None
+  pub not_yet : (steps rest : List Event) → earlier ≡ steps ++ rest → first ≤ length steps
+      → IsNotIn party place steps ⊎ IsExpelledIn place rest
+  pub from_then : (steps rest : List Event) → later ≡ steps ++ rest
+      → IsInWith n width start party place value ((earlier ++ moment ∷ []) ++ steps) ⊎ IsExpelledIn place steps
+  pub till_end : gone ≡ false → IsExpelledIn place later → ⊥
 
 -- the moment of a removal is a step of the party's own, too: up to it the party's member is in at each moment of the call, and from then on
 -- none of the party is in at the place at any one
@@ -61,22 +83,22 @@ pub record RemovesAt (start : RingWords) (party first : ℕ) (events : List Even
   pub no_more : IsSoFrom (IsNotIn party place) (earlier ++ moment ∷ []) later
 
 -- the moment of a call with this answer, if it has one: an addition that isn't refused has, and a removal
-abbrev pub MomentOf : ℕ → ℕ → List (Vec ℕ) → RingWords → ℕ → ℕ → List Event → MemberCall → MemberAnswer → Type 0
-MomentOf n width values start party first events (call.Add number owner) (Added (Ok index)) =
-    AddsAt n width start party first events index (table_value values number)
-MomentOf n width values start party first events (call.Add number owner) (Added (Err why)) = Unit {0}
-MomentOf n width values start party first events (call.Add number owner) (Removed state) = Unit {0}
-MomentOf n width values start party first events (call.Add number owner) (Updated copied) = Unit {0}
-MomentOf n width values start party first events (call.Remove owner index mode) (Added got) = Unit {0}
-MomentOf n width values start party first events (call.Remove owner index mode) (Removed state) =
+abbrev pub MomentOf : ℕ → ℕ → List (Vec ℕ) → RingWords → List ℕ → ℕ → ℕ → List Event → MemberCall → MemberAnswer → Type 0
+MomentOf n width values start lost party first events (call.Add number owner) (Added (Ok index)) =
+    AddsAt n width start (is_lost owner lost) party first events index (table_value values number)
+MomentOf n width values start lost party first events (call.Add number owner) (Added (Err why)) = Unit {0}
+MomentOf n width values start lost party first events (call.Add number owner) (Removed state) = Unit {0}
+MomentOf n width values start lost party first events (call.Add number owner) (Updated copied) = Unit {0}
+MomentOf n width values start lost party first events (call.Remove owner index mode) (Added got) = Unit {0}
+MomentOf n width values start lost party first events (call.Remove owner index mode) (Removed state) =
     RemovesAt start party first events index
-MomentOf n width values start party first events (call.Remove owner index mode) (Updated copied) = Unit {0}
-MomentOf n width values start party first events call.Update answer = Unit {0}
-MomentOf n width values start party first events (call.Recover owner number mode) answer = Unit {0}
+MomentOf n width values start lost party first events (call.Remove owner index mode) (Updated copied) = Unit {0}
+MomentOf n width values start lost party first events call.Update answer = Unit {0}
+MomentOf n width values start lost party first events (call.Recover owner number mode) answer = Unit {0}
 
 -- so of each call that ended, among the steps before its last one
-abbrev pub EachHasItsMoment : ℕ → ℕ → List (Vec ℕ) → RingWords → List Event → List MemberFinished → Type 0
-EachHasItsMoment n width values start events [] = Unit {0}
-EachHasItsMoment n width values start events (f ∷ finished) =
-    MomentOf n width values start f.party f.first (take f.last events) f.call f.answer
-    × EachHasItsMoment n width values start events finished
+abbrev pub EachHasItsMoment : ℕ → ℕ → List (Vec ℕ) → RingWords → List ℕ → List Event → List MemberFinished → Type 0
+EachHasItsMoment n width values start lost events [] = Unit {0}
+EachHasItsMoment n width values start lost events (f ∷ finished) =
+    MomentOf n width values start lost f.party f.first (take f.last events) f.call f.answer
+    × EachHasItsMoment n width values start lost events finished

@@ -70,7 +70,8 @@ pub record Passing : Type 0 where
   pub place : ℕ
   pub comes_in : Bool
 
--- what a step lets pass at one of n places: it stores the count of the place, and a member is in then or none is
+-- what a step lets pass at one of n places by storing the count of the place: a member is in then or none is. What a recovery takes out,
+-- by an exchange, isn't told here
 abbrev pub passed_by : ℕ → Access → List Passing
 passed_by n (Load word) = []
 passed_by n (Store Write value) = []
@@ -86,7 +87,7 @@ passed_in n [] = []
 passed_in n (event ∷ events) = passed_by n event.access ++ passed_in n events
 
 -- what a call lets pass, by its answer: an addition that isn't refused its member, which comes in at the index that it answers; a
--- removal its member, which goes out at its index; any other call nothing
+-- removal its member, which goes out at its index; any other call stores no count
 abbrev pub passed_with : MemberCall → MemberAnswer → List Passing
 passed_with (call.Add number owner) (Added (Ok index)) = record { place = index; comes_in = true } ∷ []
 passed_with (call.Add number owner) (Added (Err why)) = []

@@ -1,10 +1,9 @@
 -- What a copy shows of a member that is in throughout.
-use Rattle.std.specs.Prelude.{ℕ, ◌≡◌, ◌<◌, true, false, Some, None, List, [], ◌∷◌, slice_index, take, drop}
+use Rattle.std.specs.Prelude.{ℕ, ◌≡◌, ◌<◌, ◌≤◌, true, false, Some, None, List, [], ◌∷◌, ◌++◌, length, slice_index, take, drop}
 use Rattle.iox_queues_steps.specs.Access.{RingWords}
 use Rattle.iox_queues.specs.Moments.{words_after}
 use Rattle.iox_queues.specs.Told.{own}
 use Rattle.iox_queues.specs.declared.bits.machine.Event.{Event}
-use Rattle.iox_robust_steps.specs.ContainerMoments.{IsSoUpTo}
 use Rattle.iox_robust_steps.specs.ContainerSteps.{is_shown, value_cell}
 use Rattle.iox_robust_steps.specs.ContainerStays.{whose_after}
 use Rattle.iox_robust_steps.specs.ContainerTold.{shown_at, Shown}
@@ -13,6 +12,10 @@ use Rattle.iox_robust_steps.specs.declared.container.call.MemberAnswer.TheVarian
 use Rattle.iox_robust_steps.specs.declared.container.call.MemberCall.{MemberCall}
 use Rattle.iox_robust_steps.specs.declared.container.call.MemberCall.TheVariants as call
 use Rattle.iox_robust_steps.specs.declared.container.MemberFinished.{MemberFinished}
+
+-- it is so at each moment from the step `first` on, up to the end of these steps
+abbrev pub IsSoUpTo : (List Event → Type 0) → ℕ → List Event → Type 0
+IsSoUpTo IsSo first events = (steps rest : List Event) → events ≡ steps ++ rest → first ≤ length steps → IsSo steps
 
 -- after these steps a member of this party is in at the place
 abbrev pub IsTheirs : ℕ → ℕ → List Event → Type 0

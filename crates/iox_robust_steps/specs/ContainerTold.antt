@@ -97,7 +97,8 @@ pub record CopyIsTrue (n width : ℕ) (start : RingWords) (first : ℕ) (events 
       → ((moment : ℕ) → first ≤ moment → moment ≤ length events → count_at start events place moment ≡ count)
       → (shown_at n place own).count ≡ count
 
--- one of the party's steps since `first` put the member in: none was in at the place before, and this value is there with it
+-- one of the party's steps since `first` put the member in, by storing the count of the place: none was in there before, and this value
+-- is there with it
 pub record ComesIn (n width : ℕ) (start : RingWords) (party first : ℕ) (events : List Event) (place : ℕ) (value : List ℕ) : Type 0 where
   pub earlier : List Event
   pub event : Event
@@ -105,12 +106,14 @@ pub record ComesIn (n width : ℕ) (start : RingWords) (party first : ℕ) (even
   pub whole : events ≡ earlier ++ event ∷ later
   pub inside : first ≤ length earlier
   pub its : event.party ≡ party
+  pub count : ℕ
+  pub stores : event.access ≡ Store (Cell place) count
   pub out : is_shown (slice_index (words_after start earlier).cells place) ≡ false
   pub in_then : is_shown (slice_index (after_access (words_after start earlier) event.access).cells place) ≡ true
   pub is : (j : ℕ) → j < width
       → slice_index (after_access (words_after start earlier) event.access).cells (value_cell n width place j) ≡ slice_index value j
 
--- one of the party's steps since `first` took the member out that was in at the place
+-- one of the party's steps since `first` took the member out that was in at the place, by storing its count
 pub record GoesOut (start : RingWords) (party first : ℕ) (events : List Event) (place : ℕ) : Type 0 where
   pub earlier : List Event
   pub event : Event
@@ -118,6 +121,8 @@ pub record GoesOut (start : RingWords) (party first : ℕ) (events : List Event)
   pub whole : events ≡ earlier ++ event ∷ later
   pub inside : first ≤ length earlier
   pub its : event.party ≡ party
+  pub count : ℕ
+  pub stores : event.access ≡ Store (Cell place) count
   pub in_before : is_shown (slice_index (words_after start earlier).cells place) ≡ true
   pub out : is_shown (slice_index (after_access (words_after start earlier) event.access).cells place) ≡ false
 

@@ -13,6 +13,7 @@ use Rattle.iox_robust_steps.specs.Machine.{CellFits, HasFewSteps, IsLockedByRele
 use Rattle.iox_robust_steps.specs.Machine.{one_if_held}
 use Rattle.iox_robust_steps.specs.Machine.{place_of}
 use Rattle.iox_robust_steps.specs.Machine.{seat_at, stage_at}
+use Rattle.iox_robust_steps.specs.Named.{StandsUnder}
 use Rattle.iox_robust_steps.specs.OfCalls.{StepsAreOfCalls}
 use Rattle.iox_robust_steps.specs.declared.call.Call.{Call}
 use Rattle.iox_robust_steps.specs.declared.call.Call.TheVariants as call
@@ -103,12 +104,15 @@ FreesSoFar n decisions lost cells (stage.Scan c i count) = FreedBy decisions los
 FreesSoFar n decisions lost cells (stage.Lock c count) = FreedBy decisions lost cells n c
 FreesSoFar n decisions lost cells (stage.Done c answer) = FreedBy decisions lost cells n c
 
--- where the premise holds, the words fit, each call in hand knows its steps, and each that ended is told
+-- where the premise holds, the words fit, each call in hand knows its steps, each that ended is told, and what is held stands under the
+-- owner of the acquire that took it
 pub record IsConsistent (m : RobustSetState) : Type 0 where
   pub whole : WordsFit m.capacity m.words m.places m.events
   pub knows : (party : ℕ) → Knows m.capacity m.words m.places m.lost party (own party (drop (seat_at m.seats party).first m.events))
       (stage_at m.seats party)
   pub told : AreTold m.capacity (is_locked m) m.events m.finished
+  pub named : (i p : ℕ) → place_of m.places i ≡ place.Held p
+      → StandsUnder p i (slice_index m.words.cells i) (seat_at m.seats p) m.events m.finished
   pub locked_by : is_locked m ≡ true → IsLockedByRelease m
   pub frees : (party : ℕ) → FreesSoFar m.capacity m.decisions m.lost m.words.cells (stage_at m.seats party)
   pub freed : AreFreed m.decisions m.lost m.words.cells m.capacity m.finished

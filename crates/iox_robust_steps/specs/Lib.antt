@@ -2,6 +2,7 @@
 pub mod Steps
 pub mod Changes
 pub mod Told
+pub mod Named
 pub mod Machine
 pub mod OfCalls
 pub mod Recovering
@@ -13,9 +14,9 @@ pub mod ContainerMachine
 pub mod ContainerTold
 pub mod ContainerOfSet
 pub mod ContainerStays
-pub mod ContainerMoments
 pub mod ContainerThroughout
 pub mod ContainerRecovering
 pub mod ContainerInside
+pub mod ContainerMoments
 pub mod ContainerKept
 pub mod ContainerView

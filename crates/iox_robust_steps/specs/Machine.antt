@@ -16,6 +16,7 @@ use Rattle.iox_robust_steps.specs.Changes.{is_owner, times_given, times_taken}
 use Rattle.iox_robust_steps.specs.Told.{AreAsked, AreFreed, AreTold, EachFreesItsOwn, Holds, IsAskedSoFar, LieWithin, TakesTurns}
 use Rattle.iox_robust_steps.specs.Told.{Tells}
 use Rattle.iox_robust_steps.specs.Told.{is_locking, some_has_locked}
+use Rattle.iox_robust_steps.specs.Named.{StandsUnder}
 use Rattle.iox_robust_steps.specs.declared.call.Answer.{Answer}
 use Rattle.iox_robust_steps.specs.declared.call.Call.{Call}
 use Rattle.iox_robust_steps.specs.declared.call.Call.TheVariants as call
@@ -23,17 +24,18 @@ use Rattle.iox_robust_steps.specs.declared.call.RobustCall.{RobustCall}
 use Rattle.iox_robust_steps.specs.declared.call.RobustCall.TheVariants as stage
 use Rattle.iox_robust_steps.specs.declared.machine.Finished.{Finished}
 use Rattle.iox_robust_steps.specs.declared.machine.Move.{Move}
-use Rattle.iox_robust_steps.specs.declared.machine.Move.TheVariants.{Begin, GoOn}
+use Rattle.iox_robust_steps.specs.declared.machine.Move.TheVariants.{Begin, GoOn, Insist}
 use Rattle.iox_robust_steps.specs.declared.state.Place.{Place}
 use Rattle.iox_robust_steps.specs.declared.state.Place.TheVariants as place
 use Rattle.iox_robust_steps.specs.declared.state.Seat.{Seat}
 
--- how many indices there are, the decisions of recoveries, the words, where each party stands, how far each index is taken and by
--- which party, the owners whose recovery began, the steps made, and the calls that ended. The count lies in the read position; the
--- cell of an index names its owner; behind them is a spare cell
+-- how many indices there are, the decisions of recoveries, whether a step may insist against them, the words, where each party stands,
+-- how far each index is taken and by which party, the owners whose recovery began, the steps made, and the calls that ended. The count
+-- lies in the read position; the cell of an index names its owner; behind them is a spare cell
 pub record RobustSetState : Type 0 where
   pub capacity : ℕ
   pub decisions : List (Vec Bool)
+  pub may_insist : Bool
   pub words : RingWords
   pub seats : List Seat
   pub places : List Place
@@ -111,16 +113,19 @@ may_begin m party (call.Release owner index mode) =
     && (nat_lt index m.capacity && (is_holder party (place_of m.places index) && (word_of m.words (Cell index) == owner)))
 may_begin m party (call.Recover owner number mode) = is_owner owner
 
--- a begin fits a party that is there and between calls, a go on one inside a call that isn't halted
+-- a begin fits a party that is there and between calls, a go on one inside a call that isn't halted; and one that insists, where one may
 abbrev pub fits : RobustSetState → Move → Bool
 fits m (Begin party c) = nat_lt party (length m.seats) && (call_is_idle (stage_at m.seats party) && may_begin m party c)
 fits m (GoOn party) =
     nat_lt party (length m.seats) && (not (call_is_idle (stage_at m.seats party)) && not (is_halted m.lost (stage_at m.seats party)))
+fits m (Insist party) = m.may_insist
+    && (nat_lt party (length m.seats) && (not (call_is_idle (stage_at m.seats party)) && not (is_halted m.lost (stage_at m.seats party))))
 
 -- the step is the last of its call
 abbrev pub ends : RobustSetState → Move → Bool
 ends m (Begin party c) = false
 ends m (GoOn party) = call_is_over (stage_at m.seats party)
+ends m (Insist party) = call_is_over (stage_at m.seats party)
 
 -- the owners whose recovery began, after a begin of this call
 abbrev pub lost_begun : List ℕ → Call → List ℕ
@@ -169,12 +174,13 @@ call_ended party first last (stage.Lock c count) = []
 call_ended party first last (stage.Done c answer) =
     record { party = party; call = c; answer = answer; first = first; last = last } ∷ []
 
--- the machine after one access of a party
-abbrev pub went : RobustSetState → ℕ → RobustSetState
-went m party = record m {
+-- the machine after one access of a party; a recovery that sees an index of its owner frees it where the step insists, whatever was
+-- decided
+abbrev pub went : RobustSetState → ℕ → Bool → RobustSetState
+went m party insists = record m {
   words = after_access m.words (call_next (stage_at m.seats party));
   seats = set m.seats party (record {
-    stage = call_take m.capacity m.decisions (stage_at m.seats party) (answer_of m.words (call_next (stage_at m.seats party)));
+    stage = call_take m.capacity m.decisions insists (stage_at m.seats party) (answer_of m.words (call_next (stage_at m.seats party)));
     first = (seat_at m.seats party).first;
   });
   places = places_after m.places party (stage_at m.seats party) (answer_of m.words (call_next (stage_at m.seats party)));
@@ -189,7 +195,8 @@ went m party = record m {
 -- the machine after a step that fits
 abbrev pub happens : RobustSetState → Move → RobustSetState
 happens m (Begin party c) = begun m party c
-happens m (GoOn party) = went m party
+happens m (GoOn party) = went m party false
+happens m (Insist party) = went m party true
 
 -- what a step answers, and what it leaves
 abbrev pub StepsTo : RobustSetState → Move → Stepped → RobustSetState → Type 0
@@ -213,7 +220,8 @@ IsLockedByRelease m =
     (some_has_locked m.finished ≡ true) ⊎ ((party : ℕ) × (is_locking (stage_at m.seats party) ≡ true))
 
 -- what every list of steps keeps: no index has two holders; the holder is the party that took it, and nobody gave it back; an index is
--- taken and given back by turns, so that between two takings lies its release or recovery; its cell holds what fits how far it is taken;
+-- taken and given back by turns, so that between two takings lies its release or recovery; its cell holds what fits how far it is taken,
+-- and while it is held names the owner of the acquire that took it last, which answered it;
 -- of a locked set none is taken, and only a call that was to lock it locked it; the own steps of each call that ended say what it answered,
 -- so of one in hand that has its answer; and a recovery left its owner no index that it was to free, for good
 pub record IsOrderly (m : RobustSetState) : Type 0 where
@@ -222,6 +230,8 @@ pub record IsOrderly (m : RobustSetState) : Type 0 where
   pub held : (i p : ℕ) → Holds p i m.events → place_of m.places i ≡ place.Held p
   pub turns : (i k : ℕ) → TakesTurns i (take k m.events)
   pub cells : (i : ℕ) → i < m.capacity → CellFits (place_of m.places i) (slice_index m.words.cells i)
+  pub named : (i p : ℕ) → place_of m.places i ≡ place.Held p
+      → StandsUnder p i (slice_index m.words.cells i) (seat_at m.seats p) m.events m.finished
   pub holds : (i : ℕ) → times_taken i m.events ≡ times_given i m.events + one_if_held (place_of m.places i)
   pub locked_by : is_locked m ≡ true → IsLockedByRelease m
   pub none_out : is_locked m ≡ true → (i : ℕ) → times_taken i m.events ≡ times_given i m.events
@@ -238,11 +248,12 @@ StaysLocked m n = is_locked m ≡ true → is_locked n ≡ true
 abbrev pub start_words : ℕ → RingWords
 start_words capacity = record { cells = replicate (capacity + 1) 0; write = 0; read = 0 }
 
--- a set of which no index is taken, with the decisions of recoveries
-abbrev pub start : ℕ → ℕ → List (Vec Bool) → RobustSetState
-start capacity parties decisions = record {
+-- a set of which no index is taken, with the decisions of recoveries, against which a step may insist or not
+abbrev pub start : ℕ → ℕ → List (Vec Bool) → Bool → RobustSetState
+start capacity parties decisions may_insist = record {
   capacity = capacity;
   decisions = decisions;
+  may_insist = may_insist;
   words = start_words capacity;
   seats = replicate parties idle_seat;
   places = replicate capacity place.Empty;
@@ -257,7 +268,7 @@ start capacity parties decisions = record {
 pub record IsRecorded (m : RobustSetState) : Type 0 where
   pub answered : Answered (start_words m.capacity) m.events m.words
   pub among : LieWithin m.events m.finished
-  pub ended : AreAsked m.capacity m.decisions m.events m.finished
-  pub frees : EachFreesItsOwn m.decisions m.events m.finished
-  pub going : (party : ℕ) → IsAskedSoFar m.capacity m.decisions party (call_in_hand (stage_at m.seats party))
+  pub ended : AreAsked m.capacity m.decisions m.may_insist m.events m.finished
+  pub frees : EachFreesItsOwn m.decisions m.may_insist m.events m.finished
+  pub going : (party : ℕ) → IsAskedSoFar m.capacity m.decisions m.may_insist party (call_in_hand (stage_at m.seats party))
       (stage_at m.seats party) (own party (drop (seat_at m.seats party).first m.events))

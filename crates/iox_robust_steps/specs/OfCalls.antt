@@ -8,7 +8,7 @@ use Rattle.iox_robust_steps.specs.Machine.{RobustSetState, seat_at, stage_at}
 use Rattle.iox_robust_steps.specs.declared.call.Call.{Call}
 use Rattle.iox_robust_steps.specs.declared.machine.Finished.{Finished}
 use Rattle.iox_robust_steps.specs.declared.machine.Move.{Move}
-use Rattle.iox_robust_steps.specs.declared.machine.Move.TheVariants.{Begin, GoOn}
+use Rattle.iox_robust_steps.specs.declared.machine.Move.TheVariants.{Begin, GoOn, Insist}
 use Rattle.iox_robust_steps.specs.declared.state.Seat.{Seat}
 
 -- the first and the last step of a call that ended
@@ -32,6 +32,7 @@ StepsAreOfCalls m = AreOfCalls m.events (spans_ended m.finished) (λ (party : �
 abbrev pub party_of : Move → ℕ
 party_of (Begin party c) = party
 party_of (GoOn party) = party
+party_of (Insist party) = party
 
 -- the call that each party is in
 abbrev pub hands : RobustSetState → ℕ → Option Call
@@ -41,6 +42,7 @@ hands m party = call_in_hand (stage_at m.seats party)
 abbrev pub call_of_step : RobustSetState → Move → Option Call
 call_of_step m (Begin party c) = Some c
 call_of_step m (GoOn party) = hands m party
+call_of_step m (Insist party) = hands m party
 
 -- where this machine has its steps and its calls
 abbrev pub calls_of : CallsOf RobustSetState Call Finished

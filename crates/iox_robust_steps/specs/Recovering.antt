@@ -16,29 +16,32 @@ abbrev pub IndexStays : RingWords → RingWords → List Place → List Place �
 IndexStays words words' places places' i =
     (place_of places' i ≡ place_of places i) × (slice_index words'.cells i ≡ slice_index words.cells i)
 
--- a recovery frees an index: that was decided, the cell held its owner, or showed that the owner was about to take it; and it is free now
-pub record FreesIndex (decisions : List (Vec Bool)) (words words' : RingWords) (places places' : List Place) (owner number i : ℕ) : Type 0
+-- a recovery frees an index: that was decided, or a step may insist on it, the cell held its owner, or showed that the owner was about to
+-- take it; and it is free now
+pub record FreesIndex (decisions : List (Vec Bool)) (may : Bool) (words words' : RingWords) (places places' : List Place)
+    (owner number i : ℕ) : Type 0
   where
-    pub wanted : decided decisions number i ≡ true
+    pub wanted : (decided decisions number i ≡ true) ⊎ (may ≡ true)
     pub owned : (slice_index words.cells i ≡ owner) ⊎ (slice_index words.cells i ≡ reserved owner)
     pub free : place_of places' i ≡ place.Empty
     pub empty : slice_index words'.cells i ≡ 0
 
 -- a step of a recovery leaves each of n indices as it is, or frees it, and leaves the count, or locks the set
-pub record RecoversSo (n : ℕ) (decisions : List (Vec Bool)) (words words' : RingWords) (places places' : List Place) (owner number : ℕ)
+pub record RecoversSo (n : ℕ) (decisions : List (Vec Bool)) (may : Bool) (words words' : RingWords) (places places' : List Place)
+    (owner number : ℕ)
     : Type 0 where
   pub each : (i : ℕ) → i < n
-      → IndexStays words words' places places' i ⊎ FreesIndex decisions words words' places places' owner number i
+      → IndexStays words words' places places' i ⊎ FreesIndex decisions may words words' places places' owner number i
   pub count : (words'.read ≡ words.read) ⊎ (words'.read ≡ lock_mark)
 
 -- so does a step of this call, if it is a recovery
-abbrev pub IfRecovers : ℕ → List (Vec Bool) → RingWords → RingWords → List Place → List Place → Option Call → Type 0
-IfRecovers n decisions words words' places places' None = Unit {0}
-IfRecovers n decisions words words' places places' (Some (call.Acquire owner)) = Unit {0}
-IfRecovers n decisions words words' places places' (Some (call.Release owner index mode)) = Unit {0}
-IfRecovers n decisions words words' places places' (Some (call.Recover owner number mode)) =
-    RecoversSo n decisions words words' places places' owner number
+abbrev pub IfRecovers : ℕ → List (Vec Bool) → Bool → RingWords → RingWords → List Place → List Place → Option Call → Type 0
+IfRecovers n decisions may words words' places places' None = Unit {0}
+IfRecovers n decisions may words words' places places' (Some (call.Acquire owner)) = Unit {0}
+IfRecovers n decisions may words words' places places' (Some (call.Release owner index mode)) = Unit {0}
+IfRecovers n decisions may words words' places places' (Some (call.Recover owner number mode)) =
+    RecoversSo n decisions may words words' places places' owner number
 
 -- each step of a recovery frees an index that it was to free of its owner, or none, and changes nothing else but to lock the set
 abbrev pub FreesOnlyItsOwn : RobustSetState → Move → RobustSetState → Type 0
-FreesOnlyItsOwn m step n = IfRecovers m.capacity m.decisions m.words n.words m.places n.places (call_of_step m step)
+FreesOnlyItsOwn m step n = IfRecovers m.capacity m.decisions m.may_insist m.words n.words m.places n.places (call_of_step m step)

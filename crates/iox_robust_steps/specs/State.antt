@@ -6,6 +6,7 @@ abbrev pub machine_of : State → RobustSetState
 machine_of s = record {
   capacity = s.capacity;
   decisions = s.decisions.items;
+  may_insist = s.may_insist;
   words = s.ring;
   seats = s.seats.items;
   places = s.places.items;

@@ -77,37 +77,40 @@ answer_among place (Some answers) = answer_on (slice_get (vec_items answers) pla
 abbrev pub decided : List (Vec Bool) → ℕ → ℕ → Bool
 decided decisions number place = answer_among place (slice_get decisions number)
 
--- the cell is the owner's, and it was decided to free it
-abbrev pub is_freed : List (Vec Bool) → ℕ → ℕ → ℕ → ℕ → Bool
-is_freed decisions owner number place seen =
-    ((seen == owner) || (seen == reserved owner)) && decided decisions number place
+-- the cell is the owner's, or shows that it is about to take the index
+abbrev pub is_seen_of : ℕ → ℕ → Bool
+is_seen_of owner seen = (seen == owner) || (seen == reserved owner)
 
--- the stage after the answer of that access, in a set of n indices
-abbrev pub call_take : ℕ → List (Vec Bool) → RobustCall → ℕ → RobustCall
-call_take n decisions stage.Idle answer = stage.Idle
-call_take n decisions (stage.Acquire owner) answer =
+-- the cell is the owner's, and it was decided to free it, or the step insists on that
+abbrev pub is_freed : List (Vec Bool) → Bool → ℕ → ℕ → ℕ → ℕ → Bool
+is_freed decisions insists owner number place seen = is_seen_of owner seen && (insists || decided decisions number place)
+
+-- the stage after the answer of that access, in a set of n indices; a step may insist that a recovery frees what it sees of its owner
+abbrev pub call_take : ℕ → List (Vec Bool) → Bool → RobustCall → ℕ → RobustCall
+call_take n decisions insists stage.Idle answer = stage.Idle
+call_take n decisions insists (stage.Acquire owner) answer =
     if answer == lock_mark then stage.Done (call.Acquire owner) (Acquired (Err IsLocked)) else claims_from n owner 0 answer
-call_take n decisions (stage.Claim owner place count) answer =
+call_take n decisions insists (stage.Claim owner place count) answer =
     if answer == 0 then stage.Count owner place count else claims_from n owner (successor place) count
-call_take n decisions (stage.Count owner place count) answer =
+call_take n decisions insists (stage.Count owner place count) answer =
     if answer == count
     then stage.Confirm owner place
     else if answer == lock_mark then stage.Undo owner place else stage.Count owner place answer
-call_take n decisions (stage.Confirm owner place) answer = stage.Done (call.Acquire owner) (Acquired (Ok place))
-call_take n decisions (stage.Undo owner place) answer = stage.Done (call.Acquire owner) (Acquired (Err IsLocked))
-call_take n decisions (stage.Free owner index mode) answer = settles mode (call.Release owner index mode)
-call_take n decisions (stage.Look owner number mode place) answer =
-    if is_freed decisions owner number place answer
+call_take n decisions insists (stage.Confirm owner place) answer = stage.Done (call.Acquire owner) (Acquired (Ok place))
+call_take n decisions insists (stage.Undo owner place) answer = stage.Done (call.Acquire owner) (Acquired (Err IsLocked))
+call_take n decisions insists (stage.Free owner index mode) answer = settles mode (call.Release owner index mode)
+call_take n decisions insists (stage.Look owner number mode place) answer =
+    if is_freed decisions insists owner number place answer
     then stage.Clear owner number mode place answer
     else looks_from n owner number mode (successor place)
-call_take n decisions (stage.Clear owner number mode place seen) answer = looks_from n owner number mode (successor place)
-call_take n decisions (stage.Settle c) answer =
+call_take n decisions insists (stage.Clear owner number mode place seen) answer = looks_from n owner number mode (successor place)
+call_take n decisions insists (stage.Settle c) answer =
     if answer == lock_mark then stage.Done c (Settled Locked) else scans_from n c 0 answer
-call_take n decisions (stage.Scan c place count) answer =
+call_take n decisions insists (stage.Scan c place count) answer =
     if answer == 0 then scans_from n c (successor place) count else stage.Done c (Settled Unlocked)
-call_take n decisions (stage.Lock c count) answer =
+call_take n decisions insists (stage.Lock c count) answer =
     if is_marked_by count answer then stage.Done c (Settled Locked) else stage.Done c (Settled Unlocked)
-call_take n decisions (stage.Done c answered) answer = stage.Idle
+call_take n decisions insists (stage.Done c answered) answer = stage.Idle
 
 -- the first stage of a call, in a set of n indices
 abbrev pub call_begun : ℕ → Call → RobustCall

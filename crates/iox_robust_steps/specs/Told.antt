@@ -10,7 +10,7 @@ use Rattle.iox_container.specs.declared.release.ReleaseState.TheVariants.{Locked
 use Rattle.iox_queues_steps.specs.declared.access.Access.{Access}
 use Rattle.iox_queues_steps.specs.declared.access.Access.TheVariants.{Load, Store, Exchange, Local}
 use Rattle.iox_queues_steps.specs.declared.access.Word.TheVariants.{Write, Read, Cell}
-use Rattle.iox_queues.specs.Recorded.{IsAskedFrom, LiesWithin}
+use Rattle.iox_queues.specs.Recorded.{LiesWithin, local_step}
 use Rattle.iox_queues.specs.Told.{own}
 use Rattle.iox_queues.specs.declared.bits.machine.Event.{Event}
 use Rattle.iox_robust_steps.specs.Steps.{call_begun, call_next, call_take, decided, lock_mark, reserved}
@@ -23,22 +23,31 @@ use Rattle.iox_robust_steps.specs.declared.call.RobustCall.{RobustCall}
 use Rattle.iox_robust_steps.specs.declared.call.RobustCall.TheVariants as stage
 use Rattle.iox_robust_steps.specs.declared.machine.Finished.{Finished}
 
+-- a call's value asked for each access, and took its answer, from one stage to another; a step insisted only where one may
+abbrev pub SetGoes : ℕ → List (Vec Bool) → Bool → RobustCall → List Event → RobustCall → Type 0
+SetGoes n decisions may stage [] end = end ≡ stage
+SetGoes n decisions may stage (event ∷ events) end =
+    (event.access ≡ call_next stage) × (insists : Bool) × (insists ≡ true → may ≡ true)
+    × SetGoes n decisions may (call_take n decisions insists stage event.answer) events end
+
 -- the steps of a call up to a stage, in a set of n indices: a local one that begins it, and the accesses that its value asked for
-abbrev pub IsAsked : ℕ → List (Vec Bool) → ℕ → Call → RobustCall → List Event → Type 0
-IsAsked n decisions party c stage events =
-    IsAskedFrom RobustCall call_next (call_take n decisions) party (call_begun n c) stage events
+pub record IsAsked (n : ℕ) (decisions : List (Vec Bool)) (may : Bool) (party : ℕ) (c : Call) (stage : RobustCall) (events : List Event)
+    : Type 0 where
+  pub between : List Event
+  pub whole : events ≡ local_step party ∷ between
+  pub goes : SetGoes n decisions may (call_begun n c) between stage
 
 -- the steps of the call in hand, if there is one, up to its stage
-abbrev pub IsAskedSoFar : ℕ → List (Vec Bool) → ℕ → Option Call → RobustCall → List Event → Type 0
-IsAskedSoFar n decisions party None stage events = Unit {0}
-IsAskedSoFar n decisions party (Some c) stage events = IsAsked n decisions party c stage events
+abbrev pub IsAskedSoFar : ℕ → List (Vec Bool) → Bool → ℕ → Option Call → RobustCall → List Event → Type 0
+IsAskedSoFar n decisions may party None stage events = Unit {0}
+IsAskedSoFar n decisions may party (Some c) stage events = IsAsked n decisions may party c stage events
 
 -- the steps of each call that ended, up to its answer
-abbrev pub AreAsked : ℕ → List (Vec Bool) → List Event → List Finished → Type 0
-AreAsked n decisions events [] = Unit {0}
-AreAsked n decisions events (f ∷ finished) =
-    IsAsked n decisions f.party f.call (stage.Done f.call f.answer) (own f.party (drop f.first (take f.last events)))
-    × AreAsked n decisions events finished
+abbrev pub AreAsked : ℕ → List (Vec Bool) → Bool → List Event → List Finished → Type 0
+AreAsked n decisions may events [] = Unit {0}
+AreAsked n decisions may events (f ∷ finished) =
+    IsAsked n decisions may f.party f.call (stage.Done f.call f.answer) (own f.party (drop f.first (take f.last events)))
+    × AreAsked n decisions may events finished
 
 -- each of these calls lies among the steps made
 abbrev pub LieWithin : List Event → List Finished → Type 0
@@ -90,34 +99,34 @@ pub record SawOther (n : ℕ) (events : List Event) : Type 0 where
   pub whole : events ≡ before ++ look ∷ []
   pub saw : saw_other n look.access look.answer ≡ true
 
--- a step of a recovery changes no cell, unless it empties that of an index that it is to free, where its owner stands or is about to;
--- and it changes the count only to lock the set
-abbrev pub FreesSo : List (Vec Bool) → ℕ → ℕ → Access → Type 0
-FreesSo decisions owner number (Load word) = Unit {0}
-FreesSo decisions owner number (Store word value) = ⊥
-FreesSo decisions owner number (Exchange Write old new) = ⊥
-FreesSo decisions owner number (Exchange Read old new) = new ≡ lock_mark
-FreesSo decisions owner number (Exchange (Cell place) old new) =
-    (decided decisions number place ≡ true) × ((old ≡ owner) ⊎ (old ≡ reserved owner)) × (new ≡ 0)
-FreesSo decisions owner number Local = Unit {0}
+-- a step of a recovery changes no cell, unless it empties that of an index that it is to free, by a decision or where a step may insist,
+-- where its owner stands or is about to; and it changes the count only to lock the set
+abbrev pub FreesSo : List (Vec Bool) → Bool → ℕ → ℕ → Access → Type 0
+FreesSo decisions may owner number (Load word) = Unit {0}
+FreesSo decisions may owner number (Store word value) = ⊥
+FreesSo decisions may owner number (Exchange Write old new) = ⊥
+FreesSo decisions may owner number (Exchange Read old new) = new ≡ lock_mark
+FreesSo decisions may owner number (Exchange (Cell place) old new) =
+    ((decided decisions number place ≡ true) ⊎ (may ≡ true)) × ((old ≡ owner) ⊎ (old ≡ reserved owner)) × (new ≡ 0)
+FreesSo decisions may owner number Local = Unit {0}
 
 -- each of these steps is such a one
-abbrev pub FreeOnly : List (Vec Bool) → ℕ → ℕ → List Event → Type 0
-FreeOnly decisions owner number [] = Unit {0}
-FreeOnly decisions owner number (event ∷ events) =
-    FreesSo decisions owner number event.access × FreeOnly decisions owner number events
+abbrev pub FreeOnly : List (Vec Bool) → Bool → ℕ → ℕ → List Event → Type 0
+FreeOnly decisions may owner number [] = Unit {0}
+FreeOnly decisions may owner number (event ∷ events) =
+    FreesSo decisions may owner number event.access × FreeOnly decisions may owner number events
 
 -- the steps of a recovery are
-abbrev pub FreesItsOwn : List (Vec Bool) → Call → List Event → Type 0
-FreesItsOwn decisions (call.Acquire owner) events = Unit {0}
-FreesItsOwn decisions (call.Release owner i mode) events = Unit {0}
-FreesItsOwn decisions (call.Recover owner number mode) events = FreeOnly decisions owner number events
+abbrev pub FreesItsOwn : List (Vec Bool) → Bool → Call → List Event → Type 0
+FreesItsOwn decisions may (call.Acquire owner) events = Unit {0}
+FreesItsOwn decisions may (call.Release owner i mode) events = Unit {0}
+FreesItsOwn decisions may (call.Recover owner number mode) events = FreeOnly decisions may owner number events
 
 -- so of each recovery among these calls
-abbrev pub EachFreesItsOwn : List (Vec Bool) → List Event → List Finished → Type 0
-EachFreesItsOwn decisions events [] = Unit {0}
-EachFreesItsOwn decisions events (f ∷ finished) =
-    FreesItsOwn decisions f.call (own f.party (drop f.first (take f.last events))) × EachFreesItsOwn decisions events finished
+abbrev pub EachFreesItsOwn : List (Vec Bool) → Bool → List Event → List Finished → Type 0
+EachFreesItsOwn decisions may events [] = Unit {0}
+EachFreesItsOwn decisions may events (f ∷ finished) =
+    FreesItsOwn decisions may f.call (own f.party (drop f.first (take f.last events))) × EachFreesItsOwn decisions may events finished
 
 -- what the answer of a call says of its own steps: an acquire that took an index took just that one, whose cell it gave the name of its
 -- owner; one that was refused did nothing, and saw each cell filled, or the set is locked. A release gave just its index back; a recovery

@@ -1,7 +1,7 @@
 //! A call on a set that knows its holders, one access at a time.
 ghost use Rattle.std.specs.Prelude.{◌≡◌};
 ghost use Rattle.iox_robust_steps.specs.Steps.{call_begun, call_is_idle, call_is_over, call_next, call_take, claims_from, reserved};
-ghost use Rattle.iox_robust_steps.specs.Steps.{decided, is_freed, is_marked_by, looks_from, scans_from, settles};
+ghost use Rattle.iox_robust_steps.specs.Steps.{decided, is_freed, is_marked_by, is_seen_of, looks_from, scans_from, settles};
 
 use iox_container::{ReleaseMode, ReleaseState, UniqueIndexSetAcquireFailure};
 use iox_queues_steps::{Access, Word};
@@ -141,9 +141,16 @@ impl RobustCall {
         }
     }
 
-    /// Where the call stands after the answer of that access, in a set of this capacity.
-    pub fn take(self, capacity: u64, decisions: &[Vec<bool>], answer: u64) -> RobustCall
-        ensures { result ≡ call_take capacity decisions.now self answer }
+    /// Where the call stands after the answer of that access, in a set of this capacity. Where the step insists, a recovery that sees
+    /// an index of its owner is to free it, whatever was decided.
+    pub fn take(
+        self,
+        capacity: u64,
+        decisions: &[Vec<bool>],
+        insists: bool,
+        answer: u64,
+    ) -> RobustCall
+        ensures { result ≡ call_take capacity decisions.now insists self answer }
     {
         match self {
             RobustCall::Idle | RobustCall::Done { .. } => RobustCall::Idle,
@@ -199,7 +206,7 @@ impl RobustCall {
                 mode,
                 place,
             } => {
-                if is_freed(decisions, owner, number, place, answer) {
+                if is_freed(decisions, insists, owner, number, place, answer) {
                     RobustCall::Clear {
                         owner,
                         number,
@@ -339,11 +346,25 @@ fn is_marked_by(count: u64, answer: u64) -> bool
     answer == count || answer == LOCK_MARK
 }
 
-// The cell is the owner's, and it was decided to free it.
-fn is_freed(decisions: &[Vec<bool>], owner: u64, number: usize, place: u64, seen: u64) -> bool
-    ensures { result ≡ is_freed decisions.now owner number place seen }
+// The cell is the owner's, or shows that it is about to take the index.
+fn is_seen_of(owner: u64, seen: u64) -> bool
+    ensures { result ≡ is_seen_of owner seen }
 {
-    (seen == owner || seen == reserved(owner)) && decided(decisions, number, place)
+    seen == owner || seen == reserved(owner)
+}
+
+// The cell is the owner's, and it was decided to free it, or the step insists on that.
+fn is_freed(
+    decisions: &[Vec<bool>],
+    insists: bool,
+    owner: u64,
+    number: usize,
+    place: u64,
+    seen: u64,
+) -> bool
+    ensures { result ≡ is_freed decisions.now insists owner number place seen }
+{
+    is_seen_of(owner, seen) && (insists || decided(decisions, number, place))
 }
 
 // Nothing was decided where the table has no answer.

@@ -34,19 +34,23 @@ pub struct MemberFinished {
 ///
 /// A table has the values that may be added, each of as many words as the first. Any party may stop anywhere. A removal fits only where
 /// the party that added the member removes it, so once. Nobody puts a member in or takes one out for an owner whose recovery in the set
-/// of indices began; recoveries alone take members of it out, and what they decide on each place is handed in. However many steps were
-/// made, each got what its word held, and is one of one call of its party; the steps of a call are those that its value asked for.
+/// of indices began; recoveries alone take members of it out, and what they decide on each place is handed in. An index of their owner at
+/// which they see no member they free without a decision. However many steps were made, each got what its word held, and is one of one
+/// call of its party; the steps of a call are those that its value asked for.
 ///
 /// Where fewer than 2^64 - 1 steps were made, all stands that is said of a set of indices ([`RobustSetMachine`]). An addition that
 /// wasn't refused put its value in at the index that it answers, where none was in, a removal took its member out, each by one step of its
 /// own, and each counted one change; so did a recovery. An addition is refused as its call on the set was, and a removal or a recovery
 /// answers what its own did. A member stays, with its value, till the party that put it in takes it out, or a recovery does. Each step of
-/// a recovery takes out one member of its owner that it was to take out, or none; after a whole recovery none of those is in, for good.
+/// a recovery takes out one member of its owner that it was to take out, or none; after a whole recovery none of those is in, for good,
+/// and the owner has no index at which no member is in, but where a recovery took one out since this one began.
 /// Each member that a copy shows was in, with just that value, at one moment of the copy, and one whose count stayed throughout is shown. A
 /// copy answers that nothing changed only where no change began and ended since the party's last copy.
 ///
-/// Where no recovery began, the step of an addition or a removal is the moment of the call: up to it a member that is added isn't in, and
-/// one that is removed is, and from then on the other way round; and each call lets pass by its own steps just what it answers.
+/// The step of an addition or a removal is the moment of the call, whoever is recovered: up to it none of the party's members is in at the
+/// index of an addition, but one that a recovery takes out in time, and the one that is removed is in; and from then on the other way
+/// round. Till the call ends no recovery takes out what was added, unless the recovery of its owner began. Each call lets pass by its own
+/// steps just what it answers.
 #[derive(Debug, Drop)]
 pub struct ContainerMachine {
     state: MemberState,

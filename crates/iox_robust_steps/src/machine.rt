@@ -1,5 +1,5 @@
 //! The machine of a set of indices that knows their holders.
-ghost use Rattle.std.specs.Prelude.{◌≡◌, ◌+◌, ◌<◌, ◌≤◌, ◌^◌, ◌-◌, true, not, IfOk, length};
+ghost use Rattle.std.specs.Prelude.{◌≡◌, ◌+◌, ◌<◌, ◌≤◌, ◌^◌, ◌-◌, false, true, not, IfOk, length};
 
 use crate::call::{Answer, Call, RobustCall};
 pub use crate::state::Place;
@@ -14,6 +14,8 @@ use std::marker::Model;
 pub enum Move {
     Begin(usize, Call),
     GoOn(usize),
+    /// Goes on, and a recovery that sees an index of its owner is to free it, whatever was decided. It fits only in the set of a container.
+    Insist(usize),
 }
 
 /// A call that ended: its first and its last step, by their number among the steps made.
@@ -31,10 +33,10 @@ pub struct Finished {
 /// Any party may stop anywhere. A release fits only where its party holds the index for that owner, so once. Nobody acts for an owner
 /// whose recovery began: what its parties have in hand is skipped, unless it has freed its index or has its answer. What recoveries
 /// decide on each index is handed in. Where fewer than 2^64 - 1 steps were made, no index has two holders, the holder is the party that
-/// took it, between two takings of an index lies its release or recovery, of a locked set no index is out, only a call that was to lock
-/// it locked it, it stays locked, by its own steps an acquire took just the index that it answers, a release gave back just its own, and
-/// what was refused took none; and a recovery left its owner no index that it was to free. It freed nothing else, at any step, however
-/// many were made.
+/// took it, and the cell of an index that is held names the owner of the acquire that took it last, and answered it. Between two takings
+/// of an index lies its release or recovery, of a locked set no index is out, only a call that was to lock it locked it, it stays locked,
+/// by its own steps an acquire took just the index that it answers, a release gave back just its own, and what was refused took none; and
+/// a recovery left its owner no index that it was to free. It freed nothing else, at any step, however many were made.
 #[derive(Debug, Drop)]
 pub struct RobustSetMachine {
     state: State,
@@ -70,10 +72,25 @@ impl RobustSetMachine {
         decisions: Vec<Vec<bool>>,
     ) -> Result<RobustSetMachine, AllocError>
         requires { capacity < 2 ^ 62 }
-        ensures { IfOk result (λ m. m ≡ start capacity parties decisions.items) }
+        ensures { IfOk result (λ m. m ≡ start capacity parties decisions.items false) }
     {
         Ok(RobustSetMachine {
-            state: State::new(alloc, capacity, parties, decisions)?,
+            state: State::new(alloc, capacity, parties, decisions, false)?,
+        })
+    }
+
+    // One whose steps may insist that a recovery frees an index.
+    pub(crate) fn insistent(
+        alloc: Global,
+        capacity: usize,
+        parties: usize,
+        decisions: Vec<Vec<bool>>,
+    ) -> Result<RobustSetMachine, AllocError>
+        requires { capacity < 2 ^ 62 }
+        ensures { IfOk result (λ m. m ≡ start capacity parties decisions.items true) }
+    {
+        Ok(RobustSetMachine {
+            state: State::new(alloc, capacity, parties, decisions, true)?,
         })
     }
 

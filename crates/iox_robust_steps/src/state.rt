@@ -36,6 +36,8 @@ pub(crate) struct State {
     pub(crate) capacity: u64,
     // What recoveries decide on each index, by the number of a list of answers.
     pub(crate) decisions: Vec<Vec<bool>>,
+    // Whether a step may insist against them.
+    pub(crate) may_insist: bool,
     // The count lies in the read position; behind the cells of the indices is a spare one.
     pub(crate) ring: Ring,
     pub(crate) seats: Vec<Seat>,
@@ -54,9 +56,10 @@ impl State {
         capacity: usize,
         parties: usize,
         decisions: Vec<Vec<bool>>,
+        may_insist: bool,
     ) -> Result<State, AllocError>
         requires { capacity < 2 ^ 62 }
-        ensures { IfOk result (λ s. machine_of s ≡ start capacity parties decisions.items) }
+        ensures { IfOk result (λ s. machine_of s ≡ start capacity parties decisions.items may_insist) }
     {
         let cells = vec![in alloc; 0; capacity + 1]?;
         let places = vec![in alloc; Place::Empty; capacity]?;
@@ -64,6 +67,7 @@ impl State {
         Ok(State {
             capacity: capacity as u64,
             decisions,
+            may_insist,
             ring: Ring::new(cells, 0, 0),
             seats,
             places,
@@ -146,6 +150,15 @@ impl State {
         }
     }
 
+    // The party is inside a call that isn't halted.
+    fn may_go_on(&self, party: usize) -> bool
+        ensures { result ≡ fits (machine_of self.now) (Move.GoOn party) }
+    {
+        party < self.seats.len()
+            && !self.stage(party).is_idle()
+            && !self.is_halted(self.stage(party))
+    }
+
     pub(crate) fn fits(&self, step: Move) -> bool
         requires { 0 < length self.now.ring.cells }
         ensures { result ≡ fits (machine_of self.now) step }
@@ -156,11 +169,8 @@ impl State {
                     && self.stage(party).is_idle()
                     && self.may_begin(party, call)
             }
-            Move::GoOn(party) => {
-                party < self.seats.len()
-                    && !self.stage(party).is_idle()
-                    && !self.is_halted(self.stage(party))
-            }
+            Move::GoOn(party) => self.may_go_on(party),
+            Move::Insist(party) => self.may_insist && self.may_go_on(party),
         }
     }
 
@@ -169,7 +179,7 @@ impl State {
     {
         match step {
             Move::Begin(_, _) => false,
-            Move::GoOn(party) => self.stage(party).is_over(),
+            Move::GoOn(party) | Move::Insist(party) => self.stage(party).is_over(),
         }
     }
 
@@ -207,12 +217,12 @@ impl State {
         });
     }
 
-    fn go_on(&mut self, party: usize)
+    fn go_on(&mut self, party: usize, insists: bool)
         requires there { party < length self.old.seats.items }
         requires room { vec_len self.old.events < vec_capacity self.old.events }
         requires call { ends (machine_of self.old) (Move.GoOn party) ≡ true → vec_len self.old.finished < vec_capacity self.old.finished }
         requires cells { 0 < length self.old.ring.cells }
-        ensures { machine_of self.new ≡ went (machine_of self.old) party }
+        ensures { machine_of self.new ≡ went (machine_of self.old) party insists }
     {
         let seat = self.seat(party);
         end_call(&mut self.finished, party, seat, self.events.len() as u64);
@@ -222,7 +232,7 @@ impl State {
         self.seats[party] = Seat {
             stage: seat
                 .stage
-                .take(self.capacity, self.decisions.as_slice(), answer),
+                .take(self.capacity, self.decisions.as_slice(), insists, answer),
             first: seat.first,
         };
         self.events.push_reserved(Event {
@@ -242,7 +252,8 @@ impl State {
     {
         match step {
             Move::Begin(party, call) => self.begin(party, call),
-            Move::GoOn(party) => self.go_on(party),
+            Move::GoOn(party) => self.go_on(party, false),
+            Move::Insist(party) => self.go_on(party, true),
         }
     }
 

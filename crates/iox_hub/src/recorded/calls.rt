@@ -1,5 +1,5 @@
 //! What calls of a recorded hub do to the hub, and how things get their numbers.
-ghost use Rattle.std.specs.Prelude.{◌≡◌, ◌&&◌, [], Some, IfOk, is_ok};
+ghost use Rattle.std.specs.Prelude.{⊤, ◌≡◌, ◌&&◌, [], Some, IfOk, is_ok};
 ghost use Rattle.std.specs.Prelude.{List};
 ghost use Rattle.std.specs.Global.{Vec};
 ghost use Rattle.std.specs.Option.{unwrap_or};
@@ -281,7 +281,7 @@ fn opens_as_asked<P: Negotiated, T: Words + ZeroCopySend, U: Copy + ZeroCopySend
 ) -> Result<PortFactory<P>, P::OpenOrCreateError>
     requires { builder.hub ≡ hub.old.table.id }
     ensures { OpensInHub (detail FixedSize T.name T.size T.alignment) (detail FixedSize U.name U.size U.alignment)
-        (λ was_new. P.open_or_create_error (lacking_either was_new))
+        ⊤ (λ was_new. P.open_or_create_error (lacking_either was_new))
         (λ before came after. Either SteppedSight before.table.id (service_hash_of P.pattern builder.name) builder.node
         (λ given. P.verdict (P.with_attributes builder.requirement attributes) given)
         (agreement builder.name (service_hash_of P.pattern builder.name)

@@ -8,11 +8,12 @@ ghost use Rattle.iox_hub_commands.specs.Creating.{CreatesAs, CreatesNumbered, Cr
 ghost use Rattle.iox_hub_commands.specs.Described.{settings_of};
 ghost use Rattle.iox_command.specs.NegotiateBase.declared.failure.CreateFailure.{CreateFailure};
 ghost use Rattle.iox_command.specs.declared.refusal.Refusal.{Refusal};
-ghost use Rattle.iox_hub_base.specs.declared.hub.HashState.TheVariants.{Locked};
+ghost use Rattle.iox_hub_base.specs.declared.hub.HashState.TheVariants.{Described, Locked};
 ghost use Rattle.iox_hub_commands.specs.Refusing.{IsUncreated, create_refused, create_told, first_look};
 ghost use Rattle.iox_hub_base.specs.DescribeBase.Hash.{service_hash_of};
 ghost use Rattle.iox_hub_base.specs.DescribeSettings.Agreement.{agreement};
 ghost use Rattle.iox_command.specs.NegotiateBase.declared.failure.CreateFailure.TheVariants as uncreated;
+ghost use Rattle.iox_hub_base.specs.Negotiate.Asked.{IsRefusal};
 ghost use Rattle.iox_hub_base.specs.Negotiate.Negotiation.{Creates};
 ghost use Rattle.iox_hub_base.specs.Opening.{Made, OpensInHub};
 ghost use Rattle.std.specs.Result.{result_map_both};
@@ -43,8 +44,9 @@ impl Factories {
     /// accesses that they name.
     ///
     /// None, and nothing happens, where the hub has no node of the number. Refused as `HubBuilder::create_with_attributes_in` refuses it,
-    /// for its settings before anything else is done, whatever memory there is; then with `HangsInCreation`, whatever memory there is,
-    /// where no step is named before the first access and its look finds that another is about to create the service;
+    /// for its settings before anything else is done, whatever memory there is; then, whatever memory there is, where no step is named
+    /// before the first access: with `HangsInCreation` where its look finds that another is about to create the service, with
+    /// `AlreadyExists` where it finds that the service stands;
     /// also with `OutOfMemory`, and nothing happens but that there may be more room, where an allocation fails for the lists of steps or
     /// for room: it takes none for that where no steps are named and there is room.
     ///
@@ -68,6 +70,11 @@ impl Factories {
             → IsUncreated (settings_of asked.now.options (types_of T.name T.size T.alignment U.name U.size U.alignment)) None
             → first_look asked.now steps.now hub.old ≡ Some Locked
             → (result ≡ Some (Err (create_refused asked.now.options uncreated.HangsInCreation))) × (self.new.made ≡ self.old.made)
+            × (hub.new ≡ hub.old) }
+        ensures standing_first { is_node asked.now.node hub.old.nodes ≡ true
+            → IsUncreated (settings_of asked.now.options (types_of T.name T.size T.alignment U.name U.size U.alignment)) None
+            → first_look asked.now steps.now hub.old ≡ Some Described
+            → (result ≡ Some (Err (create_refused asked.now.options uncreated.AlreadyExists))) × (self.new.made ≡ self.old.made)
             × (hub.new ≡ hub.old) }
     {
         if !hub.has_node(asked.node) {
@@ -97,6 +104,11 @@ impl Factories {
             → first_look asked.now steps.now hub.old ≡ Some Locked
             → (result ≡ Err (create_refused asked.now.options uncreated.HangsInCreation)) × (self.new.made ≡ self.old.made)
             × (hub.new ≡ hub.old) }
+        ensures standing_first { IsUncreated (settings_of asked.now.options
+            (types_of T.name T.size T.alignment U.name U.size U.alignment)) None
+            → first_look asked.now steps.now hub.old ≡ Some Described
+            → (result ≡ Err (create_refused asked.now.options uncreated.AlreadyExists)) × (self.new.made ≡ self.old.made)
+            × (hub.new ≡ hub.old) }
     {
         match uncreated::<T, U>(&asked.options) {
             Some(failure) => Err(create_refused(&asked.options, failure)),
@@ -116,7 +128,7 @@ impl Factories {
         requires number { self.old.made.next + 1 < 2 ^ 64 }
         requires settings { IsUncreated (settings_of asked.now.options
             (types_of T.name T.size T.alignment U.name U.size U.alignment)) None }
-        ensures creates { CreatesUnlessRefused None (detail FixedSize T.name T.size T.alignment)
+        ensures creates { CreatesNumbered true (detail FixedSize T.name T.size T.alignment)
             (detail FixedSize U.name U.size U.alignment) (types_of T.name T.size T.alignment U.name U.size U.alignment) asked.now
             attributes.now steps.now self.old.made hub.old (Some result) self.new.made hub.new }
         ensures told_first { (refusal : Refusal) → Some refusal ≡ create_told asked.now.options (first_look asked.now steps.now hub.old)
@@ -210,7 +222,9 @@ fn created<P: CommandPattern, T: Words + ZeroCopySend, U: Copy + ZeroCopySend, B
 ) -> Result<PortFactory<P>, Refusal>
     requires hub { builder.hub ≡ hub.old.table.id }
     ensures { (answer : Result Made P.CreateError) × OpensInHub (detail FixedSize T.name T.size T.alignment)
-        (detail FixedSize U.name U.size U.alignment) (λ was_new. P.create_error uncreated.OutOfMemory)
+        (detail FixedSize U.name U.size U.alignment)
+        (IsRefusal (P.IsWithinLimits (P.adjusted (P.asked builder.requirement)))
+        (P.IsHistoryTooLong (P.adjusted (P.asked builder.requirement))) None) (λ was_new. P.create_error uncreated.OutOfMemory)
         (λ before came after. Creates SteppedSight before.table.id (service_hash_of P.pattern builder.name) builder.node
         (agreement builder.name (service_hash_of P.pattern builder.name) (P.settings (P.adjusted (P.asked builder.requirement)))
         attributes.now) (P.IsWithinLimits (P.adjusted (P.asked builder.requirement)))

@@ -1,5 +1,5 @@
 //! Services are opened, or created.
-ghost use Rattle.std.specs.Prelude.{Result, ◌≡◌, ◌<◌, ◌+◌, ◌^◌, length, true, Some, Err};
+ghost use Rattle.std.specs.Prelude.{Result, ⊤, ◌≡◌, ◌<◌, ◌+◌, ◌^◌, length, true, Some, Err};
 ghost use Rattle.iox_hub_base.specs.DescribeBase.Detail.{detail};
 ghost use Rattle.iox_hub_base.specs.DescribeBase.declared.type_detail.TypeVariant.TheVariants.{FixedSize};
 ghost use Rattle.iox_hub_base.specs.Hubs.{is_node};
@@ -190,7 +190,7 @@ fn opened_or_created<
 ) -> Result<PortFactory<P>, Refusal>
     requires hub { builder.hub ≡ hub.old.table.id }
     ensures { (answer : Result Made P.OpenOrCreateError) × OpensInHub (detail FixedSize T.name T.size T.alignment)
-        (detail FixedSize U.name U.size U.alignment) (λ was_new. P.open_or_create_error (lacking_either was_new))
+        (detail FixedSize U.name U.size U.alignment) ⊤ (λ was_new. P.open_or_create_error (lacking_either was_new))
         (λ before came after. Either SteppedSight before.table.id (service_hash_of P.pattern builder.name) builder.node
         (λ given. P.verdict (P.with_attributes builder.requirement attributes) given)
         (agreement builder.name (service_hash_of P.pattern builder.name)

@@ -1,5 +1,5 @@
 //! Services are opened.
-ghost use Rattle.std.specs.Prelude.{Result, ◌≡◌, ◌<◌, ◌+◌, ◌^◌, length, true, Some, Err};
+ghost use Rattle.std.specs.Prelude.{Result, ⊤, ◌≡◌, ◌<◌, ◌+◌, ◌^◌, length, true, Some, Err};
 ghost use Rattle.iox_hub_base.specs.DescribeBase.Detail.{detail};
 ghost use Rattle.iox_hub_base.specs.DescribeBase.declared.type_detail.TypeVariant.TheVariants.{FixedSize};
 ghost use Rattle.iox_hub_base.specs.Hubs.{is_node};
@@ -170,7 +170,7 @@ fn opened<P: CommandPattern, T: Words + ZeroCopySend, U: Copy + ZeroCopySend, B:
 ) -> Result<PortFactory<P>, Refusal>
     requires hub { builder.hub ≡ hub.old.table.id }
     ensures { (answer : Result Made P.OpenError) × OpensInHub (detail FixedSize T.name T.size T.alignment)
-        (detail FixedSize U.name U.size U.alignment) (λ was_new. P.open_error unopened.OutOfMemory)
+        (detail FixedSize U.name U.size U.alignment) ⊤ (λ was_new. P.open_error unopened.OutOfMemory)
         (λ before came after. Negotiates SteppedSight before.table.id builder.node P.open_error
         (λ made answer. Opens (service_hash_of P.pattern builder.name) builder.node
         (λ given. P.verdict (P.with_attributes builder.requirement attributes) given) made answer) before came after)

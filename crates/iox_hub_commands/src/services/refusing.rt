@@ -167,7 +167,7 @@ pub fn unopened_at_first_look<T: Copy, U: Copy, B: Drop, D: Drop>(
 }
 
 /// Why nothing is created, if the first look tells it: no step is named before it, and it finds that another is about to create the
-/// service. Nothing changes, and it is told whatever memory there is.
+/// service, or that it stands. Nothing changes, and it is told whatever memory there is.
 /// Example: `let refusal = uncreated_at_first_look(&mut hub, &asked, &[]);`
 pub fn uncreated_at_first_look<T: Copy, U: Copy, B: Drop, D: Drop>(
     hub: &mut Hub<T, U, B, D>,
@@ -182,7 +182,11 @@ pub fn uncreated_at_first_look<T: Copy, U: Copy, B: Drop, D: Drop>(
             &asked.options,
             CreateFailure::HangsInCreation,
         )),
-        Some(HashState::Absent) | Some(HashState::Described) | None => None,
+        Some(HashState::Described) => Some(create_refused(
+            &asked.options,
+            CreateFailure::AlreadyExists,
+        )),
+        Some(HashState::Absent) | None => None,
     }
 }
 

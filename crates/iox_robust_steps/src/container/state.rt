@@ -1,7 +1,7 @@
 //! The state of a container's machine, and its steps.
 ghost use Rattle.std.specs.Prelude.{◌≡◌, ◌+◌, ◌*◌, ◌<◌, ◌^◌, ◌++◌, ◌&&◌, false, true, IfOk, OnOk, length, vec_len, vec_capacity};
 ghost use Rattle.iox_queues.specs.Values.{table_value};
-ghost use Rattle.iox_robust_steps.specs.ContainerMachine.{MemberStepsTo, asked_at, asked_by, empty_parts, may_ask, may_call};
+ghost use Rattle.iox_robust_steps.specs.ContainerMachine.{MemberStepsTo, asked_at, asked_by, asks_with, empty_parts, may_ask, may_call};
 ghost use Rattle.iox_robust_steps.specs.ContainerMachine.{member_begins};
 ghost use Rattle.iox_robust_steps.specs.ContainerMachine.{member_ended, member_ends, member_fits, member_happens, member_seat};
 ghost use Rattle.iox_robust_steps.specs.ContainerMachine.{member_stage};
@@ -55,7 +55,7 @@ impl MemberState {
         let width = value_of(values.as_slice(), 0).len();
         let cells = vec![in alloc; 0; capacity + (capacity * width + 1)]?;
         Ok(MemberState {
-            set: RobustSetMachine::new(alloc, capacity, parties, decisions)?,
+            set: RobustSetMachine::insistent(alloc, capacity, parties, decisions)?,
             values,
             ring: Ring::new(cells, 0, 0),
             seats: vec![in alloc; resting(); parties]?,
@@ -249,6 +249,17 @@ fn makes(set: &mut RobustSetMachine, step: Move) -> bool
     }
 }
 
+// A recovery that saw no member at a place insists that its index is freed.
+fn asks_with(party: usize, seen: u64) -> Move
+    ensures { result ≡ asks_with party seen }
+{
+    if is_shown(seen) {
+        Move::GoOn(party)
+    } else {
+        Move::Insist(party)
+    }
+}
+
 // The step that a call at this stage asks of the set fits there, if it asks one.
 fn may_ask(set: &RobustSetMachine, party: usize, stage: ContainerCall) -> bool
     ensures { result ≡ may_ask set.now party stage }
@@ -257,9 +268,9 @@ fn may_ask(set: &RobustSetMachine, party: usize, stage: ContainerCall) -> bool
         ContainerCall::Idle => false,
         ContainerCall::Enter { .. }
         | ContainerCall::Drop { .. }
-        | ContainerCall::Ask { .. }
         | ContainerCall::Clear { .. }
         | ContainerCall::Close { .. } => set.fits(Move::GoOn(party)),
+        ContainerCall::Ask { seen, .. } => set.fits(asks_with(party, seen)),
         ContainerCall::Fill { owner, .. }
         | ContainerCall::Show { owner, .. }
         | ContainerCall::Sink { owner, .. }
@@ -285,9 +296,9 @@ fn ask(set: &mut RobustSetMachine, party: usize, stage: ContainerCall) -> bool
     match stage {
         ContainerCall::Enter { .. }
         | ContainerCall::Drop { .. }
-        | ContainerCall::Ask { .. }
         | ContainerCall::Clear { .. }
         | ContainerCall::Close { .. } => makes(set, Move::GoOn(party)),
+        ContainerCall::Ask { seen, .. } => makes(set, asks_with(party, seen)),
         ContainerCall::Leave { owner, index, mode } => {
             makes(set, Move::Begin(party, Call::Release(owner, index, mode)))
         }

@@ -34,12 +34,12 @@ const CALLS: [(usize, MemberCall, MemberAnswer); 11] = [
     (1, MemberCall::Update, MemberAnswer::Updated(true)),
 ];
 
-// Owner 9 has a member at index 0, and owner 7 index 1, but no member yet.
+// Owner 9 has a member at index 0, and owner 7 index 1, but no member yet: it is freed, though nothing was decided on it.
 const RECOVERIES: [(usize, MemberCall, MemberAnswer); 6] = [
     (1, MemberCall::Update, MemberAnswer::Updated(true)),
     (
         1,
-        MemberCall::Recover(7, 0, ReleaseMode::LockIfLastIndex),
+        MemberCall::Recover(7, 2, ReleaseMode::LockIfLastIndex),
         MemberAnswer::Removed(ReleaseState::Unlocked),
     ),
     (1, MemberCall::Update, MemberAnswer::Updated(true)),

@@ -1,3 +1,4 @@
+use Rattle.iox_hub_base.proofs.Placed.{in_box}
 use Rattle.iox_hub_base.proofs.Searched.{found-at, found-nowhere}
 use Rattle.iox_hub_base.proofs.by_number.place_of.Goals as goal
 
@@ -7,4 +8,4 @@ returns-clause-found g c = rw c.ok.ensures.value
 
 pub returns-clause-none : goal.returns-clause-none
 returns-clause-none g c = rw c.ok.ensures.value
-    (found-nowhere c.args.number c.args.entries.now c.requires c.search_of.result c.search_of.ensures.position)
+    (found-nowhere in_box c.args.number c.args.entries.now c.requires c.search_of.result c.search_of.ensures.position)

@@ -30,6 +30,7 @@ returns-clause-strode g c =
     (λ s. StrodeBy g.L.Ahead.kind p lane 2 c.load_at-write.new.seat.me
     (g.L.Ahead.kind.called (g.C.RingCall.stage c.args.call s) lane)) finds
     (c.load_at-write.ensures.goes_on p lane 1 run1 (ap pop_is_over finds)) in
-    subst (StrodeBy g.L.Ahead.kind p lane 3 c.load_at-value.new.seat.me)
-    (sym (c.go_on_from-2.ensures ∙ ap (λ stage. g.L.Ahead.kind.after c.load_at-value.result (g.L.Ahead.kind.called stage lane))
-    c.stage-2.ensures)) (c.load_at-value.ensures.strode p lane 2 run2)
+    let run3 = c.load_at-value.ensures.goes_on p lane 2 run2 refl in
+    subst (StrodeBy g.L.Ahead.kind p lane 4 c.exchange_at-given.new.seat.me)
+    (sym (c.go_on_from-2.ensures ∙ ap (λ stage. g.L.Ahead.kind.after c.exchange_at-given.result (g.L.Ahead.kind.called stage lane))
+    c.stage-2.ensures)) (c.exchange_at-given.ensures.strode p lane 3 run3)

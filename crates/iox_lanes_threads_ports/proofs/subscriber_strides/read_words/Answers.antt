@@ -1,11 +1,12 @@
-use Rattle.std.proofs.Common.{◌+◌, ◌<◌, refl, subst, arith, rules}
+use Rattle.std.proofs.Common.{ℕ, ◌≡◌, ◌+◌, ◌<◌, refl, subst, arith}
 use Rattle.iox_lanes_machine.specs.LanesBase.Subscribing.{read_at}
+use Rattle.iox_lanes_machine.specs.LanesBase.declared.calls.subscriber.SubscriberCall.{SubscriberCall}
 use Rattle.iox_lanes_machine.specs.LanesBase.declared.calls.subscriber.SubscriberCall.TheVariants as subscribing
 use Rattle.iox_lanes_machine.specs.LanesParties.Parties.{subscriber_after}
 use Rattle.iox_lanes_threads_rule.specs.Acts.{port_of}
 use Rattle.iox_lanes_threads_ports.specs.Strides.{subscriber_called, SubscriberStrode}
 use Rattle.iox_lanes_threads_ports.proofs.Striding.{strode_none}
-use Rattle.iox_lanes_threads_ports.proofs.SubscriberStriding.{subscriber_goes_ahead, at_first, reads_at}
+use Rattle.iox_lanes_threads_ports.proofs.SubscriberStriding.{subscriber_goes_ahead, strode_same, at_first, reads_at}
 use Rattle.iox_lanes_threads_ports.proofs.subscriber_strides.read_words.Goals as goal
 
 pub loop-word-init : goal.loop-word-init
@@ -19,24 +20,30 @@ loop-word-init g c = (
       (strode_none subscriber_goes_ahead c.args.seat.now.me c.args.lane.now c.requires.seat.0 c.requires.stands),
 )
 
-pub loop-word-preserved : goal.loop-word-preserved
-loop-word-preserved g c =
-    let strode : SubscriberStrode (port_of c.args.seat.now.me) c.args.lane.now c.loop-word.seat.me
-    (subscriber_called (subscribing.Reading c.args.slot c.loop-word.word c.args.extent) c.loop-word.lane)
-    → SubscriberStrode (port_of c.args.seat.now.me) c.args.lane.now c.load_ahead-value.new.seat.me
-    (subscriber_after c.load_ahead-value.result
-    (subscriber_called (subscribing.Reading c.args.slot c.loop-word.word c.args.extent) c.loop-word.lane)) =
-    c.load_ahead-value.ensures.strode (port_of c.args.seat.now.me) c.args.lane.now 0 in
-    search rules
+pub loop-word-2-init : goal.loop-word-2-init
+loop-word-2-init g c = (
+  c.loop-word.invariant.0,
+  c.loop-word.invariant.1,
+  let ended : c.loop-word.word ≡ c.min-row.result = omega arith in
+      subst (λ (word : ℕ). SubscriberStrode (port_of c.args.seat.now.me) c.args.lane.now c.loop-word.seat.me
+      (subscriber_called (read_at c.args.slot c.args.extent word) c.loop-word.lane)) ended c.loop-word.invariant.2,
+)
 
 pub returns-clause-strode : goal.returns-clause-strode
 returns-clause-strode g c =
-    let strode : SubscriberStrode (port_of c.args.seat.now.me) c.args.lane.now c.loop-word.seat.me
-    (subscriber_called (subscribing.Reading c.args.slot (2 + c.args.extent.user_header_words + c.args.extent.payload_words)
-    c.args.extent) c.loop-word.lane)
-    → SubscriberStrode (port_of c.args.seat.now.me) c.args.lane.now c.load_ahead-value-2.new.seat.me
-    (subscriber_after c.load_ahead-value-2.result
-    (subscriber_called (subscribing.Reading c.args.slot (2 + c.args.extent.user_header_words + c.args.extent.payload_words)
-    c.args.extent) c.loop-word.lane)) =
-    c.load_ahead-value-2.ensures.strode (port_of c.args.seat.now.me) c.args.lane.now 0 in
-    search rules
+    let last : ℕ = 2 + c.args.extent.user_header_words + c.args.extent.payload_words in
+    let ended : c.loop-word-2.word ≡ 2 + c.args.extent.user_header_words + c.args.extent.payload_words = omega arith in
+    let some : 2 + c.args.extent.user_header_words + c.args.extent.payload_words
+    < 3 + c.args.extent.user_header_words + c.args.extent.payload_words = omega arith in
+    let at_last : SubscriberStrode (port_of c.args.seat.now.me) c.args.lane.now c.loop-word-2.seat.me
+    (subscriber_called (read_at c.args.slot c.args.extent last) c.loop-word-2.lane) =
+    subst (λ (word : ℕ). SubscriberStrode (port_of c.args.seat.now.me) c.args.lane.now c.loop-word-2.seat.me
+    (subscriber_called (read_at c.args.slot c.args.extent word) c.loop-word-2.lane)) ended c.loop-word-2.invariant.2 in
+    let reads : SubscriberStrode (port_of c.args.seat.now.me) c.args.lane.now c.loop-word-2.seat.me
+    (subscriber_called (subscribing.Reading c.args.slot last c.args.extent) c.loop-word-2.lane) =
+    subst (λ (call : SubscriberCall). SubscriberStrode (port_of c.args.seat.now.me) c.args.lane.now c.loop-word-2.seat.me
+    (subscriber_called call c.loop-word-2.lane)) (reads_at c.args.slot last c.args.extent some) at_last in
+    strode_same (port_of c.args.seat.now.me) c.args.lane.now c.load_ahead-value.new.seat.me c.go_on_from.new.self
+    (subscriber_after c.load_ahead-value.result
+    (subscriber_called (subscribing.Reading c.args.slot last c.args.extent) c.loop-word-2.lane)) c.go_on_from.ensures
+    (c.load_ahead-value.ensures.strode (port_of c.args.seat.now.me) c.args.lane.now 0 reads)

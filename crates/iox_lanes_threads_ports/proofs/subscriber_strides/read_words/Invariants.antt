@@ -8,3 +8,8 @@ abbrev pub invariant-loop-word : goal.invariant-loop-word
 invariant-loop-word g l =
     (l.seat.table_id ≡ l.initial.seat.table_id) × (l.seat.id ≡ l.initial.seat.id)
     × SubscriberStrode (port_of l.initial.seat.me) l.fn.lane l.seat.me (subscriber_called (read_at l.slot l.extent l.word) l.lane)
+
+abbrev pub invariant-loop-word-2 : goal.invariant-loop-word-2
+invariant-loop-word-2 g l =
+    (l.seat.table_id ≡ l.fn.seat.table_id) × (l.seat.id ≡ l.fn.seat.id)
+    × SubscriberStrode (port_of l.fn.seat.me) l.fn.lane l.seat.me (subscriber_called (read_at l.slot l.extent l.word) l.lane)

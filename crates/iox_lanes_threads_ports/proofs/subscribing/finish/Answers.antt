@@ -1,9 +1,9 @@
-use Rattle.std.proofs.Common.{sym, ap, subst, ◌∙◌, ◌≡◌}
+use Rattle.std.proofs.Common.{sym, ap, subst, ◌∙◌, ◌≡◌, ◌<◌}
 use Rattle.iox_lanes_machine.specs.LanesBase.Numbers.{IsSmall}
 use Rattle.iox_lanes_machine.specs.LanesParties.Parties.{SubscriberLaneState}
 use Rattle.iox_lanes_threads_rule.specs.Acts.{port_of}
 use Rattle.iox_lanes_threads_rule.specs.declared.service.Service.{Service}
-use Rattle.iox_lanes_threads_ports.specs.Values.{IsShort}
+use Rattle.iox_lanes_threads_ports.specs.Values.{IsShort, steps_left}
 use Rattle.iox_lanes_threads_ports.proofs.Between.{nearer}
 use Rattle.iox_lanes_threads_ports.proofs.Running.{subscribes_on}
 use Rattle.iox_lanes_threads_ports.proofs.SubscriberStriding.{strode_subscribes}
@@ -31,3 +31,13 @@ loop-seat-preserved g c =
           c.loop-seat.invariant.2 c.step.ensures.steps,
       subst (λ (l : SubscriberLaneState). IsShort l.port.call) (sym c.step.ensures.steps.3) near.0,
     )
+
+pub loop-seat-smaller : goal.loop-seat-smaller
+loop-seat-smaller g c =
+    let run = c.loop-seat.invariant.2 in
+    let same : (port_of c.loop-seat.seat.me).service.sizes ≡ c.args.sizes.now
+    = ap (λ (s : Service). s.sizes) run.seat.service ∙ c.requires.seat.1 in
+    let near = nearer (port_of c.loop-seat.seat.me).service.sizes c.loop-seat.lane c.step.ensures.steps.0
+    (subst IsSmall (sym same) c.requires.table.2) run.stands.within c.loop-seat.invariant.3
+    (sym c.is_over.ensures ∙ c.loop-seat-test.true) in
+    subst (λ (l : SubscriberLaneState). steps_left l.port.call < steps_left c.loop-seat.lane.port.call) (sym c.step.ensures.steps.3) near.1

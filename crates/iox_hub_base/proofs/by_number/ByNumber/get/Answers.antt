@@ -1,6 +1,6 @@
 use Rattle.std.proofs.Common.{◌≡◌, ◌<◌, length, Some, sym, ap, subst, ◌∙◌}
 use Rattle.std.specs.List.{HoldsAt}
-use Rattle.iox_hub_base.proofs.Placed.{lookup-place}
+use Rattle.iox_hub_base.proofs.Placed.{in_box, lookup-place}
 use Rattle.iox_hub_base.proofs.by_number.ByNumber.get.Goals as goal
 
 pub returns-in-Some : goal.returns-in-Some
@@ -10,5 +10,5 @@ returns-in-Some g c =
     let found : HoldsAt (λ entry. entry.0 ≡ c.args.number) c.self.inside.entries.items c.in-Some.place
     = subst (λ items. HoldsAt (λ entry. entry.0 ≡ c.args.number) items c.in-Some.place) c.deref.ensures.value c.in-Some.ensures.found in
     rw (← c.self.view_is) (ap Some c.deref-in-Some.ensures ∙ sym
-    (lookup-place c.args.number c.in-Some.place c.index.result.now c.self.inside.entries.items c.self.invariant within found
+    (lookup-place in_box c.args.number c.in-Some.place c.index.result.now c.self.inside.entries.items c.self.invariant within found
     c.index.ensures))

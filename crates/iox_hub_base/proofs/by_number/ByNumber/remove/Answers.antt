@@ -4,7 +4,7 @@ use Rattle.std.specs.List.{HoldsAt}
 use Rattle.std.specs.Map.{lookup, remove_entry}
 use Rattle.std.specs.Ordering.{nat_cmp}
 use Rattle.iox_hub_base.specs.Unboxed.{unboxed}
-use Rattle.iox_hub_base.proofs.Placed.{remove-place, rising-from, rising-unboxed}
+use Rattle.iox_hub_base.proofs.Placed.{in_box, remove-place, rising-from, rising-unboxed}
 use Rattle.iox_hub_base.proofs.Rising.{rising_removed, absent_stays, removed_gone, others_stay}
 use Rattle.iox_hub_base.proofs.by_number.ByNumber.remove.Goals as goal
 
@@ -15,7 +15,7 @@ invariant_of-self g c =
     let found : HoldsAt (λ entry. entry.0 ≡ c.args.number) c.self.inside.entries.items c.in-Some.place
     = subst (λ items. HoldsAt (λ entry. entry.0 ≡ c.args.number) items c.in-Some.place) c.deref.ensures.value c.in-Some.ensures.found in
     let removed : unboxed c.remove.new.self.items ≡ remove_entry (is_at (nat_cmp c.args.number)) (unboxed c.self.inside.entries.items) =
-    ap unboxed c.remove.ensures.items ∙ remove-place c.args.number c.in-Some.place c.remove.result c.self.inside.entries.items
+    ap unboxed c.remove.ensures.items ∙ remove-place in_box c.args.number c.in-Some.place c.remove.result c.self.inside.entries.items
     c.self.invariant within found in
     let rising = rising-unboxed c.self.inside.entries.items c.self.invariant in
     rising-from _ _ removed (rising_removed (is_at (nat_cmp c.args.number)) (unboxed c.self.inside.entries.items) rising)
@@ -27,7 +27,7 @@ returns-in-Some-clause-new g c =
     let found : HoldsAt (λ entry. entry.0 ≡ c.args.number) c.self.inside.entries.items c.in-Some.place
     = subst (λ items. HoldsAt (λ entry. entry.0 ≡ c.args.number) items c.in-Some.place) c.deref.ensures.value c.in-Some.ensures.found in
     let removed : unboxed c.remove.new.self.items ≡ remove_entry (is_at (nat_cmp c.args.number)) (unboxed c.self.inside.entries.items) =
-    ap unboxed c.remove.ensures.items ∙ remove-place c.args.number c.in-Some.place c.remove.result c.self.inside.entries.items
+    ap unboxed c.remove.ensures.items ∙ remove-place in_box c.args.number c.in-Some.place c.remove.result c.self.inside.entries.items
     c.self.invariant within found in
     rw (← c.self.view_is) removed
 
@@ -38,7 +38,7 @@ returns-in-Some-clause-gone g c =
     let found : HoldsAt (λ entry. entry.0 ≡ c.args.number) c.self.inside.entries.items c.in-Some.place
     = subst (λ items. HoldsAt (λ entry. entry.0 ≡ c.args.number) items c.in-Some.place) c.deref.ensures.value c.in-Some.ensures.found in
     let removed : unboxed c.remove.new.self.items ≡ remove_entry (is_at (nat_cmp c.args.number)) (unboxed c.self.inside.entries.items) =
-    ap unboxed c.remove.ensures.items ∙ remove-place c.args.number c.in-Some.place c.remove.result c.self.inside.entries.items
+    ap unboxed c.remove.ensures.items ∙ remove-place in_box c.args.number c.in-Some.place c.remove.result c.self.inside.entries.items
     c.self.invariant within found in
     let rising = rising-unboxed c.self.inside.entries.items c.self.invariant in
     ap (lookup (is_at (nat_cmp c.args.number))) removed ∙ removed_gone c.args.number (unboxed c.self.inside.entries.items) rising
@@ -50,7 +50,7 @@ returns-in-Some-clause-others g c other apart =
     let found : HoldsAt (λ entry. entry.0 ≡ c.args.number) c.self.inside.entries.items c.in-Some.place
     = subst (λ items. HoldsAt (λ entry. entry.0 ≡ c.args.number) items c.in-Some.place) c.deref.ensures.value c.in-Some.ensures.found in
     let removed : unboxed c.remove.new.self.items ≡ remove_entry (is_at (nat_cmp c.args.number)) (unboxed c.self.inside.entries.items) =
-    ap unboxed c.remove.ensures.items ∙ remove-place c.args.number c.in-Some.place c.remove.result c.self.inside.entries.items
+    ap unboxed c.remove.ensures.items ∙ remove-place in_box c.args.number c.in-Some.place c.remove.result c.self.inside.entries.items
     c.self.invariant within found in
     let rising = rising-unboxed c.self.inside.entries.items c.self.invariant in
     rw (← c.self.view_is) (ap (lookup (is_at (nat_cmp other))) removed ∙ others_stay c.args.number other

@@ -1,4 +1,6 @@
-use Rattle.std.proofs.Common.{subst}
+use Rattle.std.proofs.Common.{inl, inr, refl, ◌∙◌, subst}
+use Rattle.iox_lanes_service.proofs.Fitting.{drop_fits}
+use Rattle.iox_lanes_service.proofs.Tables.{not_both}
 use Rattle.iox_command.specs.declared.command.Command.TheVariants as command
 use Rattle.iox_lanes_machine.specs.LanesParties.declared.call.Answer.{Answer}
 use Rattle.iox_lanes_machine.specs.LanesParties.declared.call.Call.TheVariants as call
@@ -22,4 +24,24 @@ invariant_of-self-in-Dropped-1 c = rw c.told-self-inside.ensures
 
 pub invariant_of-self-in_default : goal.invariant_of-self-in_default
 invariant_of-self-in_default c =
-    stuck_since c.self.inside.stuck c.self.inside.history.turns c.self.inside.lanes c.take_turn.new.lanes c.self.invariant
+    rw c.stopped-self-inside.ensures
+    (stuck_since c.self.inside.stuck c.self.inside.history.turns c.self.inside.lanes c.take_turn.new.lanes c.self.invariant)
+
+pub returns-then-self-clause-dropped : goal.returns-then-self-clause-dropped
+returns-then-self-clause-dropped c =
+    inl (rw (← c.self.view_is) refl, λ always. rw (← c.self.view_is) (c.self.invariant.told ∙ c.if-self.true))
+
+pub returns-in-NotBegun-clause-dropped : goal.returns-in-NotBegun-clause-dropped
+returns-in-NotBegun-clause-dropped c = inl (
+  rw (← c.self.view_is) refl,
+  λ always. not_both _
+      (drop_fits c.self.inside.stuck c.self.inside.history.turns c.self.inside.lanes c.self.invariant c.if-self.false
+      c.args.loan.now.number.value c.args.loan.now.publisher c.args.loan.now.slot (rw c.self.view_is c.requires))
+      c.in-NotBegun.ensures.0,
+)
+
+pub returns-in_default-clause-dropped : goal.returns-in_default-clause-dropped
+returns-in_default-clause-dropped c = inr (rw (← c.self.view_is, c.stopped-self-inside.ensures) refl)
+
+pub returns-in-Ended-Dropped-clause-stuck : goal.returns-in-Ended-Dropped-clause-stuck
+returns-in-Ended-Dropped-clause-stuck c = λ is. not_both _ (rw c.self.view_is is) (c.self.invariant.told ∙ c.if-self.false)

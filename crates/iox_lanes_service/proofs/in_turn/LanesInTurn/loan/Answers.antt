@@ -1,4 +1,6 @@
-use Rattle.std.proofs.Common.{subst}
+use Rattle.std.proofs.Common.{inl, inr, refl, ◌∙◌, subst}
+use Rattle.iox_lanes_service.proofs.Fitting.{loan_fits}
+use Rattle.iox_lanes_service.proofs.Tables.{not_both}
 use Rattle.iox_lanes_machine.specs.LanesParties.declared.call.Answer.{Answer}
 use Rattle.iox_lanes_machine.specs.LanesParties.declared.call.Call.TheVariants as call
 use Rattle.iox_lanes_machine.specs.LanesParties.declared.call.Party.TheVariants.{Publisher}
@@ -16,7 +18,8 @@ invariant_of-self-in-Lent-1 c = rw c.told-self-inside.ensures
 
 pub invariant_of-self-in_default : goal.invariant_of-self-in_default
 invariant_of-self-in_default c =
-    stuck_since c.self.inside.stuck c.self.inside.history.turns c.self.inside.lanes c.take_turn.new.lanes c.self.invariant
+    rw c.stopped-self-inside.ensures
+    (stuck_since c.self.inside.stuck c.self.inside.history.turns c.self.inside.lanes c.take_turn.new.lanes c.self.invariant)
 
 pub returns-in-Ended-Lent-clause-lent : goal.returns-in-Ended-Lent-clause-lent
 returns-in-Ended-Lent-clause-lent c = rw (c.lent_as.ensures, ← c.self.view_is, c.told-self-inside.ensures)
@@ -26,3 +29,23 @@ pub returns-in-Ended-Lent-clause-number : goal.returns-in-Ended-Lent-clause-numb
 returns-in-Ended-Lent-clause-number c = rw (c.lent_as.ensures, ← c.self.view_is, c.told-self-inside.ensures)
     (lent_numbered c.args.publisher c.in-Ended-Lent.given c.given-number.result c.self.inside.history.turns c.self.invariant.low
     c.given-number.ensures)
+
+pub returns-then-self-clause-lent : goal.returns-then-self-clause-lent
+returns-then-self-clause-lent c =
+    inl (rw (← c.self.view_is) refl, λ low. rw (← c.self.view_is) (c.self.invariant.told ∙ c.if-self.true))
+
+pub returns-in-NotBegun-clause-lent : goal.returns-in-NotBegun-clause-lent
+returns-in-NotBegun-clause-lent c =
+    inl (
+      rw (← c.self.view_is) refl,
+      λ low. not_both _
+          (loan_fits c.self.inside.history.turns.sizes c.self.inside.lanes c.args.publisher (c.self.invariant.goes c.if-self.false)
+          (rw c.self.view_is low)) c.in-NotBegun.ensures.0,
+    )
+
+pub returns-in_default-clause-lent : goal.returns-in_default-clause-lent
+returns-in_default-clause-lent c =
+    inr (rw (← c.self.view_is, c.stopped-self-inside.ensures) refl)
+
+pub returns-in-Ended-Lent-clause-stuck : goal.returns-in-Ended-Lent-clause-stuck
+returns-in-Ended-Lent-clause-stuck c = λ is. not_both _ (rw c.self.view_is is) (c.self.invariant.told ∙ c.if-self.false)

@@ -1,9 +1,10 @@
-use Rattle.std.proofs.Common.{subst}
+use Rattle.std.proofs.Common.{inl, inr, refl, ◌∙◌, subst}
+use Rattle.iox_lanes_service.proofs.Fitting.{read_fits}
+use Rattle.iox_lanes_service.proofs.Tables.{not_both}
 use Rattle.iox_command.specs.declared.command.Command.TheVariants as command
 use Rattle.iox_lanes_machine.specs.LanesParties.declared.call.Answer.{Answer}
 use Rattle.iox_lanes_machine.specs.LanesParties.declared.call.Call.TheVariants as call
 use Rattle.iox_lanes_machine.specs.LanesParties.declared.call.Party.TheVariants.{Subscriber}
-use Rattle.std.proofs.Common.{refl}
 use Rattle.iox_command.specs.declared.reply.Reply.TheVariants as reply
 use Rattle.iox_lanes_service.specs.InTurn.{turned}
 use Rattle.iox_lanes_service.specs.Turning.{TurnEnds}
@@ -25,13 +26,32 @@ invariant_of-self-in-Read-1 c = rw c.told-self-inside.ensures
 
 pub invariant_of-self-in_default : goal.invariant_of-self-in_default
 invariant_of-self-in_default c =
-    stuck_since c.self.inside.stuck c.self.inside.history.turns c.self.inside.lanes c.take_turn.new.lanes c.self.invariant
+    rw c.stopped-self-inside.ensures
+    (stuck_since c.self.inside.stuck c.self.inside.history.turns c.self.inside.lanes c.take_turn.new.lanes c.self.invariant)
 
-pub returns-in-Ended-Read : goal.returns-in-Ended-Read
-returns-in-Ended-Read c = record {
-  read = (
-    one_value c.payload_read-words.result.now,
-    rw (← c.self.view_is, c.told-self-inside.ensures) refl,
-    read_told c.payload_read-words.result.now c.from_slice-copied.result c.from_slice-copied.ensures.items,
-  );
-}
+pub returns-in-Ended-Read-clause-read : goal.returns-in-Ended-Read-clause-read
+returns-in-Ended-Read-clause-read c = (
+  one_value c.payload_read-words.result.now,
+  rw (← c.self.view_is, c.told-self-inside.ensures) refl,
+  read_told c.payload_read-words.result.now c.from_slice-copied.result c.from_slice-copied.ensures.items,
+)
+
+pub returns-then-self-clause-read : goal.returns-then-self-clause-read
+returns-then-self-clause-read c =
+    inl (rw (← c.self.view_is) refl, λ always. rw (← c.self.view_is) (c.self.invariant.told ∙ c.if-self.true))
+
+pub returns-in-NotBegun-clause-read : goal.returns-in-NotBegun-clause-read
+returns-in-NotBegun-clause-read c = inl (
+  rw (← c.self.view_is) refl,
+  λ always. not_both _
+      (read_fits c.self.inside.stuck c.self.inside.history.turns c.self.inside.lanes c.self.invariant c.if-self.false
+      c.args.sample.now.number.value c.requires.0 c.args.sample.now.subscriber c.args.sample.now.slot
+      (rw c.self.view_is c.requires.1))
+      c.in-NotBegun.ensures.0,
+)
+
+pub returns-in_default-clause-read : goal.returns-in_default-clause-read
+returns-in_default-clause-read c = inr (rw (← c.self.view_is, c.stopped-self-inside.ensures) refl)
+
+pub returns-in-Ended-Read-clause-stuck : goal.returns-in-Ended-Read-clause-stuck
+returns-in-Ended-Read-clause-stuck c = λ is. not_both _ (rw c.self.view_is is) (c.self.invariant.told ∙ c.if-self.false)

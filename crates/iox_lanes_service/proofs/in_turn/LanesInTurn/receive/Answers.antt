@@ -1,4 +1,6 @@
-use Rattle.std.proofs.Common.{subst}
+use Rattle.std.proofs.Common.{inl, inr, refl, ◌∙◌, subst}
+use Rattle.iox_lanes_service.proofs.Fitting.{receive_fits}
+use Rattle.iox_lanes_service.proofs.Tables.{not_both}
 use Rattle.iox_lanes_machine.specs.LanesParties.declared.call.Answer.{Answer}
 use Rattle.iox_lanes_machine.specs.LanesParties.declared.call.Call.TheVariants as call
 use Rattle.iox_lanes_machine.specs.LanesParties.declared.call.Party.TheVariants.{Subscriber}
@@ -19,7 +21,8 @@ invariant_of-self-in-Received-1 c = rw (c.told-self-inside.ensures, c.of-seen.en
 
 pub invariant_of-self-in_default : goal.invariant_of-self-in_default
 invariant_of-self-in_default c =
-    stuck_since c.self.inside.stuck c.self.inside.history.turns c.self.inside.lanes c.take_turn.new.lanes c.self.invariant
+    rw c.stopped-self-inside.ensures
+    (stuck_since c.self.inside.stuck c.self.inside.history.turns c.self.inside.lanes c.take_turn.new.lanes c.self.invariant)
 
 pub returns-in-Ended-Received-clause-received : goal.returns-in-Ended-Received-clause-received
 returns-in-Ended-Received-clause-received c =
@@ -30,3 +33,23 @@ pub returns-in-Ended-Received-clause-number : goal.returns-in-Ended-Received-cla
 returns-in-Ended-Received-clause-number c = rw (c.taken_as.ensures, ← c.self.view_is, c.told-self-inside.ensures, c.of-seen.ensures)
     (received_numbered c.args.subscriber c.in-Ended-Received.given c.given-number.result c.self.inside.lanes
     c.self.inside.history.turns c.self.invariant.low c.given-number.ensures)
+
+pub returns-then-self-clause-received : goal.returns-then-self-clause-received
+returns-then-self-clause-received c =
+    inl (rw (← c.self.view_is) refl, λ low. rw (← c.self.view_is) (c.self.invariant.told ∙ c.if-self.true))
+
+pub returns-in-NotBegun-clause-received : goal.returns-in-NotBegun-clause-received
+returns-in-NotBegun-clause-received c =
+    inl (
+      rw (← c.self.view_is) refl,
+      λ low. not_both _
+          (receive_fits c.self.inside.history.turns.sizes c.self.inside.lanes c.args.subscriber (c.self.invariant.goes c.if-self.false)
+          (rw c.self.view_is low)) c.in-NotBegun.ensures.0,
+    )
+
+pub returns-in_default-clause-received : goal.returns-in_default-clause-received
+returns-in_default-clause-received c =
+    inr (rw (← c.self.view_is, c.stopped-self-inside.ensures) refl)
+
+pub returns-in-Ended-Received-clause-stuck : goal.returns-in-Ended-Received-clause-stuck
+returns-in-Ended-Received-clause-stuck c = λ is. not_both _ (rw c.self.view_is is) (c.self.invariant.told ∙ c.if-self.false)

@@ -1,4 +1,6 @@
-use Rattle.std.proofs.Common.{subst}
+use Rattle.std.proofs.Common.{inl, inr, refl, ◌∙◌, subst}
+use Rattle.iox_lanes_service.proofs.Fitting.{send_fits}
+use Rattle.iox_lanes_service.proofs.Tables.{not_both}
 use Rattle.iox_command.specs.declared.command.Command.TheVariants as command
 use Rattle.iox_lanes_machine.specs.LanesParties.declared.call.Answer.{Answer}
 use Rattle.iox_lanes_machine.specs.LanesParties.declared.call.Call.TheVariants as call
@@ -23,10 +25,29 @@ invariant_of-self-in-Sent-1 c = rw c.told-self-inside.ensures
 
 pub invariant_of-self-in_default : goal.invariant_of-self-in_default
 invariant_of-self-in_default c =
-    stuck_since c.self.inside.stuck c.self.inside.history.turns c.self.inside.lanes c.take_turn.new.lanes c.self.invariant
+    rw c.stopped-self-inside.ensures
+    (stuck_since c.self.inside.stuck c.self.inside.history.turns c.self.inside.lanes c.take_turn.new.lanes c.self.invariant)
 
-pub returns-in-Ended-Sent : goal.returns-in-Ended-Sent
-returns-in-Ended-Sent c = record {
-  sent = rw (c.sent_as.ensures, ← c.self.view_is, c.told-self-inside.ensures)
-      (sent_told c.args.loan.now.number.value c.in-Ended-Sent.given c.self.inside.history.turns);
-}
+pub returns-in-Ended-Sent-clause-sent : goal.returns-in-Ended-Sent-clause-sent
+returns-in-Ended-Sent-clause-sent c = rw (c.sent_as.ensures, ← c.self.view_is, c.told-self-inside.ensures)
+    (sent_told c.args.loan.now.number.value c.in-Ended-Sent.given c.self.inside.history.turns)
+
+pub returns-then-self-clause-sent : goal.returns-then-self-clause-sent
+returns-then-self-clause-sent c =
+    inl (rw (← c.self.view_is) refl, λ written. rw (← c.self.view_is) (c.self.invariant.told ∙ c.if-self.true))
+
+pub returns-in-NotBegun-clause-sent : goal.returns-in-NotBegun-clause-sent
+returns-in-NotBegun-clause-sent c = inl (
+  rw (← c.self.view_is) refl,
+  λ written. not_both _
+      (send_fits c.self.inside.stuck c.self.inside.history.turns c.self.inside.lanes c.self.invariant c.if-self.false
+      c.args.loan.now.number.value c.args.loan.now.publisher c.args.loan.now.slot (rw c.self.view_is c.requires)
+      (rw c.self.view_is written))
+      c.in-NotBegun.ensures.0,
+)
+
+pub returns-in_default-clause-sent : goal.returns-in_default-clause-sent
+returns-in_default-clause-sent c = inr (rw (← c.self.view_is, c.stopped-self-inside.ensures) refl)
+
+pub returns-in-Ended-Sent-clause-stuck : goal.returns-in-Ended-Sent-clause-stuck
+returns-in-Ended-Sent-clause-stuck c = λ is. not_both _ (rw c.self.view_is is) (c.self.invariant.told ∙ c.if-self.false)

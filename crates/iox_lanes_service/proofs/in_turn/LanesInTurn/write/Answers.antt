@@ -1,20 +1,17 @@
-use Rattle.std.proofs.Common.{subst}
-use Rattle.iox_command.specs.declared.command.Command.TheVariants as command
+use Rattle.std.proofs.Common.{inl, inr, refl, ◌∙◌, subst}
+use Rattle.iox_lanes_service.proofs.Fitting.{write_fits}
+use Rattle.iox_lanes_service.proofs.Tables.{not_both}
 use Rattle.iox_lanes_machine.specs.LanesParties.declared.call.Answer.{Answer}
 use Rattle.iox_lanes_machine.specs.LanesParties.declared.call.Call.TheVariants as call
 use Rattle.iox_lanes_machine.specs.LanesParties.declared.call.Party.TheVariants.{Publisher}
-use Rattle.std.proofs.Common.{[], ◌∷◌}
-use Rattle.iox_command.specs.declared.reply.Reply.TheVariants as reply
-use Rattle.iox_lanes_service.specs.InTurn.{turned}
-use Rattle.iox_lanes_service.specs.Turning.{TurnEnds}
+use Rattle.iox_lanes_service.specs.Turning.{TurnEnds, loan_written}
 use Rattle.iox_lanes_service.proofs.Turns.{kept_going, write_recorded, stuck_since}
 use Rattle.iox_lanes_service.proofs.in_turn.LanesInTurn.write.Goals as goal
 
 pub invariant_of-self-in-Written-1 : goal.invariant_of-self-in-Written-1
 invariant_of-self-in-Written-1 c = rw c.told-history.ensures
     (kept_going c.self.inside.stuck c.self.inside.history.turns
-    (turned (command.Fill c.args.loan.now.number.value (c.args.payload.items ∷ [])) reply.Done
-    c.self.inside.history.turns) c.self.inside.lanes c.take_turn.new.lanes
+    (loan_written c.args.loan.now.number.value c.args.payload.items c.self.inside.history.turns) c.self.inside.lanes c.take_turn.new.lanes
     c.if-self.false
     (λ a. write_recorded c.self.inside.history.turns c.self.inside.lanes c.take_turn.new.lanes c.args.loan.now.number.value
     c.args.loan.now.publisher c.args.loan.now.slot a (rw c.self.view_is c.requires)
@@ -25,4 +22,25 @@ invariant_of-self-in-Written-1 c = rw c.told-history.ensures
 
 pub invariant_of-self-in_default : goal.invariant_of-self-in_default
 invariant_of-self-in_default c =
-    stuck_since c.self.inside.stuck c.self.inside.history.turns c.self.inside.lanes c.take_turn.new.lanes c.self.invariant
+    rw c.stopped-self-inside.ensures
+    (stuck_since c.self.inside.stuck c.self.inside.history.turns c.self.inside.lanes c.take_turn.new.lanes c.self.invariant)
+
+pub returns-then-self-clause-written : goal.returns-then-self-clause-written
+returns-then-self-clause-written c =
+    inl (rw (← c.self.view_is) refl, λ words. rw (← c.self.view_is) (c.self.invariant.told ∙ c.if-self.true))
+
+pub returns-in-NotBegun-clause-written : goal.returns-in-NotBegun-clause-written
+returns-in-NotBegun-clause-written c = inl (
+  rw (← c.self.view_is) refl,
+  λ words. not_both _
+      (write_fits c.self.inside.stuck c.self.inside.history.turns c.self.inside.lanes c.self.invariant c.if-self.false
+      c.args.loan.now.number.value c.args.loan.now.publisher c.args.loan.now.slot (rw c.self.view_is c.requires)
+      c.args.payload c.args.user_header (rw c.self.view_is words.0) (rw c.self.view_is words.1))
+      c.in-NotBegun.ensures.0,
+)
+
+pub returns-in_default-clause-written : goal.returns-in_default-clause-written
+returns-in_default-clause-written c = inr (rw (← c.self.view_is, c.stopped-self-inside.ensures) refl)
+
+pub returns-in-Ended-Written-clause-stuck : goal.returns-in-Ended-Written-clause-stuck
+returns-in-Ended-Written-clause-stuck c = λ is. not_both _ (rw c.self.view_is is) (c.self.invariant.told ∙ c.if-self.false)

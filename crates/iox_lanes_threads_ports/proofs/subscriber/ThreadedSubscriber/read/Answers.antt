@@ -63,3 +63,13 @@ returns-clause-listed g c = λ e.
     c.begin.new.self c.finish.new.lane c.args.sample begun
     (ap (λ (v : SubscriberPort). v.lane) (sym c.self.view_is) ∙ sym c.settle.ensures.lane)
     (sym c.fits.ensures ∙ c.if-not-fits.false) c.begin.ensures c.finish.ensures.goes c.finish.ensures.over
+
+pub returns-clause-stood : goal.returns-clause-stood
+returns-clause-stood g c = lemmas.stood c.args.self.now (port_of c.self.inside.seat.me) c.self.inside.lane
+    (ap (λ (v : SubscriberPort). v.port) (sym c.self.view_is)) (ap (λ (v : SubscriberPort). v.lane) (sym c.self.view_is))
+    c.self.invariant.1 c.self.invariant.2
+
+pub returns-then-not-fits-clause-stood : goal.returns-then-not-fits-clause-stood
+returns-then-not-fits-clause-stood g c = lemmas.stood c.args.self.now (port_of c.self.inside.seat.me) c.self.inside.lane
+    (ap (λ (v : SubscriberPort). v.port) (sym c.self.view_is)) (ap (λ (v : SubscriberPort). v.lane) (sym c.self.view_is))
+    c.self.invariant.1 c.self.invariant.2

@@ -32,3 +32,8 @@ returns-clause-call g c =
     (ap (λ (v : SubscriberPort). v.port) (sym c.self.view_is)) (ap (λ (v : SubscriberPort). v.lane) (sym c.self.view_is))
     (c.begin.ensures ∙ ap (subscriber_begun 0 call.Receive) c.settle.ensures.lane)
     c.run_on.ensures.goes c.run_on.ensures.over c.go_on.ensures.lane c.go_on.ensures.answer)
+
+pub returns-clause-stood : goal.returns-clause-stood
+returns-clause-stood g c = lemmas.stood c.args.self.now (port_of c.self.inside.seat.me) c.self.inside.lane
+    (ap (λ (v : SubscriberPort). v.port) (sym c.self.view_is)) (ap (λ (v : SubscriberPort). v.lane) (sym c.self.view_is))
+    c.self.invariant.1 c.self.invariant.2

@@ -69,3 +69,13 @@ returns-clause-kept g c = λ e.
     release_kept c.args.self.now new c.args.sample c.released.result
     (subst (λ (v : SubscriberPort). SubscriberStands v.port v.lane) c.self.view_is
     (lemmas.settled_stands (port_of c.self.inside.seat.me) c.self.inside.lane c.self.invariant.1)) (returns-clause-call g c) e
+
+pub returns-clause-stood : goal.returns-clause-stood
+returns-clause-stood g c = lemmas.stood c.args.self.now (port_of c.self.inside.seat.me) c.self.inside.lane
+    (ap (λ (v : SubscriberPort). v.port) (sym c.self.view_is)) (ap (λ (v : SubscriberPort). v.lane) (sym c.self.view_is))
+    c.self.invariant.1 c.self.invariant.2
+
+pub returns-then-not-fits-clause-stood : goal.returns-then-not-fits-clause-stood
+returns-then-not-fits-clause-stood g c = lemmas.stood c.args.self.now (port_of c.self.inside.seat.me) c.self.inside.lane
+    (ap (λ (v : SubscriberPort). v.port) (sym c.self.view_is)) (ap (λ (v : SubscriberPort). v.lane) (sym c.self.view_is))
+    c.self.invariant.1 c.self.invariant.2

@@ -13,3 +13,8 @@ pub returns-clause-locked_first : goal.returns-clause-locked_first
 returns-clause-locked_first g c is_there accepted finds =
     let told = c.create_there.ensures.locked_first accepted finds in
     (ap (λ reply. Some reply) told.0, told.1, told.2)
+
+pub returns-clause-standing_first : goal.returns-clause-standing_first
+returns-clause-standing_first g c is_there accepted finds =
+    let told = c.create_there.ensures.standing_first accepted finds in
+    (ap (λ reply. Some reply) told.0, told.1, told.2)

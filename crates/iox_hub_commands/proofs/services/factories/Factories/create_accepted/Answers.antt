@@ -1,4 +1,4 @@
-use Rattle.std.proofs.Common.{◌∙◌, refl, sym}
+use Rattle.std.proofs.Common.{◌∙◌, None, inl, refl, sym}
 use Rattle.iox_hub_base.specs.DescribeBase.Detail.{detail}
 use Rattle.iox_hub_base.specs.DescribeBase.declared.type_detail.TypeVariant.TheVariants.{FixedSize}
 use Rattle.iox_hub_commands.specs.Asked.{types_of}
@@ -14,6 +14,10 @@ returns-in-Some-clause-creates g c =
     c.args.asked.now c.args.steps.now c.args.self.now.made c.args.hub.now c.uncreated_at_first_look.new.hub c.in-Some.refusal
     (rw c.message_types-types.ensures at c.steps_have_form.ensures) c.in-Some.ensures.same c.args.attributes.now c.requires.settings
     (rw c.message_types-types.ensures at c.agreed_has_form.ensures) c.in-Some.ensures.told
+
+pub returns-in-None-clause-creates : goal.returns-in-None-clause-creates
+returns-in-None-clause-creates g c =
+    (None, inl c.requires.settings, rw c.in-None.ensures.same at c.create_looked.ensures)
 
 pub returns-in-Some-clause-told_first : goal.returns-in-Some-clause-told_first
 returns-in-Some-clause-told_first g c refusal is = (

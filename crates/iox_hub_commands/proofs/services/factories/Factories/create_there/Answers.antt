@@ -1,4 +1,4 @@
-use Rattle.std.proofs.Common.{◌∙◌, None, Some, Err, refl, sym, ap}
+use Rattle.std.proofs.Common.{◌∙◌, Some, Err, inl, refl, sym, ap}
 use Rattle.iox_command.specs.NegotiateBase.declared.failure.CreateFailure.TheVariants as uncreated
 use Rattle.iox_hub_commands.specs.Refusing.{create_refused, create_told}
 use Rattle.iox_hub_commands.proofs.Uncreated.{one_reason, not_accepted}
@@ -7,7 +7,7 @@ use Rattle.iox_hub_commands.proofs.services.factories.Factories.create_there.Goa
 pub returns-in-Some-clause-creates : goal.returns-in-Some-clause-creates
 returns-in-Some-clause-creates g c = (
   Some c.in-Some.failure,
-  c.in-Some.ensures,
+  inl c.in-Some.ensures,
   (ap (λ refusal. Some (Err refusal)) c.create_refused.ensures, refl, refl),
 )
 
@@ -20,7 +20,7 @@ returns-in-Some-clause-settings_first g c failure is = (
 )
 
 pub returns-in-None-clause-creates : goal.returns-in-None-clause-creates
-returns-in-None-clause-creates g c = (None, c.in-None.ensures, c.create_accepted.ensures.creates)
+returns-in-None-clause-creates g c = c.create_accepted.ensures.creates
 
 pub returns-in-None-clause-settings_first : goal.returns-in-None-clause-settings_first
 returns-in-None-clause-settings_first g c failure is = absurd (not_accepted _ failure is c.in-None.ensures)
@@ -31,4 +31,12 @@ returns-in-Some-clause-locked_first g c accepted finds = absurd (not_accepted _ 
 pub returns-in-None-clause-locked_first : goal.returns-in-None-clause-locked_first
 returns-in-None-clause-locked_first g c accepted finds =
     c.create_accepted.ensures.told_first (create_refused c.args.asked.now.options uncreated.HangsInCreation)
+    (sym (ap (λ found. create_told c.args.asked.now.options found) finds))
+
+pub returns-in-Some-clause-standing_first : goal.returns-in-Some-clause-standing_first
+returns-in-Some-clause-standing_first g c accepted finds = absurd (not_accepted _ c.in-Some.failure c.in-Some.ensures accepted)
+
+pub returns-in-None-clause-standing_first : goal.returns-in-None-clause-standing_first
+returns-in-None-clause-standing_first g c accepted finds =
+    c.create_accepted.ensures.told_first (create_refused c.args.asked.now.options uncreated.AlreadyExists)
     (sym (ap (λ found. create_told c.args.asked.now.options found) finds))

@@ -1,0 +1,91 @@
+//! A table that isn't touched.
+ghost use Rattle.std.specs.Prelude.{◌≡◌, Option};
+ghost use Rattle.std.specs.Option.{unwrap_or};
+ghost use Rattle.iox_negotiate.specs.Asked.{IsRefusal};
+ghost use Rattle.iox_negotiate_table.specs.NegotiateBase.declared.failure.CreateFailure.{CreateFailure};
+ghost use Rattle.iox_negotiate_table.specs.NegotiateBase.declared.failure.CreateFailure.TheVariants.{OutOfMemory};
+
+use iox_describe::ServiceHash;
+use iox_negotiate::{Negotiated, ServiceBuilder};
+use iox_negotiate_base::{
+    CreateFailure, LeaveAnswer, LockAnswer, LookAnswer, MakeSegmentAnswer, OpenSegmentAnswer,
+    PublishAnswer, RemoveAnswer, Storage,
+};
+use std::alloc::Global;
+
+// Stands for a table where no memory is found before the first access: each access answers that.
+#[derive(Drop)]
+struct Untouched;
+
+impl Storage for Untouched {
+    ghost use Rattle.iox_hub_base.specs.Untouched.{FindsNoMemory};
+
+    ghost id = { λ _. 0 };
+
+    ghost gives = { λ _ access _. FindsNoMemory access };
+
+    fn id(&self) -> u64 {
+        0
+    }
+
+    fn look(&mut self, _hash: &ServiceHash) -> LookAnswer {
+        LookAnswer::OutOfMemory
+    }
+
+    fn lock(&mut self, _hash: &ServiceHash, _node: u64) -> LockAnswer {
+        LockAnswer::OutOfMemory
+    }
+
+    fn make_segment(
+        &mut self,
+        _hash: &ServiceHash,
+        _number: u64,
+        _node: u64,
+        _max_nodes: u64,
+    ) -> MakeSegmentAnswer {
+        MakeSegmentAnswer::OutOfMemory
+    }
+
+    fn publish(&mut self, _hash: &ServiceHash, _number: u64, _bytes: &[u8]) -> PublishAnswer {
+        PublishAnswer::OutOfMemory
+    }
+
+    fn unlock(&mut self, _hash: &ServiceHash, _number: u64) {}
+
+    fn open_segment(&mut self, _hash: &ServiceHash, _number: u64, _node: u64) -> OpenSegmentAnswer {
+        OpenSegmentAnswer::OutOfMemory
+    }
+
+    fn leave(&mut self, _hash: &ServiceHash, _number: u64, _node: u64) -> LeaveAnswer {
+        LeaveAnswer::Stays
+    }
+
+    fn remove_description(&mut self, _hash: &ServiceHash, _number: u64) -> RemoveAnswer {
+        RemoveAnswer::Fault
+    }
+
+    fn remove_segment(&mut self, _hash: &ServiceHash, _number: u64) -> RemoveAnswer {
+        RemoveAnswer::Fault
+    }
+}
+
+/// The error of a call that creates, where no memory is found before the first access: settings that can't be are told all the same. It
+/// takes no memory.
+// It has a frame of its own, so that the caller's doesn't grow, below which the deepest calls are made.
+#[inline(never)]
+pub(crate) fn lacking_create<P: Negotiated>(
+    alloc: Global,
+    builder: ServiceBuilder<P>,
+) -> P::CreateError
+    ensures { (refusal : Option CreateFailure)
+        × IsRefusal (P.IsWithinLimits (P.adjusted (P.asked builder.requirement)))
+        (P.IsHistoryTooLong (P.adjusted (P.asked builder.requirement))) refusal
+        × (result ≡ P.create_error (unwrap_or refusal OutOfMemory)) }
+{
+    let mut table = Untouched;
+    let created = builder.create(alloc, &mut table);
+    match created {
+        Err(error) => error,
+        Ok(_made) => P::create_error(CreateFailure::OutOfMemory),
+    }
+}
