@@ -338,18 +338,20 @@ def what_is_told_without_memory_comes_before_want_of_it():
 
 @case_of_program
 def want_of_room_for_a_service_is_told_before_any_step_of_its_line():
-    wanted, found = Wanted(), []
+    wanted = Wanted()
     program = wanted.proved if wanted.proved.exists() else wanted.unproved
     with tempfile.TemporaryDirectory(prefix="iox-check-") as folder:
         library = refuser_in(folder)
-        # Beside a factory there is room for another.
-        for before in (b"", b"create n1 ev D\n"):
-            script = b"node\n" * 3 + before + BESIDE
-            line = script.splitlines().index(COMING)
-            found.append(Counter(what for at, _, what in outcomes(program, library, script) if at == line))
-    first, second = found
-    expect((first["refused"] > second["refused"], first["refused late"] - second["refused late"]), (True, 0))
-    expect_in("refused late", second)
+        for pattern in (b" ev ", b" ps "):
+            found = []
+            # Beside a factory there is room for another, among the counts and among the domains.
+            for before in (b"", b"create n1 ev D\n"):
+                script = (b"node\n" * 3 + before + BESIDE).replace(b" ev ", pattern)
+                line = script.splitlines().index(COMING.replace(b" ev ", pattern))
+                found.append(Counter(what for at, _, what in outcomes(program, library, script) if at == line))
+            first, second = found
+            expect((first["refused"] - second["refused"], first["refused late"] - second["refused late"]), (2, 0))
+            expect_in("refused late", second)
 
 
 def refusals_in(tests, library, name):

@@ -20,3 +20,5 @@ pub mod RecordedSent
 pub mod RecordedTold
 pub mod AskedNames
 pub mod RecordedOpening
+pub mod AskedServices
+pub mod KeptNumbers

@@ -99,14 +99,14 @@ use Rattle.iox_hub_machine.specs.TypedSteps.{IsStepBy, payload_there, told_sent}
 use Rattle.iox_machine.specs.Choices.{as_named}
 use Rattle.iox_machine.specs.Run.{Answers, Runs}
 use Rattle.iox_machine.specs.State.{State, new_state}
-use Rattle.iox_hub.proofs.AskedNames.{all_among, both_all, both_asked}
+use Rattle.iox_hub.proofs.AskedNames.{all_among, both_all, both_asked, loanless_too}
 use Rattle.iox_hub.proofs.Recording.{below, calls_publisher, calls_received, calls_subscriber, vector, vector_if}
 use Rattle.iox_hub.proofs.RecordedSkips.{drops_held, never_so, none_ready, not_waiting, tries_none}
 use Rattle.iox_hub.specs.Recorded.{AreFollowed, Calls, asked_too}
 use Rattle.iox_hub.specs.RecordedNames.{received_by}
 use Rattle.iox_hub.specs.declared.recorded.named.Number.{Number}
 use Rattle.iox_hub.specs.Recording.{IsDoneIf, IsDoneOrBack, IsRecorded, IsRun, OpensIf, calls_opened, newest_is_known, numbered}
-use Rattle.iox_hub.specs.Recording.{AllFit, asked_with, no_calls, told_sent_if, values_there}
+use Rattle.iox_hub.specs.Recording.{AllFit, SendsNoLoan, asked_with, no_calls, told_sent_if, values_there}
 use Rattle.iox_hub.proofs.RecordedIds.{at_keeps, drops_keeps, either_keeps, leaves_keeps, makes_keeps, receive_keeps, retry_keeps}
 use Rattle.iox_hub.proofs.RecordedIds.{slice_keeps}
 
@@ -260,13 +260,14 @@ module _ {T U B D : Type 0} (payload user_header : Detail) (is_default : T → T
   -- a call that isn't made is a command that is skipped
   skipped_on : {fit : Bool} → CallsGoOn payload user_header types is_default is_default_header fixed degrades decides fixed_reader
       reader_degrades
-      → (old : Calls T) (hub after : Hub T U B D) (asked : Command T) → after.table.id ≡ hub.table.id
+      → (old : Calls T) (hub after : Hub T U B D) (asked : Command T) → SendsNoLoan asked → after.table.id ≡ hub.table.id
       → ((names : List (List ℕ)) (most : ℕ) (state : State T) → Stood names most (numbered old hub) state → Skips asked old hub after)
       → Recorded fit old hub → Recorded fit (asked_too asked reply.Skipped old) after
-  skipped_on goes_on old hub after asked kept skips was = record {
+  skipped_on goes_on old hub after asked so kept skips was = record {
     rise = was.rise;
     id = kept ∙ was.id;
     all_fit = was.all_fit;
+    loanless = loanless_too old.asked asked was.loanless so;
     run = run_on goes_on old hub after asked reply.Skipped old.made old.factories
         (by_step payload user_header Dynamic is_default is_default_header fixed degrades decides fixed_reader reader_degrades
         asked (numbered old hub) (numbered old after) reply.Skipped skips) was.run;
@@ -293,6 +294,7 @@ module _ {T U B D : Type 0} (payload user_header : Detail) (is_default : T → T
         rise = new_rises config (numbered (no_calls config) hub) is_new;
         id = ap (λ table. table.id) is.table;
         all_fit = λ is. tt;
+        loanless = tt;
         run = λ names decides_so answers_so own all few fit. (
           begins names config (numbered (no_calls config) hub) is_new,
           is.expired_connection_buffer,
@@ -336,6 +338,7 @@ module _ {T U B D : Type 0} (payload user_header : Detail) (is_default : T → T
     rise = was.rise;
     id = ap (λ hub. hub.table.id) same ∙ was.id;
     all_fit = was.all_fit;
+    loanless = loanless_too old.asked command.Node was.loanless tt;
     run = run_on goes_on old hub after command.Node (told_node answer) old.made old.factories
         (steps (numbered old hub) after answer is same) was.run;
   }
@@ -350,7 +353,7 @@ module _ {T U B D : Type 0} (payload user_header : Detail) (is_default : T → T
       → Recorded fit old hub → Recorded fit (asked_too (command.Put number values) (told_sent_if answer) old) after
   put_recorded {fit} goes_on steps old hub after number lender values None there (never, same) was =
       subst (λ (it : Hub T U B D). Recorded fit (asked_too (command.Put number values) reply.Skipped old) it) (sym same)
-      (skipped_on goes_on old hub hub (command.Put number values) refl
+      (skipped_on goes_on old hub hub (command.Put number values) tt refl
       (λ names most state it. (
         (
           None,
@@ -365,6 +368,7 @@ module _ {T U B D : Type 0} (payload user_header : Detail) (is_default : T → T
     rise = was.rise;
     id = slice_keeps degrades decides lender values hub after answer sends ∙ was.id;
     all_fit = was.all_fit;
+    loanless = loanless_too old.asked (command.Put number values) was.loanless tt;
     run = run_on goes_on old hub after (command.Put number values) (told_sent answer) old.made old.factories
         (steps number lender values (numbered old hub) after answer there
         (not_waiting (publisher_stands lender.number (hub_ports lender.domain hub))
@@ -382,7 +386,7 @@ module _ {T U B D : Type 0} (payload user_header : Detail) (is_default : T → T
       → Recorded fit old hub → Recorded fit (asked_too (command.Retry number nanoseconds) (told_sent_if (result_ok answer)) old) after
   retry_recorded {fit} goes_on steps old hub after number nanoseconds sender waits (Err back) there (never, is, same) was =
       subst (λ (it : Hub T U B D). Recorded fit (asked_too (command.Retry number nanoseconds) reply.Skipped old) it) (sym same)
-      (skipped_on goes_on old hub hub (command.Retry number nanoseconds) refl
+      (skipped_on goes_on old hub hub (command.Retry number nanoseconds) tt refl
       (λ names most state it. (
         (
           None,
@@ -398,6 +402,7 @@ module _ {T U B D : Type 0} (payload user_header : Detail) (is_default : T → T
     rise = was.rise;
     id = retry_keeps decides sender nanoseconds hub after answer tries ∙ was.id;
     all_fit = was.all_fit;
+    loanless = loanless_too old.asked (command.Retry number nanoseconds) was.loanless tt;
     run = run_on goes_on old hub after (command.Retry number nanoseconds) (told_sent answer) old.made old.factories
         (steps number nanoseconds sender (numbered old hub) after answer there tries) was.run;
   }
@@ -413,6 +418,7 @@ module _ {T U B D : Type 0} (payload user_header : Detail) (is_default : T → T
     rise = was.rise;
     id = at_keeps sender.domain (GivesUpBy sender.number) (hub_ports sender.domain hub) hub after answer ends ∙ was.id;
     all_fit = was.all_fit;
+    loanless = loanless_too old.asked (command.GiveUp number) was.loanless tt;
     run = run_on goes_on old hub after (command.GiveUp number) (given_up_reply answer) old.made old.factories
         (steps number sender (numbered old hub) after answer there ends) was.run;
   }
@@ -430,7 +436,7 @@ module _ {T U B D : Type 0} (payload user_header : Detail) (is_default : T → T
   receive_recorded {fit} goes_on steps may_use old hub after number receiver None there (never, same) was =
       subst (λ (it : Bool). Recorded it (asked_too (command.Receive number) reply.Skipped old) after) (sym (and_true fit))
       (subst (λ (it : Hub T U B D). Recorded fit (asked_too (command.Receive number) reply.Skipped old) it) (sym same)
-      (skipped_on goes_on old hub hub (command.Receive number) refl
+      (skipped_on goes_on old hub hub (command.Receive number) tt refl
       (λ names most state it. never_so (subscriber_stands receiver.number (hub_ports receiver.domain hub))
       ((may_use names most (numbered old hub) state it).subscribers number receiver there) never) was))
   receive_recorded {fit} goes_on steps may_use old hub after number receiver (Some (Ok (Some sample))) there (may, receives) was =
@@ -443,6 +449,7 @@ module _ {T U B D : Type 0} (payload user_header : Detail) (is_default : T → T
         id = receive_keeps reader_degrades receiver hub after (Ok (Some sample)) receives ∙ was.id;
         all_fit = λ is. let (before, newest) = both_so fit (held && short) is in
             one_fits old.received values (was.all_fit before) (below (length values) (2 ^ 63) (both_so held short newest).1);
+        loanless = loanless_too old.asked (command.Receive number) was.loanless tt;
         run = run_to fit (fit && (held && short)) goes_on old hub after (command.Receive number)
             (reply.Received old.made.samples.next (vector values))
             (with_sample sample.port sample.taken old.made) old.factories (old.received ++ values ∷ [])
@@ -465,6 +472,7 @@ module _ {T U B D : Type 0} (payload user_header : Detail) (is_default : T → T
         rise = was.rise;
         id = receive_keeps reader_degrades receiver hub after (Ok None) receives ∙ was.id;
         all_fit = was.all_fit;
+        loanless = loanless_too old.asked (command.Receive number) was.loanless tt;
         run = run_on goes_on old hub after (command.Receive number) reply.NothingWaits old.made old.factories
             (steps number receiver (numbered old hub) after (Ok None) reply.NothingWaits there receives refl) was.run;
       })
@@ -474,6 +482,7 @@ module _ {T U B D : Type 0} (payload user_header : Detail) (is_default : T → T
         rise = was.rise;
         id = receive_keeps reader_degrades receiver hub after (Err why) receives ∙ was.id;
         all_fit = was.all_fit;
+        loanless = loanless_too old.asked (command.Receive number) was.loanless tt;
         run = run_on goes_on old hub after (command.Receive number) (reply.Refused (refusal.Receive why)) old.made old.factories
             (steps number receiver (numbered old hub) after (Err why) (reply.Refused (refusal.Receive why)) there receives refl) was.run;
       })
@@ -531,6 +540,7 @@ module _ {T U B D : Type 0} (payload user_header : Detail) (is_default : T → T
         );
         id = drops_keeps made.port.domain made.port.number made.taken (hub_ports made.port.domain hub) hub after released drops ∙ was.id;
         all_fit = was.all_fit;
+        loanless = loanless_too old.asked (command.Release number) was.loanless tt;
         run = run_on goes_on old hub after (command.Release number) (done_reply true)
             (without_sample number old.made) old.factories (steps number made (numbered old hub) after released there drops) was.run;
       }
@@ -562,6 +572,7 @@ module _ {T U B D : Type 0} (payload user_header : Detail) (is_default : T → T
     id = leaves_keeps leaver.domain (without_hub_subscriber leaver.domain leaver.number) (λ hub. refl)
         (SubscriberLeaves leaver.number) (hub_ports leaver.domain hub) hub after left ends ∙ was.id;
     all_fit = was.all_fit;
+    loanless = loanless_too old.asked (command.Leave (port.Subscriber number)) was.loanless tt;
     run = run_on goes_on old hub after (command.Leave (port.Subscriber number)) (done_reply left)
         (removed_if left (without_subscriber number) old.made) old.factories
         (steps number leaver (numbered old hub) after left there ends) was.run;
@@ -594,6 +605,7 @@ module _ {T U B D : Type 0} (payload user_header : Detail) (is_default : T → T
     id = leaves_keeps leaver.domain (without_hub_publisher leaver.domain leaver.number) (λ hub. refl)
         (PublisherLeaves leaver.number) (hub_ports leaver.domain hub) hub after left ends ∙ was.id;
     all_fit = was.all_fit;
+    loanless = loanless_too old.asked (command.Leave (port.Publisher number)) was.loanless tt;
     run = run_on goes_on old hub after (command.Leave (port.Publisher number)) (done_reply left)
         (removed_if left (without_publisher number) old.made) old.factories
         (steps number leaver (numbered old hub) after left there ends) was.run;
@@ -644,7 +656,7 @@ module _ {T U B D : Type 0} (payload user_header : Detail) (is_default : T → T
         (hub_ports (domain_of_factory parts) hub) hub answer after
         → Recorded fit old hub → Recorded fit (calls_publisher factory named (domain_of_factory parts) answer old) after
     publisher_recorded goes_on named steps header None default makes was =
-        skipped_on goes_on old hub after (command.Publisher factory named) (publisher_keeps named header None makes)
+        skipped_on goes_on old hub after (command.Publisher factory named) tt (publisher_keeps named header None makes)
         (λ names most state it. subst (λ (found : Option Opened). services.PublisherComes is_default_header fixed degrades found named
         (numbered old hub) reply.Skipped (numbered old after)) (sym there) (
           (header, default, None, (old.made, as_roomy old.made, (None, makes, (refl, refl))), refl),
@@ -662,6 +674,7 @@ module _ {T U B D : Type 0} (payload user_header : Detail) (is_default : T → T
           );
           id = publisher_keeps named header (Some (Ok number)) makes ∙ was.id;
           all_fit = was.all_fit;
+          loanless = loanless_too old.asked (command.Publisher factory named) was.loanless tt;
           run = run_on goes_on old hub after (command.Publisher factory named) (reply.PublisherMade old.made.publishers.next)
               (with_publisher (domain_of_factory parts) true number old.made) old.factories (steps factory parts named header
               (numbered old hub) after (Ok number) there (λ worst_case slots is. is) default makes) was.run;
@@ -670,6 +683,7 @@ module _ {T U B D : Type 0} (payload user_header : Detail) (is_default : T → T
       rise = was.rise;
       id = publisher_keeps named header (Some (Err why)) makes ∙ was.id;
       all_fit = was.all_fit;
+      loanless = loanless_too old.asked (command.Publisher factory named) was.loanless tt;
       run = run_on goes_on old hub after (command.Publisher factory named) (reply.Refused (refusal.Publisher why)) old.made old.factories
           (steps factory parts named header
           (numbered old hub) after (Err why) there (λ worst_case slots is. is) default makes) was.run;
@@ -700,7 +714,7 @@ module _ {T U B D : Type 0} (payload user_header : Detail) (is_default : T → T
         (hub_ports (domain_of_factory parts) hub) hub answer after
         → Recorded fit old hub → Recorded fit (calls_subscriber factory named (domain_of_factory parts) answer old) after
     subscriber_recorded goes_on steps named None makes was =
-        skipped_on goes_on old hub after (command.Subscriber factory named) (subscriber_keeps named None makes)
+        skipped_on goes_on old hub after (command.Subscriber factory named) tt (subscriber_keeps named None makes)
         (λ names most state it. subst (λ (found : Option Opened). services.SubscriberComes fixed_reader reader_degrades found named
         (numbered old hub) reply.Skipped (numbered old after)) (sym there) (
           (None, (old.made, as_roomy old.made, (None, makes, (refl, refl))), refl),
@@ -718,6 +732,7 @@ module _ {T U B D : Type 0} (payload user_header : Detail) (is_default : T → T
           );
           id = subscriber_keeps named (Some (Ok number)) makes ∙ was.id;
           all_fit = was.all_fit;
+          loanless = loanless_too old.asked (command.Subscriber factory named) was.loanless tt;
           run = run_on goes_on old hub after (command.Subscriber factory named) (reply.SubscriberMade old.made.subscribers.next)
               (with_subscriber (domain_of_factory parts) number old.made) old.factories
               (steps factory parts named (numbered old hub) after (Ok number) there makes) was.run;
@@ -726,6 +741,7 @@ module _ {T U B D : Type 0} (payload user_header : Detail) (is_default : T → T
       rise = was.rise;
       id = subscriber_keeps named (Some (Err why)) makes ∙ was.id;
       all_fit = was.all_fit;
+      loanless = loanless_too old.asked (command.Subscriber factory named) was.loanless tt;
       run = run_on goes_on old hub after (command.Subscriber factory named) (reply.Refused (refusal.Subscriber why)) old.made old.factories
           (steps factory parts named (numbered old hub) after (Err why) there makes) was.run;
     }
@@ -739,7 +755,7 @@ module _ {T U B D : Type 0} (payload user_header : Detail) (is_default : T → T
       → Recorded fit old hub → Recorded fit (calls_opened node name named required answer old) after
   opened_recorded {fit} goes_on steps old hub after node name named required None (never, same) was =
       subst (λ (it : Hub T U B D). Recorded fit (calls_opened node name named required None old) it) (sym same)
-      (skipped_on goes_on old hub hub (command.OpenOrCreate node name (options.PublishSubscribe named) required []) refl
+      (skipped_on goes_on old hub hub (command.OpenOrCreate node name (options.PublishSubscribe named) required []) tt refl
       (λ names most state it. (
         None,
         subst (λ (b : Bool). EitherNumbered b payload user_header types
@@ -760,6 +776,7 @@ module _ {T U B D : Type 0} (payload user_header : Detail) (is_default : T → T
         id = either_keeps payload user_header types node name named required old.factories (inserted old.factories factory) hub after
             (Ok old.factories.next) either ∙ was.id;
         all_fit = was.all_fit;
+        loanless = loanless_too old.asked (command.OpenOrCreate node name (options.PublishSubscribe named) required []) was.loanless tt;
         run = run_on goes_on old hub after (command.OpenOrCreate node name (options.PublishSubscribe named) required [])
             (reply.FactoryMade old.factories.next) old.made (inserted old.factories factory)
             (steps node name (options.PublishSubscribe named) required [] (numbered old hub) after (Ok old.factories.next)
@@ -770,6 +787,7 @@ module _ {T U B D : Type 0} (payload user_header : Detail) (is_default : T → T
     id = either_keeps payload user_header types node name named required old.factories old.factories hub after
         (Err (refusal.PublishSubscribeOpenOrCreate why)) either ∙ was.id;
     all_fit = was.all_fit;
+    loanless = loanless_too old.asked (command.OpenOrCreate node name (options.PublishSubscribe named) required []) was.loanless tt;
     run = run_on goes_on old hub after (command.OpenOrCreate node name (options.PublishSubscribe named) required [])
         (reply.Refused (refusal.PublishSubscribeOpenOrCreate why)) old.made old.factories
         (steps node name (options.PublishSubscribe named) required [] (numbered old hub) after

@@ -19,6 +19,7 @@ use Rattle.iox_machine.specs.State.{State, counted, new_state, replaced}
 use Rattle.iox_machine.specs.Table.{at}
 use Rattle.iox_hub.proofs.RecordedReading.{cancel, cut, long_so, one_step}
 use Rattle.iox_hub.specs.RecordedLaws.{WasPut}
+use Rattle.iox_hub.specs.Recording.{SendsNoLoan}
 
 -- what is so of all is so of the one that is found
 module _ {X : Type 0} (P : X → Type 0) where
@@ -87,32 +88,33 @@ module _ {T : Type 0} (choices : Choices T) (types : MessageTypeDetails) (buffer
         all) reads
 
 module _ {T : Type 0} (choices : Choices T) (types : MessageTypeDetails) (buffer : ℕ) where
-  -- what began the send was a put of these values, or the send of a loan
+  -- what began the send was a put of these values
   put_so : (publisher : ℕ) (values : List T) (one : Command T) (more : List (Command T)) (answer : Reply T) (answers : List (Reply T))
-      (old : State T) → BeginsToSend publisher values one old answer → WasPut values (one ∷ more) (answer ∷ answers)
-  put_so publisher values (command.Put number given) more answer answers old (same, are, begun) = inl (are, begun)
-  put_so publisher values (command.Send loan) more answer answers old began = inl began.7
-  put_so publisher values other more answer answers old began = absurd began
+      (old : State T) → SendsNoLoan one → BeginsToSend publisher values one old answer → WasPut values (one ∷ more) (answer ∷ answers)
+  put_so publisher values (command.Put number given) more answer answers old loanless (same, are, begun) = inl (are, begun)
+  put_so publisher values (command.Send loan) more answer answers old loanless began = absurd loanless
+  put_so publisher values other more answer answers old loanless began = absurd began
 
   put_later : (values : List T) (one : Command T) (more : List (Command T)) (answer : Reply T) (answers : List (Reply T))
       → WasPut values more answers → WasPut values (one ∷ more) (answer ∷ answers)
   put_later values (command.Put number given) more answer answers was = inr was
-  put_later values (command.Send loan) more answer answers was = inr was
   put_later values other more answer answers was = was
 
   began_so : (publisher : ℕ) (values : List T) (asked : List (Command T)) (old new : State T) (answers : List (Reply T))
       (run : Runs types choices buffer asked old answers new)
-      → Began types choices buffer publisher values asked old answers new run → WasPut values asked answers
-  began_so publisher values [] old new answers run began = absurd began
-  began_so publisher values (one ∷ more) old new answers (answer, mid, rest, did, runs, is) began =
+      → AllByRecursion (λ it. SendsNoLoan it) asked → Began types choices buffer publisher values asked old answers new run
+      → WasPut values asked answers
+  began_so publisher values [] old new answers run loanless began = absurd began
+  began_so publisher values (one ∷ more) old new answers (answer, mid, rest, did, runs, is) loanless began =
       subst (λ (all : List (Reply T)). WasPut values (one ∷ more) all) (sym is)
-      (⊎_elim (λ now. put_so publisher values one more answer rest old now)
-      (λ later. put_later values one more answer rest (began_so publisher values more mid new rest runs later)) began)
+      (⊎_elim (λ now. put_so publisher values one more answer rest old loanless.0 now)
+      (λ later. put_later values one more answer rest (began_so publisher values more mid new rest runs loanless.1 later)) began)
 
   put_before : MessagesWereSent choices → (asked : List (Command T)) (answers : List (Reply T)) (sample : ℕ) (read : Vec T) (new : State T)
+      → AllByRecursion (λ it. SendsNoLoan it) asked
       → Runs types choices buffer (asked ++ command.Read sample ∷ []) new_state (answers ++ reply.Values read ∷ []) new
       → WasPut (vec_items read) asked answers
-  put_before sent asked answers sample read new runs =
+  put_before sent asked answers sample read new loanless runs =
       let last = cut choices types buffer asked (command.Read sample ∷ []) new_state new (answers ++ reply.Values read ∷ []) runs in
       let one = long_so choices types buffer (command.Read sample ∷ []) last.mid new last.late last.goes in
       let (first, ends) = cancel answers last.early (reply.Values read ∷ []) last.late
@@ -129,14 +131,14 @@ module _ {T : Type 0} (choices : Choices T) (types : MessageTypeDetails) (buffer
       (sent types buffer asked last.early last.mid last.went)
       (one_step choices types buffer (command.Read sample) last.mid new last.late (reply.Values read) last.goes (sym ends)) in
       subst (λ (all : List (Reply T)). WasPut (vec_items read) asked all) (sym first)
-      (began_so publisher (vec_items read) asked new_state last.mid last.early last.went began)
+      (began_so publisher (vec_items read) asked new_state last.mid last.early last.went loanless began)
 
 -- where the machine may answer so to commands, and to the read of a sample after them, what is read was put by one of them
 pub reads_as_put : {T : Type 0} (choices : Choices T) → MessagesWereSent choices → (types : MessageTypeDetails) (buffer : ℕ)
-    (asked : List (Command T)) (answers : List (Reply T)) (sample : ℕ) (read : Vec T)
+    (asked : List (Command T)) (answers : List (Reply T)) (sample : ℕ) (read : Vec T) → AllByRecursion (λ it. SendsNoLoan it) asked
     → Answers types choices buffer (asked ++ command.Read sample ∷ []) false (answers ++ reply.Values read ∷ [])
     → WasPut (vec_items read) asked answers
-reads_as_put choices sent types buffer asked answers sample read (some, rest, new, are, none, runs) =
-    put_before choices types buffer sent asked answers sample read new
+reads_as_put choices sent types buffer asked answers sample read loanless (some, rest, new, are, none, runs) =
+    put_before choices types buffer sent asked answers sample read new loanless
     (subst (λ all. Runs types choices buffer all new_state (answers ++ reply.Values read ∷ []) new)
     (sym (are ∙ (ap (λ more. some ++ more) none ∙ append-nil some))) runs)

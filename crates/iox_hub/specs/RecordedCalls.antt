@@ -1,5 +1,5 @@
 -- What the calls of a recorded hub are told as: commands, and answers to them.
-use Rattle.std.specs.Prelude.{ℕ, ◌≡◌, ◌^◌, ◌<◌, List, [], ◌∷◌, ◌++◌, length, Option, None, Some, Result, Ok, Err}
+use Rattle.std.specs.Prelude.{ℕ, ◌≡◌, ◌⊎◌, ◌^◌, ◌<◌, List, [], ◌∷◌, ◌++◌, length, Option, None, Some, Result, Ok, Err}
 use Rattle.std.specs.Global.{Vec}
 use Rattle.std.specs.Vec.{vec_items}
 use Rattle.iox_command.specs.declared.command.Command.{Command}
@@ -8,15 +8,36 @@ use Rattle.iox_command.specs.declared.refusal.Refusal.{Refusal}
 use Rattle.iox_command.specs.declared.refusal.Refusal.TheVariants as refusal
 use Rattle.iox_command.specs.declared.reply.Reply.{Reply}
 use Rattle.iox_command.specs.declared.reply.Reply.TheVariants as reply
-use Rattle.iox_container.specs.NumberTable.{inserted}
+use Rattle.iox_container.specs.NumberTable.{NumberTable, inserted, value_at}
 use Rattle.iox_delivery.specs.declared.kind.Slice.{Slice}
 use Rattle.iox_delivery.specs.declared.sample.Sample.{Sample}
 use Rattle.iox_delivery.specs.declared.sent.Sent.{Sent}
 use Rattle.iox_delivery.specs.declared.sent.Sent.TheVariants as sent
 use Rattle.iox_hub_commands.specs.DomainValues.declared.port_error.ReceiveError.{ReceiveError}
 use Rattle.iox_hub_commands.specs.DomainValues.declared.port_error.SendError.{SendError}
+use Rattle.iox_command.specs.declared.service.PublishSubscribeOptions.{PublishSubscribeOptions}
+use Rattle.iox_command.specs.declared.service.ServiceOptions.TheVariants as options
+use Rattle.iox_hub_commands.specs.Asking.{hash_of, required_agreement, required_publish_subscribe}
+use Rattle.iox_hub_commands.specs.DescribeBase.Attributes.{Required}
+use Rattle.iox_hub_commands.specs.DescribeBase.declared.message_type.MessageTypeDetails.{MessageTypeDetails}
+use Rattle.iox_negotiate.specs.Laws.{IsMet}
+use Rattle.iox_negotiate_base.specs.declared.request.Opened.{Opened}
+use Rattle.iox_negotiate_table.specs.DescribeVerdict.PublishSubscribeClauses as publish_subscribe_clauses
+use Rattle.iox_negotiate_table.specs.DescribeVerdict.Verdict.{first_unmet}
 use Rattle.iox_hub.specs.Recorded.{Calls, asked_too}
 use Rattle.iox_hub.specs.declared.recorded.named.Named.{Named}
+
+-- what goes by a number goes by it still
+abbrev pub KeepNumbers : {V : Type 0} → NumberTable V → NumberTable V → Type 0
+KeepNumbers {V} old new = (number : ℕ) (held : V) → value_at old number ≡ Some held → value_at new number ≡ Some held
+
+-- A service is as a node asked for it: it is the one of the hash of this name, and what is agreed of it meets these options and attributes,
+-- and is within the limits of a description; or it has what is agreed of a service that is created with them.
+abbrev pub IsAsAsked : MessageTypeDetails → List ℕ → PublishSubscribeOptions → Required → Opened → Type 0
+IsAsAsked types name named required service =
+    IsMet (hash_of name (options.PublishSubscribe named))
+    (λ given. first_unmet (publish_subscribe_clauses.clauses (required_publish_subscribe named types required) given)) service
+    ⊎ (service.description ≡ required_agreement name (options.PublishSubscribe named) types required)
 
 -- A subscriber received, or none stands. A sample that came goes by the next number, and is told with these values, if they fit in a
 -- vector.

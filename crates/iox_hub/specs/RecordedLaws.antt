@@ -1,6 +1,7 @@
 -- What a program reads of a sample is what it received, and what was put.
 use Rattle.std.specs.Prelude.{ℕ, ◌≡◌, ◌⊎◌, ◌+◌, ◌<◌, ◌^◌, ◌++◌, ◌∷◌, [], List, length, Option, false, true}
 use Rattle.std.specs.Global.{Vec}
+use Rattle.std.specs.List.{AllByRecursion}
 use Rattle.std.specs.Vec.{vec_items}
 use Rattle.iox_command.specs.declared.command.Command.{Command}
 use Rattle.iox_command.specs.declared.command.Command.TheVariants as command
@@ -15,7 +16,8 @@ use Rattle.iox_hub_commands.specs.DomainValues.declared.degradation.DegradationA
 use Rattle.iox_hub_commands.specs.DomainValues.declared.degradation.DegradationCause.{DegradationCause}
 use Rattle.iox_hub_commands.specs.DomainValues.declared.degradation.DegradationInfo.{DegradationInfo}
 use Rattle.iox_hub.specs.Recorded.{AreFollowed, Calls}
-use Rattle.iox_hub_machine.specs.RunLaws.{all_asked}
+use Rattle.iox_hub_machine.specs.RunLaws.{all_asked, names_in}
+use Rattle.iox_negotiate_machine.specs.Laws.{HaveOwnHashes}
 use Rattle.iox_machine.specs.Choices.{Choices}
 use Rattle.iox_machine.specs.Run.{Answers}
 use Rattle.iox_machine.specs.RunLaws.{has_begun}
@@ -37,10 +39,22 @@ ReadsAreFollowed T fixed degrades decides fixed_reader reader_degrades = (calls 
     → AreFollowed fixed degrades decides fixed_reader reader_degrades calls → all_asked calls.asked + 1 < 2 ^ 56
     → AreFollowed fixed degrades decides fixed_reader reader_degrades (record calls { asked = calls.asked ++ command.Read sample ∷ [] })
 
--- These values were put: a put of them began to send; or a loan was sent, whose values its writes say.
+-- What calls stand on but who decides: no two services of the names that they ask for share a hash, they and the steps that they name are
+-- fewer than 2 ^ 56, and each message that was received fits in a vector.
+abbrev pub StandUndecided : {T : Type 0} → Calls T → Type 0
+StandUndecided calls = HaveOwnHashes (names_in calls.asked) × (all_asked calls.asked < 2 ^ 56)
+    × AllByRecursion (λ values. length values < 2 ^ 63) calls.received
+
+-- Who decides here is made of fixed actions, and decides by these: so calls stand on nothing else.
+abbrev pub DecidesForCalls : (T : Type 0) → {B D : Type 0} → (BackpressureStrategy → Option BackpressureAction → DegradationAction → B)
+    → (B → DegradationCause → DegradationInfo → DegradationAction → Type 0) → (B → BackpressureInfo → BackpressureDecision → Type 0)
+    → (DegradationAction → D) → (D → DegradationCause → DegradationInfo → DegradationAction → Type 0) → Type 0
+DecidesForCalls T fixed degrades decides fixed_reader reader_degrades = (calls : Calls T) → StandUndecided calls
+    → AreFollowed fixed degrades decides fixed_reader reader_degrades calls
+
+-- These values were put: a put of them began to send.
 abbrev pub WasPut : {T : Type 0} → List T → List (Command T) → List (Reply T) → Type 0
 WasPut values (command.Put publisher given ∷ asked) (answer ∷ answers) =
     ((given ≡ values) × (has_begun answer ≡ true)) ⊎ WasPut values asked answers
-WasPut values (command.Send loan ∷ asked) (answer ∷ answers) = (has_begun answer ≡ true) ⊎ WasPut values asked answers
 WasPut values (other ∷ asked) (answer ∷ answers) = WasPut values asked answers
 WasPut values asked answers = ⊥

@@ -67,6 +67,11 @@ no_calls config = record {
 abbrev pub asked_with : {T : Type 0} → Made → Command T → Reply T → Calls T → Calls T
 asked_with made asked answer calls = record (asked_too asked answer calls) { made = made }
 
+-- A command isn't the send of a loan: a recorded hub lends none.
+abbrev pub SendsNoLoan : {T : Type 0} → Command T → Type 0
+SendsNoLoan (command.Send loan) = ⊥
+SendsNoLoan other = Unit {0}
+
 -- Each message that was received fits in a vector.
 abbrev pub AllFit : {T : Type 0} → List (List T) → Type 0
 AllFit received = AllByRecursion (λ values. length values < 2 ^ 63) received
@@ -179,10 +184,11 @@ module _ {T U B D : Type 0} (payload user_header : Detail) (types : MessageTypeD
       × (hub.expired_connection_buffer ≡ calls.config.expired_connection_buffer)
       × (fit ≡ true)
 
-  -- That, and the numbers of what the program holds rise; the hub is told apart as it was made; and if this is true, each message that was
-  -- received fits in a vector.
+  -- That, and the numbers of what the program holds rise; the hub is told apart as it was made; if this is true, each message that was
+  -- received fits in a vector; and no loan was sent.
   pub record IsRecorded (fit : Bool) (calls : Calls T) (hub : Hub T U B D) : Type 0 where
     pub rise : NumbersRise (numbered calls hub)
     pub id : hub.table.id ≡ calls.config.id
     pub all_fit : fit ≡ true → AllFit calls.received
+    pub loanless : AllByRecursion (λ one. SendsNoLoan one) calls.asked
     pub run : IsRun fit calls hub

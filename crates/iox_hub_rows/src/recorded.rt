@@ -34,7 +34,7 @@ const PUBLISHER: PublisherOptions = PublisherOptions {
     max_loaned_samples: None,
     backpressure_strategy: Some(BackpressureStrategy::RetryUntilDelivered),
     preallocated_samples: None,
-    initial_max_slice_len: Some(4),
+    initial_max_slice_len: Some(64),
     allocation_strategy: None,
     backpressure_handler: None,
     degradation_handler: None,
@@ -45,6 +45,12 @@ const SUBSCRIBER: SubscriberOptions = SubscriberOptions {
     buffer_size: None,
     degradation_handler: None,
 };
+
+// How long the first message is: the longest is as long as its publisher's first slots.
+const LENGTHS: [usize; 3] = [0, 7, 64];
+
+// The values of the longest one.
+const SEVENS: [u64; 64] = [7; 64];
 
 // Whether values are sent to so many subscribers at once.
 fn is_sent(
@@ -142,22 +148,23 @@ fn is_waiting(
     }
 }
 
-// Whether messages go from a publisher to a subscriber in turn, one of which finds no room.
+// Whether messages go from a publisher to a subscriber in turn, these values and others, one of which finds no room.
 fn exchange(
     alloc: Global,
     hub: &mut Recorded,
     publisher: &Named<slice::Publisher<u64, ()>>,
     subscriber: &Named<slice::Subscriber<u64, ()>>,
+    values: &[u64],
 ) -> bool
     requires publisher { port_under (value_at hub.old.calls.made.publishers publisher.now.number.value) ≡ Some publisher.now.it.port }
     requires subscriber { value_at hub.old.calls.made.subscribers subscriber.now.number.value ≡ Some subscriber.now.it.port }
     ensures publishers { hub.new.calls.made.publishers ≡ hub.old.calls.made.publishers }
     ensures subscribers { hub.new.calls.made.subscribers ≡ hub.old.calls.made.subscribers }
 {
-    if !is_sent(alloc, hub, publisher, &[7, 8], 1) {
+    if !is_sent(alloc, hub, publisher, values, 1) {
         return false;
     }
-    if !is_received(alloc, hub, subscriber, &[7, 8]) {
+    if !is_received(alloc, hub, subscriber, values) {
         return false;
     }
     if !is_sent(alloc, hub, publisher, &[9], 1) {
@@ -201,6 +208,7 @@ fn converse(
     alloc: Global,
     hub: &mut Recorded,
     service: &Named<PortFactory<PublishSubscribe>>,
+    values: &[u64],
 ) -> bool
     requires { value_at hub.old.calls.factories service.now.number.value ≡ Some (made_factory.PublishSubscribe service.now.it) }
 {
@@ -211,15 +219,15 @@ fn converse(
         let _ = publisher_leaves(hub, publisher);
         return false;
     };
-    let is_asked = publisher.it.initial_max_slice_len() == 4 && subscriber.it.buffer_size() == 1;
-    let goes = exchange(alloc, hub, &publisher, &subscriber);
+    let is_asked = publisher.it.initial_max_slice_len() == 64 && subscriber.it.buffer_size() == 1;
+    let goes = exchange(alloc, hub, &publisher, &subscriber, values);
     let fits = hub.received_fit();
     let publisher_left = publisher_leaves(hub, publisher);
     let subscriber_left = subscriber_leaves(hub, subscriber);
     is_asked && goes && fits && publisher_left && subscriber_left
 }
 
-fn goes(alloc: Global) -> bool {
+fn goes(alloc: Global, values: &[u64]) -> bool {
     let mut hub = Recorded::new(alloc, HubConfig::default());
     let Ok(node) = hub.new_node() else {
         return false;
@@ -228,12 +236,15 @@ fn goes(alloc: Global) -> bool {
         return false;
     };
     match hub.open_or_create(alloc, &node, name, &SERVICE, AttributeVerifier::new()) {
-        Some(Ok(service)) => converse(alloc, &mut hub, &service),
+        Some(Ok(service)) => converse(alloc, &mut hub, &service, values),
         _ => false,
     }
 }
 
 #[test]
 fn calls_are_made(rt: HostRuntime) {
-    assert!(&rt; goes(rt.alloc()));
+    for len in &LENGTHS {
+        let values = SEVENS.get(..*len).unwrap_or(&[]);
+        assert!(&rt; values.len() == *len && goes(rt.alloc(), values), "{len}");
+    }
 }

@@ -16,14 +16,14 @@ const SIZES: LaneSizes = LaneSizes {
     most_loans: 1,
     slots: 5,
     user_header_words: 1,
-    payload_words: 2,
+    payload_words: 100,
 };
 
-// Whether a message of the words 7 and 9 is lent, written, sent, received, read and released; before it is sent nothing waits, and no other
+// Whether a message of a hundred words is lent, written, sent, received, read and released; before it is sent nothing waits, and no other
 // one is lent.
 fn goes(alloc: Global) -> Result<bool, AllocError> {
     let mut lanes = LanesInTurn::new(alloc, SIZES)?;
-    let payload = Vec::from_slice(alloc, &[7, 9])?;
+    let payload = vec![in alloc; 7u64; 100]?;
     let user_header = Vec::from_slice(alloc, &[5])?;
     let Some(Ok(None)) = lanes.receive(0) else {
         return Ok(false);
@@ -46,7 +46,7 @@ fn goes(alloc: Global) -> Result<bool, AllocError> {
     let Some(Ok(words)) = lanes.read(alloc, &sample) else {
         return Ok(false);
     };
-    Ok(words.as_slice() == [7, 9].as_slice() && lanes.release(&sample))
+    Ok(words.as_slice() == [7u64; 100].as_slice() && lanes.release(&sample))
 }
 
 #[test]

@@ -56,9 +56,9 @@ pub struct TurnSample {
 /// Lanes whose calls go in turn, one whole call after the other. Proofs know what was asked, in the words of commands, and what was
 /// answered.
 ///
-/// Each call says which command it is, and what it is answered. Only where it doesn't fit, or where memory or steps ran out within it, it
-/// answers None, and no command is recorded. Where they ran out, lanes are stuck: no call is made any more. That these are a run of the
-/// machine says `answers_as_machine`. This port's own.
+/// Each call says which command it is, and what it is answered. Where it doesn't fit, or where memory or steps ran out within it, it
+/// answers None, or false, and no command is recorded. Where they ran out, lanes are stuck: no call is made any more. That these are a run
+/// of the machine says `answers_as_machine`. This port's own.
 #[derive(Drop)]
 pub struct LanesInTurn {
     lanes: Lanes,

@@ -76,7 +76,8 @@ impl LaneSubscriber {
     }
 
     /// Reads the words of header, user header and payload of a sample. False where the slot is no sample of this port. Two reads of one
-    /// sample lend the same words, where no call between them gives it back (`held_reads_agree` of `iox_lanes_threads_ports`).
+    /// sample lend the same words, where no call between them gives it back, and no write position stood at 2^64 - 1 when they loaded them
+    /// (`held_reads_agree` of `iox_lanes_threads_ports`).
     pub fn read(&mut self, sample: u64) -> bool
         ensures same { StaysSubscriber self.old self.new }
         ensures call { Reads self.old.own sample self.new.own result }

@@ -55,8 +55,8 @@ HeldReadsStay = (sample : ℕ) (from to : SubscriberPort) (extent : SlotExtent) 
     → HasRead from.port extent sample lent
     → (is_borrowed (place_of sample to.lane) ≡ true) × HasRead to.port extent sample lent
 
--- Two reads of one sample lend the same words, where no call between them gives it back: `first` is the subscriber behind the one, and
--- `second` behind the other.
+-- Two reads of one sample lend the same words, where no call between them gives it back, and no write position stood at 2^64 - 1 when
+-- they loaded them: `first` is the subscriber behind the one, and `second` behind the other.
 abbrev pub HeldReadsAgree : Type 0
 HeldReadsAgree = (sample : ℕ) (before first between second : SubscriberPort)
     → StandsBetween before → ReadsWords before first sample → HasRead first.port before.lane.port.extent sample first.words

@@ -38,7 +38,8 @@ HasThroughout sample (goes q now answer before told) =
     HasThroughout sample before × (is_borrowed (place_of sample (subscriber_after answer now)) ≡ true)
 
 -- While a port has a sample all whose words its view lists, it goes on listing them and knowing of them what it knew: behind any
--- steps of its calls. Words that it knows there to be those of the sample are the same, one by one.
+-- steps of its calls, if no write position stood at 2^64 - 1 when they loaded a word of it. Words that it knows there to be those of the
+-- sample are the same, one by one.
 abbrev pub ReadsGiveOneValue : Type 0
 ReadsGiveOneValue = (p : Port) (lane : SubscriberLaneState) (q : Port) (now : SubscriberLaneState) (steps : SubscriberGoes p lane q now)
     (extent : SlotExtent) (sample : ℕ) (lent : List ℕ)

@@ -103,7 +103,8 @@ impl ThreadedSubscriber {
     }
 
     /// Reads the words of header, user header and payload of a sample. False where the slot is no sample of this port. Two reads of one
-    /// sample lend the same words, where no call between them gives it back (`held_reads_agree`).
+    /// sample lend the same words, where no call between them gives it back, and no write position stood at 2^64 - 1 when they loaded them
+    /// (`held_reads_agree`).
     pub fn read<K: Opening>(&mut self, words: &Words<K>, sample: u64) -> bool
         requires { self.old.table ≡ words.now.table_id }
         ensures same { SameSubscriber self.old self.new }

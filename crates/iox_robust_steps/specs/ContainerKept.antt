@@ -282,7 +282,7 @@ pub record MembersStay (m : ContainerParts) : Type 0 where
 -- of it, with the value that it has then; each call lets pass by its own steps just what it answers; an addition and a removal have a step
 -- of their own up to which the member isn't in, or is, at each moment of the call, and is, or isn't, from then on, but for what a recovery
 -- takes out; a recovery in hand stands beside that of the set, so that it goes on as the set found; after a whole recovery none of the
--- members is in that it was to take out of its owner, for good, and no index of the owner is held at which no member was in, but where a
+-- members is in that it was to take out of its owner, for good, and no index of the owner is held at which no member is in, but where a
 -- recovery took one out since; and a change that began and ended since a party's last copy moved the
 -- count of changes on from what that copy saw, so that the next copy doesn't answer that there was none. Where no recovery began, more
 -- stands

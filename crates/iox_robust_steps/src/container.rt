@@ -38,7 +38,8 @@ pub struct MemberFinished {
 /// which they see no member they free without a decision. However many steps were made, each got what its word held, and is one of one
 /// call of its party; the steps of a call are those that its value asked for.
 ///
-/// Where fewer than 2^64 - 1 steps were made, all stands that is said of a set of indices ([`RobustSetMachine`]). An addition that
+/// Where fewer than 2^64 - 1 steps were made, all stands that is said of a set of indices ([`RobustSetMachine`]), but that a recovery
+/// frees nothing that it wasn't to free: what shows no member it frees, too. An addition that
 /// wasn't refused put its value in at the index that it answers, where none was in, a removal took its member out, each by one step of its
 /// own, and each counted one change; so did a recovery. An addition is refused as its call on the set was, and a removal or a recovery
 /// answers what its own did. A member stays, with its value, till the party that put it in takes it out, or a recovery does. Each step of

@@ -1,5 +1,5 @@
 //! What calls of a recorded hub do to the hub, and how things get their numbers.
-ghost use Rattle.std.specs.Prelude.{⊤, ◌≡◌, ◌&&◌, [], Some, IfOk, is_ok};
+ghost use Rattle.std.specs.Prelude.{⊤, ◌≡◌, ◌&&◌, [], Some, IfOk, IfSome, is_ok};
 ghost use Rattle.std.specs.Prelude.{List};
 ghost use Rattle.std.specs.Global.{Vec};
 ghost use Rattle.std.specs.Option.{unwrap_or};
@@ -30,6 +30,7 @@ ghost use Rattle.iox_hub_commands.specs.Services.{domain_of_factory, owner_of_fa
 ghost use Rattle.iox_hub_commands.specs.declared.services.made.MadeFactory.TheVariants as made_factory;
 ghost use Rattle.iox_negotiate_table.specs.Describe.Within.{HasForm};
 ghost use Rattle.iox_hub.specs.Recorded.{Calls, asked_too};
+ghost use Rattle.iox_hub.specs.RecordedCalls.{IsAsAsked};
 ghost use Rattle.iox_hub.specs.RecordedNames.{as_made, back_by, named_by, port_made};
 ghost use Rattle.iox_hub.specs.RecordedNames.{publisher_side, received_by, subscriber_side};
 ghost use Rattle.iox_hub.specs.Recording.{IsDoneIf, IsDoneOrBack, OpensIf, OpensOrCreates, calls_opened};
@@ -214,6 +215,9 @@ pub(crate) fn opened<
     ensures opens { OpensIf (detail FixedSize T.name T.size T.alignment) (detail FixedSize U.name U.size U.alignment)
         (types_of T.name T.size T.alignment U.name U.size U.alignment) node name options.now required history.now.calls.factories hub.old
         (as_made (λ it. made_factory.PublishSubscribe it) result.0) hub.new }
+    ensures agreed { IfSome result.0 (λ answer. IfOk answer (λ factory.
+        IsAsAsked (types_of T.name T.size T.alignment U.name U.size U.alignment) name options.now required
+        factory.service.membership.service)) }
 {
     let answer = open_if(hub, alloc, node, name, options, attributes);
     let history = History::told(history, &(node, name, *options), &answer, &());
@@ -234,9 +238,13 @@ pub(crate) fn open_if<
     options: &PublishSubscribeOptions,
     attributes: AttributeVerifier,
 ) -> Option<Result<PortFactory<PublishSubscribe>, PublishSubscribeOpenOrCreateError>>
-    ensures { (table : FactoryTable) → OpensIf (detail FixedSize T.name T.size T.alignment) (detail FixedSize U.name U.size U.alignment)
+    ensures opens { (table : FactoryTable)
+        → OpensIf (detail FixedSize T.name T.size T.alignment) (detail FixedSize U.name U.size U.alignment)
         (types_of T.name T.size T.alignment U.name U.size U.alignment) node name options.now attributes table hub.old
         (as_made (λ it. made_factory.PublishSubscribe it) result) hub.new }
+    ensures agreed { IfSome result (λ answer. IfOk answer (λ factory.
+        IsAsAsked (types_of T.name T.size T.alignment U.name U.size U.alignment) name options.now attributes
+        factory.service.membership.service)) }
 {
     if !hub.has_node(node) {
         return None;

@@ -20,7 +20,7 @@ ghost use Rattle.iox_hub_commands.specs.declared.services.made.MadeFactory.TheVa
 ghost use Rattle.iox_machine.specs.Choices.{as_named};
 ghost use Rattle.iox_machine.specs.Run.{Answers};
 ghost use Rattle.iox_hub.specs.Recorded.{AreFollowed, asked_too};
-ghost use Rattle.iox_hub.specs.RecordedCalls.{IsReceived, answered_as, told_send};
+ghost use Rattle.iox_hub.specs.RecordedCalls.{IsAsAsked, IsReceived, KeepNumbers, answered_as, told_send};
 ghost use Rattle.iox_hub.specs.RecordedLaws.{WasPut};
 ghost use Rattle.iox_hub.specs.RecordedNames.{WaitsAt};
 ghost use Rattle.iox_hub.specs.RecordedNames.{publisher_side, subscriber_side};
@@ -157,7 +157,8 @@ impl<
     }
 
     /// A node opens the service of a name, as the options ask, or creates it where none stands: the command `OpenOrCreate`, with no steps
-    /// of nodes outside the hub. The node is one of this hub. None, and the command is skipped, where none of its number was made.
+    /// of nodes outside the hub. The node is one of this hub. None, and the command is skipped, where none of its number was made. What is
+    /// agreed of the service meets what is asked, or is just that. The others keep their numbers.
     ///
     /// Refused as the machine refuses it.
     /// Example: `let Some(Ok(service)) = hub.open_or_create(alloc, &node, name, &options, AttributeVerifier::new()) else { return None; };`
@@ -177,6 +178,10 @@ impl<
             self.old.calls }
         ensures number { IfSome result (λ answer. IfOk answer (λ factory. (factory.number.value ≡ self.old.calls.factories.next)
             × (value_at self.new.calls.factories factory.number.value ≡ Some (made_factory.PublishSubscribe factory.it)))) }
+        ensures others { KeepNumbers self.old.calls.factories self.new.calls.factories }
+        ensures agreed { IfSome result (λ answer. IfOk answer (λ factory.
+            IsAsAsked (types_of T.name T.size T.alignment U.name U.size U.alignment) name options.now attributes
+            factory.it.service.membership.service)) }
     {
         typed_calls_are_a_run::<T, U, B, D>();
         typed_openings_are_steps::<T, U, B, D>();
@@ -195,7 +200,7 @@ impl<
     }
 
     /// A publisher of a service comes, as the options ask: the command `Publisher`. None, and the command is skipped, where the service
-    /// isn't here.
+    /// isn't here. The others keep their numbers.
     ///
     /// Refused as the machine refuses it.
     /// Example: `let Some(Ok(publisher)) = hub.publisher(alloc, &service, &options) else { return None; };`
@@ -213,6 +218,7 @@ impl<
                 publishers = inserted calls.made.publishers (record { port = publisher.it.port; holds_slices = true });
               };
             }) self.old.calls }
+        ensures others { KeepNumbers self.old.calls.made.publishers self.new.calls.made.publishers }
         ensures number { IfSome result (λ answer. IfOk answer (λ publisher.
             (publisher.number.value ≡ self.old.calls.made.publishers.next)
             × (value_at self.new.calls.made.publishers publisher.number.value
@@ -241,7 +247,7 @@ impl<
     }
 
     /// A subscriber of a service comes, as the options ask: the command `Subscriber`. None, and the command is skipped, where the service
-    /// isn't here.
+    /// isn't here. The others keep their numbers.
     ///
     /// Refused as the machine refuses it.
     /// Example: `let Some(Ok(subscriber)) = hub.subscriber(alloc, &service, &options) else { return None; };`
@@ -259,6 +265,7 @@ impl<
                 subscribers = inserted calls.made.subscribers subscriber.it.port;
               };
             }) self.old.calls }
+        ensures others { KeepNumbers self.old.calls.made.subscribers self.new.calls.made.subscribers }
         ensures number { IfSome result (λ answer. IfOk answer (λ subscriber.
             (subscriber.number.value ≡ self.old.calls.made.subscribers.next)
             × (value_at self.new.calls.made.subscribers subscriber.number.value ≡ Some subscriber.it.port))) }
@@ -353,7 +360,7 @@ impl<
     }
 
     /// A subscriber receives the next message, if one waits: the command `Receive`. None, and the command is skipped, where the subscriber
-    /// doesn't stand: never by `AreFollowed`.
+    /// doesn't stand: never by `AreFollowed`. Other samples keep their numbers.
     ///
     /// Refused as the machine refuses it.
     /// Example: `let Some(Ok(Some(sample))) = hub.receive(alloc, &subscriber) else { return None; };`
@@ -364,6 +371,7 @@ impl<
     ) -> Option<Result<Option<Named<slice::Sample<T, U>>>, ReceiveError>>
         requires { value_at self.old.calls.made.subscribers subscriber.now.number.value ≡ Some subscriber.now.it.port }
         ensures received { IsReceived self.new.newest subscriber.now.number.value result self.old.calls self.new.calls }
+        ensures others { KeepNumbers self.old.calls.made.samples self.new.calls.made.samples }
         ensures number { IfSome result (λ answer. IfOk answer (λ some. IfSome some (λ sample.
             (sample.number.value ≡ self.old.calls.made.samples.next)
             × (value_at self.new.calls.made.samples sample.number.value

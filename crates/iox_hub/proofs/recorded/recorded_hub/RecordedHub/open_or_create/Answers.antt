@@ -1,6 +1,10 @@
+use Rattle.iox_hub.specs.RecordedCalls.{IsAsAsked}
 use Rattle.iox_hub.specs.RecordedNames.{as_made}
+use Rattle.iox_hub.proofs.AskedServices.{named_so}
+use Rattle.iox_hub.proofs.KeptNumbers.{factories_keep}
 use Rattle.iox_hub.proofs.RecordedRuns.{opened_recorded}
 use Rattle.iox_hub.proofs.RecordedTold.{factory_goes_by, opened_so}
+use Rattle.iox_hub_commands.specs.Asked.{types_of}
 use Rattle.iox_hub_commands.specs.DescribeBase.Detail.{detail}
 use Rattle.iox_hub_commands.specs.DescribeBase.declared.type_detail.TypeVariant.TheVariants.{FixedSize, Dynamic}
 use Rattle.iox_hub_commands.specs.declared.services.made.MadeFactory.TheVariants as made_factory
@@ -27,3 +31,14 @@ pub returns-clause-number : goal.returns-clause-number
 returns-clause-number g c = rw (c.with_number.ensures, ← c.self.view_is, c.opened-answer.ensures.told)
     (factory_goes_by c.self.inside.history.calls (λ it. made_factory.PublishSubscribe it) c.number.result c.args.name
     c.args.options.now c.args.attributes c.opened-answer.result.0 c.given-number.result c.given-number.ensures c.self.invariant.rise.0)
+
+pub returns-clause-agreed : goal.returns-clause-agreed
+returns-clause-agreed g c = rw c.with_number.ensures
+    (named_so c.given-number.result (λ factory. IsAsAsked (types_of g.T.ZeroCopySend.name g.T.ZeroCopySend.size g.T.ZeroCopySend.alignment
+    g.U.ZeroCopySend.name g.U.ZeroCopySend.size g.U.ZeroCopySend.alignment) c.args.name c.args.options.now c.args.attributes
+    factory.service.membership.service) c.opened-answer.result.0 c.opened-answer.ensures.agreed)
+
+pub returns-clause-others : goal.returns-clause-others
+returns-clause-others g c = rw (← c.self.view_is, c.opened-answer.ensures.told)
+    (factories_keep c.self.inside.history.calls c.number.result c.args.name c.args.options.now c.args.attributes
+    (as_made (λ it. made_factory.PublishSubscribe it) c.opened-answer.result.0))

@@ -46,7 +46,7 @@ returns-clause-put g c = rw (← c.self.view_is)
     (asked_types Dynamic (detail FixedSize g.T.ZeroCopySend.name g.T.ZeroCopySend.size g.T.ZeroCopySend.alignment)
     (detail FixedSize g.U.ZeroCopySend.name g.U.ZeroCopySend.size g.U.ZeroCopySend.alignment))
     c.self.inside.history.calls.config.expired_connection_buffer c.self.inside.history.calls.asked c.self.inside.history.calls.answers
-    c.args.sample.now.number.value told answers))
+    c.args.sample.now.number.value told c.self.invariant.loanless answers))
 
 pub returns-then-not-holds-clause-held : goal.returns-then-not-holds-clause-held
 returns-then-not-holds-clause-held g c = λ followed.

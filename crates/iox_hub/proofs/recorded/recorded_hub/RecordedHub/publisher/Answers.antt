@@ -1,5 +1,6 @@
 use Rattle.std.proofs.Common.{refl}
 use Rattle.iox_hub.specs.RecordedNames.{publisher_side}
+use Rattle.iox_hub.proofs.KeptNumbers.{publishers_keep}
 use Rattle.iox_hub.proofs.RecordedRuns.{publisher_recorded}
 use Rattle.iox_hub.proofs.RecordedTold.{publisher_goes_by, publisher_so}
 use Rattle.iox_hub_commands.specs.DescribeBase.Detail.{detail}
@@ -32,3 +33,8 @@ returns-clause-number g c = rw (c.with_number.ensures, c.publisher_of.ensures, â
     (publisher_goes_by c.self.inside.history.calls _ _ c.args.factory.now.number.value c.domain_of-domain.result c.given-number.result
     (publisher_side c.args.options.now) c.args.options.now c.create_publisher-answer.result c.given-number.ensures
     c.self.invariant.rise.1)
+
+pub returns-clause-others : goal.returns-clause-others
+returns-clause-others g c = rw (â† c.self.view_is, c.told-self-inside.ensures)
+    (publishers_keep c.args.factory.now.number.value c.domain_of-domain.result c.self.inside.history.calls c.args.options.now
+    c.create_publisher-answer.result)

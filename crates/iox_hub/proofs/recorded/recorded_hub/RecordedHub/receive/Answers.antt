@@ -1,3 +1,4 @@
+use Rattle.iox_hub.proofs.KeptNumbers.{samples_keep}
 use Rattle.iox_hub.proofs.RecordedRuns.{receive_recorded, receives_some}
 use Rattle.iox_hub.proofs.RecordedTold.{received_so, sample_goes_by}
 use Rattle.iox_hub_commands.specs.DescribeBase.Detail.{detail}
@@ -37,3 +38,7 @@ returns-clause-stands g c = λ followed. rw c.received_with_number.ensures
     c.args.subscriber.now.it.port
     c.receive_if-answer.result c.given-number.result (rw (← c.self.view_is) at c.requires) c.receive_if-answer.ensures c.self.invariant
     (rw (← c.self.view_is) at followed))
+
+pub returns-clause-others : goal.returns-clause-others
+returns-clause-others g c = rw (← c.self.view_is, c.told_received-self-inside.ensures)
+    (samples_keep c.self.inside.history.calls c.receive_if-answer.new.hub c.args.subscriber.now.number.value c.receive_if-answer.result)

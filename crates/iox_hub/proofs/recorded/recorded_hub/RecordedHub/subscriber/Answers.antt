@@ -1,5 +1,6 @@
 use Rattle.std.proofs.Common.{refl}
 use Rattle.iox_hub.specs.RecordedNames.{subscriber_side}
+use Rattle.iox_hub.proofs.KeptNumbers.{subscribers_keep}
 use Rattle.iox_hub.proofs.RecordedRuns.{subscriber_recorded}
 use Rattle.iox_hub.proofs.RecordedTold.{has_side, subscriber_goes_by, subscriber_so}
 use Rattle.iox_hub_commands.specs.DescribeBase.Detail.{detail}
@@ -35,4 +36,9 @@ returns-clause-number g c = rw (c.with_number.ensures, c.subscriber_of.ensures, 
 pub returns-clause-side : goal.returns-clause-side
 returns-clause-side g c = λ most is. rw (c.with_number.ensures, c.subscriber_of.ensures, c.most_waiting.ensures most is)
     (has_side _ _ _ c.domain_of-domain.result c.given-number.result (subscriber_side most.subscriber_max_buffer_size c.args.options.now)
+    c.create_subscriber-answer.result)
+
+pub returns-clause-others : goal.returns-clause-others
+returns-clause-others g c = rw (← c.self.view_is, c.told-self-inside.ensures)
+    (subscribers_keep c.args.factory.now.number.value c.domain_of-domain.result c.self.inside.history.calls c.args.options.now
     c.create_subscriber-answer.result)
