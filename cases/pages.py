@@ -196,18 +196,3 @@ def the_first_pages_have_short_sentences_and_the_first_few_words():
         for sentence in sentences((TOP / page).read_text(encoding="utf-8")):
             words = [it for it in sentence.split() if re.search(r"\w", it)]
             expect((page, sentence * (len(words) > 25)), (page, ""))
-
-
-@case
-def the_functions_on_the_way_of_a_line_are_those_of_the_sources():
-    page = (TOP / "docs" / "ARCHITECTURE.md").read_text(encoding="utf-8")
-    way = page.partition("\n## The way of `put p1 3`\n")[2].partition("\n## ")[0]
-    rows = re.findall(r"(?m)^\| (`.*?) \| `(\w+)` \| ", way)
-    crates = {crate for _, crate in rows}
-    expect(int(re.search(r"(?m)^These are (\d+) crates\.", way)[1]), len(crates))
-    text = {it: "\n".join(file.read_text(encoding="utf-8") for file in (TOP / "crates" / it / "src").glob("**/*.rt")) for it in crates}
-    named = [(crate, it.rpartition("::")[2]) for functions, crate in rows for it in re.findall(r"`([\w:]+)`", functions) if it != "Sender"]
-    expect([it for it in named if not re.search(rf"\bfn {it[1]}\b", text[it[0]])], [])
-    # Each but the first is called in its own crate, or in one that stands above it on this way.
-    called = "\n".join(text.values())
-    expect([it for it in named[1:] if not re.search(rf"(?<!fn )\b{it[1]}\(|\b{it[1]}::<|::{it[1]}\b", called)], [])

@@ -5,7 +5,8 @@ Usage: docs/crates.py            writes the picture
        docs/crates.py --check    status 1 where the picture isn't the one that would be written
 
 Each crate has a row in the tables of docs/CRATES.md, just one, and names crates of its own family and of families
-above it there; how many crates the program depends on stands there too. Otherwise it says what is wrong.
+above it there; how many crates the program depends on stands there too. crates.txt has the same order, so each row
+stands below those of the crates that it names. Otherwise it says what is wrong.
 """
 
 import re
@@ -61,8 +62,12 @@ def families(below):
     missing = sorted(set(below) - set(found))
     if missing:
         sys.exit(f"docs/CRATES.md lacks {', '.join(missing)}")
-    order = [*FAMILIES]
+    if [*found] != [*below]:
+        sys.exit("docs/CRATES.md: the order of its rows isn't that of crates.txt")
+    order, lines = [*FAMILIES], [*below]
     for name, named in below.items():
+        if any(lines.index(it) > lines.index(name) for it in named):
+            sys.exit(f"crates.txt: {name} names a crate whose line stands below its own")
         for it in named:
             if order.index(found[name]) > order.index(found[it]):
                 sys.exit(f"docs/CRATES.md: {name} names {it} of a family below its own")

@@ -50,7 +50,8 @@
 //! /// `iox_container`: adds a member, and returns its index; None where the container is full or locked.
 //! fn joined(container: &mut Container<u64>, value: u64, owner: OwnerId) -> Option<usize>
 //!     requires { HasRoom container.old }
-//!     ensures added { IfSome result (λ index. container.new ≡ with_member index (record { number = container.old.changes + 1; owner = owner; value = value }) container.old) }
+//!     ensures added { IfSome result (λ index. container.new
+//!         ≡ with_member index (record { number = container.old.changes + 1; owner = owner; value = value }) container.old) }
 //!     ensures none { IfNone result (container.new ≡ container.old) }
 //! {
 //!     let handle = container.add(value, owner).ok()?;

@@ -118,7 +118,8 @@ abbrev pub LendsValue : {T U H : Type 0} → (DomainId → H → Option (Service
     → T → H → Result ℕ LoanError → H → Type 0
 LendsValue {T} {U} {H} ports_of with_ports port value old answer new =
     (lent : Result ℕ LoanError) × (middle : H)
-    × LendsSlot ports_of with_ports port 1 1 old lent middle × AfterLoan Err (WritesLent ports_of with_ports port value) lent middle answer new
+    × LendsSlot ports_of with_ports port 1 1 old lent middle
+    × AfterLoan Err (WritesLent ports_of with_ports port value) lent middle answer new
 
 -- A publisher lends a value that is written: a default.
 abbrev pub LendsDefault : {T U K H : Type 0} → (DomainId → H → Option (ServicePorts T U)) → (DomainId → ServicePorts T U → H → H)

@@ -5,7 +5,7 @@
 //! | `limits` | how long texts may be, how large numbers, and the refusal of what is past them |
 //! | `name`, `pattern` | what a service is called, and how its ports talk |
 //! | `hash` | under which hash a service is found |
-//! | `type_detail`, `message_type`, `zero_copy_send` | how a type lies in memory, the three types of a message, the types that know theirs |
+//! | `type_detail`, `message_type`, `zero_copy_send` | how a type lies in memory, the types of a message, the types that know theirs |
 //! | `header` | what a service writes before each message |
 //! | `few` | a list that takes no memory while it is empty |
 //! | `attribute`, `verifier` | attributes, and what an opener requires of them |

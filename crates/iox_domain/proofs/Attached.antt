@@ -34,8 +34,8 @@ use Rattle.iox_domain.specs.Roomy.{IsListOnce, IsAttached, LeadsOnEntry}
 use Rattle.iox_domain.proofs.Naming.{reads_same}
 use Rattle.iox_domain.proofs.Reading.{attached_ended, leads_ended, attached_taken, leads_taken, attached_then, leads_then, is_attached_then}
 
--- A subscriber reads from each connection that it has, no two of its keys are for one publisher, and the key of the connection to a publisher that is
--- listed is that of its place.
+-- A subscriber reads from each connection that it has, no two of its keys are for one publisher, and the key of the connection to a
+-- publisher that is listed is that of its place.
 pub record Reads {T U : Type 0} (subscriber : ℕ) (places : List (Option (Member PublisherEntry))) (port : SubscriberPort)
     (ports : List (ℕ × PublisherPort T U)) : Type 0 where
   pub named : port.number ≡ subscriber

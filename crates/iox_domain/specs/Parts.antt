@@ -48,7 +48,8 @@ agrees parts =
     (parts.service == parts.id.service) && (parts.sizes.max_publishers == parts.agreed.max_publishers)
     && (parts.sizes.max_subscribers == parts.agreed.max_subscribers)
     && (parts.sizes.subscriber_max_buffer_size == parts.agreed.subscriber_max_buffer_size)
-    && (parts.sizes.subscriber_max_borrowed_samples == parts.agreed.subscriber_max_borrowed_samples) && (parts.sizes.history_size == parts.agreed.history_size)
+    && (parts.sizes.subscriber_max_borrowed_samples == parts.agreed.subscriber_max_borrowed_samples)
+    && (parts.sizes.history_size == parts.agreed.history_size)
     && beq parts.sizes.enable_safe_overflow parts.agreed.enable_safe_overflow
     && beq parts.sizes.sequence_numbers parts.agreed.sequence_numbers
     && nat_le parts.agreed.subscriber_max_borrowed_samples parts.sizes.expired_connections

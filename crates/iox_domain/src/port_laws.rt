@@ -2,8 +2,8 @@
 //!
 //! Each law is the contract of a function that does nothing: it is proved of the definitions that the contracts of the calls name.
 //!
-//! - [`messages`]: a held sample stays, a message comes into a mailbox at most once, also through all tries of its send, which counts who took it,
-//!   a connection gives in the order of sending, and who has a connection needs no memory.
+//! - [`messages`]: a held sample stays, a message comes into a mailbox at most once, also through all tries of its send, which counts who
+//!   took it, a connection gives in the order of sending, and who has a connection needs no memory.
 //! - [`living`]: how much lives.
 //! - [`numbering`]: each number is given to one port.
 //! - [`service`]: which service ports are of, and how much it allows.

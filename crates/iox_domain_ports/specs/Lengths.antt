@@ -20,7 +20,8 @@ room_for unit values (Some length) = within (extent unit values length)
 
 -- How many values fit in a slot of the segment that a longer loan opens: as many as the elements have for which its strategy opens one.
 abbrev pub SegmentRoom : AllocationStrategy → ℕ → ℕ → ℕ → Option ℕ → Type 0
-SegmentRoom allocation unit values elements room = (length : Option ℕ) × SegmentLength allocation elements length × (room ≡ room_for unit values length)
+SegmentRoom allocation unit values elements room =
+    (length : Option ℕ) × SegmentLength allocation elements length × (room ≡ room_for unit values length)
 
 -- Lengths are those of elements, of which each has so many values: all elements of a loan, with all of their values.
 pub record CountsElements : Type 0 where

@@ -6,7 +6,8 @@ use Rattle.iox_domain_ports.specs.declared.subscriber_port.SubscriberPort.{Subsc
 
 -- what lives of a publisher: itself while it stands, each of its loans, and the message of a send that waits
 abbrev pub living_of_publisher : {T U : Type 0} → PublisherPort T U → ℕ
-living_of_publisher port = (if port.stands then 1 else 0) + (length port.sender.uses.loans + (if is_some port.sender.uses.sending then 1 else 0))
+living_of_publisher port =
+    (if port.stands then 1 else 0) + (length port.sender.uses.loans + (if is_some port.sender.uses.sending then 1 else 0))
 
 -- what lives of a subscriber: itself while it stands, and each sample that it received and that is held
 abbrev pub living_of_subscriber : SubscriberPort → ℕ

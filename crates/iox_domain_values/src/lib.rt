@@ -10,9 +10,9 @@
 //! | `port_owner` | whose port it is, and which one |
 //! | `sequences` | the numbers that messages have where their service numbers them |
 //! | `service_sizes` | how much a service allows to its ports, and how many slots a publisher needs there |
-//! | `connection_failure`, `port_error`, `create_error` | why a connection fails, a loan, a send or a receive is refused, a port or a domain isn't made |
+//! | `connection_failure`, `port_error`, `create_error` | why a connection fails, a call of a port is refused, a port or a domain isn't made |
 //! | `laws` | what the definitions come to, in other words |
-//! | `backpressure_handler`, `degradation_handler`, `samples_override` | the objects that are handed in, or one fixed answer in their place |
+//! | `backpressure_handler`, `degradation_handler`, `samples_override` | objects that are handed in, or one fixed answer |
 //! | `handlers` | who decides for a publisher: its strategy and its handlers |
 //!
 //! Each error displays as its type's name, `::` and the variant, an inner variant in parentheses, at any depth.

@@ -1,5 +1,5 @@
-//! The crate that programs name: all that one of publish and subscribe needs, by the modules of iceoryx2, and runs of commands with handlers
-//! that are handed in.
+//! The crate that programs name: all that one of publish and subscribe needs, by the modules of iceoryx2, and runs of commands with
+//! handlers that are handed in.
 //!
 //! A command that makes a port names handlers by their places, and takes them.
 //!

@@ -10,11 +10,11 @@ use Rattle.iox_domain.specs.declared.domain_id.DomainId.{DomainId}
 use Rattle.iox_hub_base.proofs.Own.{own_found}
 use Rattle.iox_hub_base.specs.ServicesAsHome.{ports_at, ports_if}
 use Rattle.iox_hub_base.specs.HomeLaws.{at_hub}
-use Rattle.iox_hub_base.specs.Laws.{OthersStay, OpenedIsFound, IsBlank, BeginsAnew, GivesBack}
+use Rattle.iox_hub_base.specs.Laws.{OthersStay, OpenedIsFound, IsBlank, BeginsAnew, GivesBack, ChangedIsPutBack}
 use Rattle.iox_hub_base.specs.Numbered.{changed_found, others_unchanged, same_unchanged, changed_twice, others_beside}
 use Rattle.iox_hub_base.specs.Open.{OpenServices, AreOwn, here_if, presence_of, domain_of, with_presence, with_domain, opened}
 use Rattle.iox_hub_base.specs.ServicesOpening.{is_open}
-use Rattle.iox_hub_base.specs.Taking.{Takes, Puts}
+use Rattle.iox_hub_base.specs.Taking.{Takes, IsAwaited, Puts}
 use Rattle.iox_hub_base.specs.declared.presence.Presence.{Presence}
 use Rattle.iox_hub_base.specs.declared.presence.Presence.TheVariants.{Here, Out}
 use Rattle.iox_hub_base.specs.declared.taking.DomainIsForeign.{DomainIsForeign}
@@ -80,24 +80,39 @@ out_there : {T U B D : Type 0} (number : ℕ) (old : OpenServices T U B D) (doma
     → presence_of number (without number old domain).domains ≡ Some (Out domain.agreed)
 out_there number old domain there = changed_found number old.domains (Here domain) (Out domain.agreed) there
 
+-- it is awaited, also one that changed
+awaited : {T U B D : Type 0} (number : ℕ) (old : OpenServices T U B D) (domain changed : Domain T U B D)
+    → changed.id ≡ record { hub = old.hub; service = number } → changed.agreed ≡ domain.agreed
+    → presence_of number old.domains ≡ Some (Here domain) → IsAwaited changed (without number old domain)
+awaited number old domain changed own agreed there = (
+  ap (λ id. id.hub) own,
+  ap (λ service. presence_of service (without number old domain).domains) (ap (λ id. id.service) own)
+      ∙ out_there number old domain there ∙ ap (λ config. Some (Out config)) (sym agreed),
+)
+
+-- and put back
+put_changed : {T U B D : Type 0} (number : ℕ) (old new : OpenServices T U B D) (domain changed : Domain T U B D)
+    (answer : Result (Unit {0}) (DomainIsForeign (Domain T U B D))) → changed.id ≡ record { hub = old.hub; service = number }
+    → changed.agreed ≡ domain.agreed → presence_of number old.domains ≡ Some (Here domain)
+    → Puts changed (without number old domain) answer new
+    → (answer ≡ Ok tt) × (new ≡ record old { domains = with_domain number old.domains changed })
+put_changed number old new domain changed (Ok done) own agreed there (is, same) = (
+  refl,
+  same
+      ∙ ap (λ service. record old { domains = with_domain service (with_presence number old.domains (Out domain.agreed)) changed })
+      (ap (λ id. id.service) own)
+      ∙ ap (λ domains. record old { domains = domains }) (changed_twice number old.domains (Out domain.agreed) (Here changed)),
+)
+put_changed number old new domain changed (Err refused) own agreed there (back, foreign, same)
+    = absurd (foreign (awaited number old domain changed own agreed there))
+
 put_again : {T U B D : Type 0} (number : ℕ) (old new : OpenServices T U B D) (domain : Domain T U B D)
     (answer : Result (Unit {0}) (DomainIsForeign (Domain T U B D))) → domain.id ≡ record { hub = old.hub; service = number }
     → presence_of number old.domains ≡ Some (Here domain)
     → Puts domain (without number old domain) answer new → (answer ≡ Ok tt) × (new ≡ old)
-put_again number old new domain (Ok done) own there (awaited, same) = (
-  refl,
-  same
-      ∙ ap (λ service. record old { domains = with_domain service (with_presence number old.domains (Out domain.agreed)) domain })
-      (ap (λ id. id.service) own)
-      ∙ ap (λ domains. record old { domains = domains })
-      (changed_twice number old.domains (Out domain.agreed) (Here domain) ∙ same_unchanged number old.domains (Here domain) there),
-)
-put_again number old new domain (Err refused) own there (back, foreign, same) =
-    absurd (foreign (
-      ap (λ id. id.hub) own,
-      ap (λ service. presence_of service (without number old domain).domains) (ap (λ id. id.service) own) ∙ out_there number old domain
-          there,
-    ))
+put_again number old new domain answer own there puts =
+    let (accepted, is) = put_changed number old new domain domain answer own refl there puts in
+    (accepted, is ∙ ap (λ domains. record old { domains = domains }) (same_unchanged number old.domains (Here domain) there))
 
 no_more : {T U B D : Type 0} (number : ℕ) (between after : OpenServices T U B D) (again : Result (Domain T U B D) TakeError)
     → domain_of number between.domains ≡ None → Takes number between again after → (again ≡ Err DomainIsOut) × (after ≡ between)
@@ -137,3 +152,17 @@ pub gives_back : (T U B D : Type 0) → GivesBack T U B D
 gives_back T U B D number old between new domain answer own (there, same) puts =
     subst (λ between. Back number old between new answer) (sym same)
     (back number old new domain answer own there (subst (λ between. Puts domain between answer new) same puts))
+
+-- what is told of a domain that is taken, while it is out
+abbrev Returns : {T U B D : Type 0} → ℕ → OpenServices T U B D → OpenServices T U B D → Domain T U B D → Type 0
+Returns {T} {U} {B} {D} number old between changed = IsAwaited changed between
+    × ((answer : Result (Unit {0}) (DomainIsForeign (Domain T U B D))) (new : OpenServices T U B D) → Puts changed between answer new
+    → (answer ≡ Ok tt) × (new ≡ record old { domains = with_domain number old.domains changed }))
+
+-- a domain that is taken is awaited and put back however it changed
+pub changed_is_put_back : (T U B D : Type 0) → ChangedIsPutBack T U B D
+changed_is_put_back T U B D number old between domain changed own same agreed (there, is) =
+    subst (λ between. Returns number old between changed) (sym is) (
+      awaited number old domain changed (same ∙ own) agreed there,
+      λ answer new puts. put_changed number old new domain changed answer (same ∙ own) agreed there puts,
+    )

@@ -6,8 +6,8 @@ mod Rising
 mod Placed
 mod Searched
 mod Counted
+mod BoxedIn
 mod Lacking
 pub mod Negotiated
-pub mod OpenedWell
 pub mod SameTable
 pub mod Settled

@@ -5,9 +5,9 @@ use Rattle.iox_domain.specs.DescribeSettings.declared.static_config.Settings.{Se
 use Rattle.iox_domain.specs.declared.domain.Domain.{Domain}
 use Rattle.iox_domain.specs.Fitting.{Fits}
 use Rattle.iox_hub_base.specs.ServicesAsHome.{ports_at}
-use Rattle.iox_hub_base.specs.Open.{OpenServices, AreOwn, presence_of, domain_of}
+use Rattle.iox_hub_base.specs.Open.{OpenServices, AreOwn, presence_of, domain_of, with_domain}
 use Rattle.iox_hub_base.specs.ServicesOpening.{is_open, Opens}
-use Rattle.iox_hub_base.specs.Taking.{Takes, Puts}
+use Rattle.iox_hub_base.specs.Taking.{Takes, IsAwaited, Puts}
 use Rattle.iox_hub_base.specs.declared.taking.DomainIsForeign.{DomainIsForeign}
 use Rattle.iox_hub_base.specs.declared.taking.TakeError.{TakeError}
 use Rattle.iox_hub_base.specs.declared.taking.TakeError.TheVariants.{DomainIsOut}
@@ -50,3 +50,14 @@ GivesBack T U B D =
     × (ports_at (record { hub = old.hub; service = number }) between ≡ None) × OthersStay number old between
     × ((again : Result (Domain T U B D) TakeError) (after : OpenServices T U B D) → Takes number between again after
     → (again ≡ Err DomainIsOut) × (after ≡ between))
+
+-- A domain that is taken, and is of the hub and of the service of that number, is awaited, however it changes, while its id and what is
+-- agreed are as they were. Put back it is accepted, and all is as it was before, but that it is here as it came back.
+abbrev pub ChangedIsPutBack : (T U B D : Type 0) → Type 0
+ChangedIsPutBack T U B D =
+    (number : ℕ) (old between : OpenServices T U B D) (domain changed : Domain T U B D)
+    → domain.id ≡ record { hub = old.hub; service = number } → changed.id ≡ domain.id → changed.agreed ≡ domain.agreed
+    → Takes number old (Ok domain) between
+    → IsAwaited changed between
+    × ((answer : Result (Unit {0}) (DomainIsForeign (Domain T U B D))) (new : OpenServices T U B D) → Puts changed between answer new
+    → (answer ≡ Ok tt) × (new ≡ record old { domains = with_domain number old.domains changed }))

@@ -4,10 +4,12 @@ use Rattle.iox_domain.specs.DescribeBase.Detail.{Detail}
 use Rattle.iox_domain.specs.DescribeSettings.declared.static_config.Settings.{Settings}
 use Rattle.iox_domain.specs.Domains.{IsNewDomain}
 use Rattle.iox_domain.specs.declared.domain.Domain.{Domain}
+use Rattle.iox_domain.specs.declared.domain_id.DomainId.{DomainId}
 use Rattle.iox_domain.specs.Fitting.{Fits}
 use Rattle.iox_domain.specs.DomainValues.declared.create_error.DomainError.{DomainError}
 use Rattle.iox_domain.specs.DomainValues.declared.create_error.DomainError.TheVariants.{OutOfMemory}
 use Rattle.iox_hub_base.specs.Open.{OpenServices, presence_of, opened, closed}
+use Rattle.iox_hub_base.specs.declared.presence.Presence.{Presence}
 use Rattle.iox_hub_base.specs.declared.presence.Presence.TheVariants.{Here}
 
 -- whether a service of this number is open, be its domain here or out
@@ -29,6 +31,18 @@ Opens payload user_header buffer number settings old (Ok done) new =
     ⊎ ((is_open number old ≡ false) × Fits payload user_header settings × HasNew buffer number settings old new)
 Opens payload user_header buffer number settings old (Err error) new =
     (error ≡ OutOfMemory) × (is_open number old ≡ false) × Fits payload user_header settings × (new ≡ old)
+
+-- A new domain of this id is here, by settings that are agreed.
+abbrev pub IsNewHere : {T U B D : Type 0} → DomainId → ℕ → Settings → Presence T U B D → Type 0
+IsNewHere {T} {U} {B} {D} id buffer settings presence =
+    (domain : Domain T U B D) × IsNewDomain id buffer settings domain × (presence ≡ Here domain)
+
+-- Services that were lent come back as a service opens; or as they were, where memory is wanting for the domain that is to be made.
+abbrev pub OpensLent : {T U B D : Type 0} → Detail → Detail → ℕ → ℕ → Settings → OpenServices T U B D
+    → Result (OpenServices T U B D) (OpenServices T U B D) → Type 0
+OpensLent payload user_header buffer number settings old (Ok new) = Opens payload user_header buffer number settings old (Ok tt) new
+OpensLent payload user_header buffer number settings old (Err new)
+    = Opens payload user_header buffer number settings old (Err OutOfMemory) new
 
 -- nothing is open under a number any longer
 abbrev pub without_service : {T U B D : Type 0} → ℕ → OpenServices T U B D → OpenServices T U B D

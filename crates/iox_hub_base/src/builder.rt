@@ -33,7 +33,7 @@ use std::alloc::Global;
 ///
 /// Room for the service's entry is made before the table is touched, where there is none. Where no memory is found for that, the call is
 /// refused with `OutOfMemory`, too, one that opens or creates as an opening is, and nothing has changed but that there may be more room.
-/// Settings that can't be are refused first.
+/// A creation's settings that can't be are refused first.
 ///
 /// This port's own: the builders of `iceoryx2` find the services of their machine by themselves.
 pub trait HubBuilder<P: Negotiated>: Sized {
@@ -80,7 +80,7 @@ pub trait HubBuilder<P: Negotiated>: Sized {
             (result_map_both (λ factory. (factory.service.membership, factory.owner)) (λ error. error) result) hub.new }
     {
         let builder = self.builder();
-        let Ok(counts) = hub.make_room(alloc) else {
+        let Ok(room) = hub.make_room(alloc) else {
             return Err(lacking_create(alloc, builder));
         };
         let mut table = hub.lend_table(alloc, steps);
@@ -88,7 +88,7 @@ pub trait HubBuilder<P: Negotiated>: Sized {
         hub.settle(
             alloc,
             table,
-            counts,
+            room,
             answer,
             Lacking::either_way(P::create_error(CreateFailure::OutOfMemory)),
         )
@@ -118,7 +118,7 @@ pub trait HubBuilder<P: Negotiated>: Sized {
             (result_map_both (λ factory. (factory.service.membership, factory.owner)) (λ error. error) result) hub.new }
     {
         let builder = self.builder();
-        let Ok(counts) = hub.make_room(alloc) else {
+        let Ok(room) = hub.make_room(alloc) else {
             return Err(lacking_create(alloc, builder));
         };
         let mut table = hub.lend_table(alloc, steps);
@@ -126,7 +126,7 @@ pub trait HubBuilder<P: Negotiated>: Sized {
         hub.settle(
             alloc,
             table,
-            counts,
+            room,
             answer,
             Lacking::either_way(P::create_error(CreateFailure::OutOfMemory)),
         )
@@ -149,7 +149,7 @@ pub trait HubBuilder<P: Negotiated>: Sized {
             (result_map_both (λ factory. (factory.service.membership, factory.owner)) (λ error. error) result) hub.new }
     {
         let builder = self.builder();
-        let Ok(counts) = hub.make_room(alloc) else {
+        let Ok(room) = hub.make_room(alloc) else {
             return Err(P::open_error(OpenFailure::OutOfMemory));
         };
         let mut table = hub.lend_table(alloc, steps);
@@ -157,7 +157,7 @@ pub trait HubBuilder<P: Negotiated>: Sized {
         hub.settle(
             alloc,
             table,
-            counts,
+            room,
             answer,
             Lacking::either_way(P::open_error(OpenFailure::OutOfMemory)),
         )
@@ -183,7 +183,7 @@ pub trait HubBuilder<P: Negotiated>: Sized {
             hub.old (result_map_both (λ factory. (factory.service.membership, factory.owner)) (λ error. error) result) hub.new }
     {
         let builder = self.builder();
-        let Ok(counts) = hub.make_room(alloc) else {
+        let Ok(room) = hub.make_room(alloc) else {
             return Err(P::open_error(OpenFailure::OutOfMemory));
         };
         let mut table = hub.lend_table(alloc, steps);
@@ -191,7 +191,7 @@ pub trait HubBuilder<P: Negotiated>: Sized {
         hub.settle(
             alloc,
             table,
-            counts,
+            room,
             answer,
             Lacking::either_way(P::open_error(OpenFailure::OutOfMemory)),
         )
@@ -217,12 +217,12 @@ pub trait HubBuilder<P: Negotiated>: Sized {
             (result_map_both (λ factory. (factory.service.membership, factory.owner)) (λ error. error) result) hub.new }
     {
         let builder = self.builder();
-        let Ok(counts) = hub.make_room(alloc) else {
+        let Ok(room) = hub.make_room(alloc) else {
             return Err(lacking_either::<P>().opened);
         };
         let mut table = hub.lend_table(alloc, steps);
         let answer = builder.open_or_create(alloc, &mut table);
-        hub.settle(alloc, table, counts, answer, lacking_either::<P>())
+        hub.settle(alloc, table, room, answer, lacking_either::<P>())
     }
 
     /// Opens the service if it has these attributes too, or creates it with the required pairs where none exists.
@@ -255,12 +255,12 @@ pub trait HubBuilder<P: Negotiated>: Sized {
             (result_map_both (λ factory. (factory.service.membership, factory.owner)) (λ error. error) result) hub.new }
     {
         let builder = self.builder();
-        let Ok(counts) = hub.make_room(alloc) else {
+        let Ok(room) = hub.make_room(alloc) else {
             return Err(lacking_either::<P>().opened);
         };
         let mut table = hub.lend_table(alloc, steps);
         let answer = builder.open_or_create_with_attributes(alloc, attributes, &mut table);
-        hub.settle(alloc, table, counts, answer, lacking_either::<P>())
+        hub.settle(alloc, table, room, answer, lacking_either::<P>())
     }
 }
 

@@ -1,5 +1,5 @@
 //! Values by their numbers: a list by rising number, in which a number is found at once.
-ghost use Rattle.std.specs.Prelude.{◌≡◌, ◌<◌, ℕ, length, option_copied, IfSome, IfNone, OnOk, OnErr, [], None};
+ghost use Rattle.std.specs.Prelude.{◌≡◌, ◌<◌, ℕ, length, option_copied, IfSome, IfNone, IfOk, OnOk, OnErr, [], None};
 ghost use Rattle.std.specs.BTreeMap.{insert_entry, is_at};
 ghost use Rattle.std.specs.Borrow.{sem};
 ghost use Rattle.std.specs.List.{HoldsAt};
@@ -11,6 +11,7 @@ ghost use Rattle.iox_hub_base.specs.Unboxed.{unboxed};
 
 use std::alloc::{AllocError, Global};
 use std::marker::Model;
+use std::mem;
 
 /// Values by their numbers, at most one for each.
 ///
@@ -75,27 +76,17 @@ impl<X: Drop> ByNumber<X> {
         &self.entries
     }
 
-    /// Makes room for one number more, where there is none; the box of its value is yet to be made. Fails only where an allocation fails.
-    pub(crate) fn make_room(&mut self) -> Result<(), AllocError>
-        ensures { self.new ≡ self.old }
-    {
-        self.entries.reserve(1)
-    }
-
-    /// A number has a value, in the place of one that it had. It takes memory for the value's box, and for the number where there is no
-    /// room. It fails only where an allocation fails, and then nothing has changed.
-    pub(crate) fn insert(&mut self, alloc: Global, number: u64, value: X) -> Result<(), AllocError>
-        ensures ok { OnOk result (self.new ≡ insert_entry nat_cmp self.old number value) }
+    /// The values, with room for one number more; there are none here until they are put back. It takes no memory where there is room.
+    /// Fails only where an allocation fails, and then nothing has changed.
+    pub(crate) fn lend(&mut self, alloc: Global) -> Result<RoomyByNumber<X>, AllocError>
+        ensures ok { IfOk result (λ lent. lent ≡ self.old) }
+        ensures left { OnOk result (self.new ≡ []) }
         ensures err { OnErr result (self.new ≡ self.old) }
     {
-        match search_of(&self.entries, number) {
-            Ok(place) => *self.entries[place].1 = value,
-            Err(place) => {
-                let boxed = Box::new(alloc, value)?;
-                self.entries.insert(place, (number, boxed))?;
-            }
-        }
-        Ok(())
+        self.entries.reserve(1)?;
+        Ok(RoomyByNumber {
+            entries: mem::replace(&mut self.entries, Vec::new(alloc)),
+        })
     }
 
     /// A number has no value any longer. The other numbers have what they had.
@@ -107,6 +98,69 @@ impl<X: Drop> ByNumber<X> {
     {
         if let Some(place) = place_of(&self.entries, number) {
             let _ = self.entries.remove(place);
+        }
+    }
+}
+
+/// Values by their numbers, among which there is room for one number more.
+///
+/// Contracts see them as `ByNumber`.
+#[derive(Drop)]
+pub(crate) struct RoomyByNumber<X> {
+    entries: Vec<(u64, Box<X>)>,
+}
+
+impl<X> Model for RoomyByNumber<X> {
+    ghost use Rattle.std.specs.Prelude.{ℕ, List, ◌<◌};
+    ghost use Rattle.std.specs.List.Sorted.{IsStrictlySortedBy};
+    ghost use Rattle.std.specs.Map.{keys_of};
+    ghost use Rattle.std.specs.Ordering.{nat_cmp};
+    ghost use Rattle.std.specs.Vec.{vec_len, vec_capacity};
+    ghost use Rattle.iox_hub_base.specs.Unboxed.{unboxed};
+
+    ghost Value = { List (ℕ × X) };
+
+    ghost view = { λ values. unboxed values.entries.items };
+
+    ghost invariant = { λ values. IsStrictlySortedBy nat_cmp (keys_of values.entries.items)
+        × (vec_len values.entries < vec_capacity values.entries) };
+}
+
+impl<X: Drop> RoomyByNumber<X> {
+    /// The value of a number, if it has one.
+    pub(crate) fn get(&self, number: u64) -> Option<&X>
+        ensures { option_copied result ≡ lookup (is_at (nat_cmp number)) self.now }
+    {
+        match place_of(&self.entries, number) {
+            Some(place) => Some(&*self.entries[place].1),
+            None => None,
+        }
+    }
+
+    /// A number has the value in a box, in the place of one that it had. It takes no memory, and can't fail.
+    pub(crate) fn insert(self, number: u64, boxed: Box<X>) -> ByNumber<X>
+        ensures { result ≡ insert_entry nat_cmp self number boxed.value }
+    {
+        let mut entries = self.entries;
+        match search_of(&entries, number) {
+            Ok(place) => {
+                entries[place].1 = boxed;
+                ByNumber { entries }
+            }
+            Err(place) => {
+                // There is room for it.
+                let _ = entries.insert(place, (number, boxed));
+                ByNumber { entries }
+            }
+        }
+    }
+
+    /// The values as they are.
+    pub(crate) fn into_values(self) -> ByNumber<X>
+        ensures { result ≡ self }
+    {
+        ByNumber {
+            entries: self.entries,
         }
     }
 }

@@ -5,9 +5,9 @@ ghost use Rattle.iox_delivery_factories.specs.DescribeBase.Detail.{detail};
 ghost use Rattle.iox_delivery_factories.specs.DescribeBase.declared.type_detail.TypeVariant.TheVariants.{FixedSize};
 ghost use Rattle.iox_hub_base.specs.Opening.{Enters, IsClosedAgain, Settles};
 
-use crate::counts::RoomyCounts;
 use crate::factory::PortFactory;
 use crate::hub::Hub;
+use crate::service_room::ServiceRoom;
 use iox_describe::pattern::Pattern;
 use iox_describe_base::ZeroCopySend;
 use iox_negotiate as negotiated;
@@ -54,15 +54,21 @@ struct NoRoom {
 }
 
 impl<T: Copy, U: Copy, B: Drop, D: Drop> Hub<T, U, B, D> {
-    /// Makes room for one service more, where there is none: for its domain, and among the counts of factories, which are lent. Fails only
-    /// where an allocation fails, and then nothing has changed.
-    pub(crate) fn make_room(&mut self, alloc: Global) -> Result<RoomyCounts, AllocError>
-        ensures lent { IfOk result (λ counts. counts ≡ self.old.factory_counts) }
-        ensures rest { OnOk result (self.new ≡ record self.old { factory_counts = self.new.factory_counts }) }
+    /// The services and the counts of their factories, with room for one service more. The hub is without them until they are put back.
+    /// Fails only where an allocation fails, and then nothing has changed.
+    pub(crate) fn make_room(&mut self, alloc: Global) -> Result<ServiceRoom<T, U, B, D>, AllocError>
+        ensures lent { IfOk result (λ room. (room.counts ≡ self.old.factory_counts) × (room.services ≡ self.old.services)) }
+        ensures rest { OnOk result (self.new ≡ record self.old { factory_counts = self.new.factory_counts; services = self.new.services }) }
         ensures err { OnErr result (self.new ≡ self.old) }
     {
-        self.services.make_room()?;
-        self.factory_counts.lend(alloc)
+        let services = self.services.lend(alloc)?;
+        match self.factory_counts.lend(alloc) {
+            Ok(counts) => Ok(ServiceRoom { counts, services }),
+            Err(lack) => {
+                self.services = services.into_services();
+                Err(lack)
+            }
+        }
     }
 
     /// The table, with these lists of steps to do before its accesses. The hub is without it until it is put back.
@@ -86,12 +92,12 @@ impl<T: Copy, U: Copy, B: Drop, D: Drop> Hub<T, U, B, D> {
 }
 
 impl<T: Words + ZeroCopySend, U: Copy + ZeroCopySend, B: Drop, D: Drop> Hub<T, U, B, D> {
-    /// Puts the table and the counts of factories back, and answers the factory of the hub for what was negotiated, if that is a service.
+    /// Puts back what was lent, and answers the factory of the hub for what was negotiated, if that is a service.
     pub(crate) fn settle<P: Pattern, E: Copy>(
         &mut self,
         alloc: Global,
         table: Stepped,
-        counts: RoomyCounts,
+        room: ServiceRoom<T, U, B, D>,
         answer: Result<negotiated::PortFactory<P>, E>,
         errors: Lacking<E>,
     ) -> Result<PortFactory<P>, E>
@@ -99,17 +105,18 @@ impl<T: Words + ZeroCopySend, U: Copy + ZeroCopySend, B: Drop, D: Drop> Hub<T, U
         ensures { (lacking : Bool → E) → lacking false ≡ errors.opened → lacking true ≡ errors.created
             → Settles (detail FixedSize T.name T.size T.alignment) (detail FixedSize U.name U.size U.alignment) lacking
             (result_map_both (λ service. service.membership) (λ error. error) answer)
-            (record self.old { table = table.table; factory_counts = counts })
+            (record self.old { table = table.table; factory_counts = room.counts; services = room.services })
             (result_map_both (λ factory. (factory.service.membership, factory.owner)) (λ error. error) result) self.new }
     {
         self.table = table.into_table();
         match answer {
-            Ok(service) => match self.enter(alloc, service, counts) {
+            Ok(service) => match self.enter(alloc, service, room) {
                 Ok(factory) => Ok(factory),
                 Err(no_room) => Err(errors.error(no_room)),
             },
             Err(error) => {
-                self.factory_counts = counts.into_counts();
+                self.factory_counts = room.counts.into_counts();
+                self.services = room.services.into_services();
                 Err(error)
             }
         }
@@ -120,30 +127,35 @@ impl<T: Words + ZeroCopySend, U: Copy + ZeroCopySend, B: Drop, D: Drop> Hub<T, U
         &mut self,
         alloc: Global,
         service: negotiated::PortFactory<P>,
-        counts: RoomyCounts,
+        room: ServiceRoom<T, U, B, D>,
     ) -> Result<PortFactory<P>, NoRoom>
         requires { service.membership.storage ≡ self.old.table.id }
         ensures { Enters (detail FixedSize T.name T.size T.alignment) (detail FixedSize U.name U.size U.alignment) service.membership
-            (record self.old { factory_counts = counts })
+            (record self.old { factory_counts = room.counts; services = room.services })
             (result_map_both (λ factory. (factory.service.membership, factory.owner)) (λ no_room. no_room.was_new) result)
             self.new }
     {
         let number = service.number();
-        let opened = self.services.open(
+        match room.services.open(
             alloc,
             service.description(),
             number,
             self.expired_connection_buffer,
-        );
-        if opened.is_err() {
-            self.factory_counts = counts.into_counts();
-            return Err(self.give_back(service));
+        ) {
+            Ok(services) => {
+                self.services = services;
+                self.factory_counts = room.counts.one_more(number);
+                self.factories = self.factories.saturating_add(1);
+                Ok(PortFactory {
+                    service,
+                    owner: self.factories,
+                })
+            }
+            Err(services) => {
+                self.services = services;
+                self.factory_counts = room.counts.into_counts();
+                Err(self.give_back(service))
+            }
         }
-        self.factory_counts = counts.one_more(number);
-        self.factories = self.factories.saturating_add(1);
-        Ok(PortFactory {
-            service,
-            owner: self.factories,
-        })
     }
 }

@@ -10,12 +10,13 @@
 //! | `presences` | what is open, by numbers |
 //! | `by_number` | values by their numbers, of which one is found at once |
 //! | `counts` | how many factories of a service are open |
+//! | `service_room` | services and counts with room for one more |
 //! | `node` | a node |
 //! | `factory` | a service that is open in a hub |
 //! | `hub` | the hub: nodes, and builders of services |
 //! | `builder` | services are created and opened in it |
 //! | `entering` | from a service that was negotiated to a factory of the hub |
-//! | `untouched` | a table to which no access finds memory |
+//! | `untouched` | a table of which no look finds memory |
 //! | `closing` | factories are closed |
 //! | `foreign` | nodes of others act |
 //! | `ports` | builders of ports; domains that are taken and put back |
@@ -56,6 +57,7 @@ pub mod node;
 pub mod ports;
 pub mod presence;
 pub mod presences;
+mod service_room;
 pub mod services;
 pub mod services_home;
 pub mod taking;

@@ -1,5 +1,5 @@
 //! Builders of the ports of a factory's service, and domains that are taken and put back.
-ghost use Rattle.std.specs.Prelude.{◌≡◌, option_copied};
+ghost use Rattle.std.specs.Prelude.{◌≡◌, IfOk, option_copied};
 ghost use Rattle.iox_delivery_factories.specs.Elements.{values_each};
 ghost use Rattle.iox_hub_base.specs.Builders.{publishers_of, subscribers_of};
 ghost use Rattle.iox_hub_base.specs.Open.{domain_of};
@@ -28,8 +28,8 @@ impl<T: Copy, U: Copy, B: Drop, D: Drop> Hub<T, U, B, D> {
         self.services.domain(factory.number())
     }
 
-    /// Takes the domain of a factory's service out of the hub, to be driven elsewhere. Its entry stays, so that it takes no memory to put
-    /// it back.
+    /// Takes the domain of a factory's service out of the hub, to be driven elsewhere. It is of this hub and service. Its entry stays, so
+    /// that it takes no memory to put it back.
     ///
     /// Refused with `DomainIsOut` where it is out, or none was made; then nothing has changed.
     /// Example: `let domain = hub.take_domain(&factory)?;`
@@ -39,6 +39,10 @@ impl<T: Copy, U: Copy, B: Drop, D: Drop> Hub<T, U, B, D> {
     ) -> Result<Domain<T, U, B, D>, TakeError>
         requires { factory.now.service.membership.storage ≡ self.old.table.id }
         ensures takes { Takes factory.now.service.membership.service.number self.old.services result self.new.services }
+        ensures own { IfOk result (λ domain. domain.id ≡ record {
+          hub = self.old.services.hub;
+          service = factory.now.service.membership.service.number;
+        }) }
         ensures rest { self.new ≡ record self.old { services = self.new.services } }
     {
         self.services.take(factory.number())

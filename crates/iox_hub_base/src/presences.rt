@@ -1,11 +1,11 @@
 //! What is open, by numbers.
-ghost use Rattle.std.specs.Prelude.{◌≡◌, ◌-◌, ◌^◌, ℕ, min, option_copied, OnOk, OnErr, [], None};
+ghost use Rattle.std.specs.Prelude.{◌≡◌, ◌-◌, ◌^◌, ℕ, min, option_copied, IfOk, OnOk, OnErr, [], None};
 ghost use Rattle.std.specs.Borrow.{sem};
 ghost use Rattle.std.specs.Option.{option_copied_mut};
 ghost use Rattle.iox_hub_base.specs.Open.{presence_of, domain_of, with_presence, opened, closed};
 ghost use Rattle.iox_hub_base.specs.Room.{loans_left_in, samples_at_most_in};
 
-use crate::by_number::ByNumber;
+use crate::by_number::{ByNumber, RoomyByNumber};
 use crate::presence::Presence;
 use iox_domain::Domain;
 use iox_domain_ports::living::add;
@@ -17,7 +17,7 @@ use std::marker::Model;
 /// Contracts see each with its number, by rising number.
 #[derive(Drop)]
 pub struct Presences<T, U, B, D> {
-    entries: ByNumber<Presence<T, U, B, D>>,
+    pub(crate) entries: ByNumber<Presence<T, U, B, D>>,
 }
 
 impl<T, U, B, D> Model for Presences<T, U, B, D> {
@@ -114,12 +114,17 @@ impl<T: Copy, U: Copy, B: Drop, D: Drop> Presences<T, U, B, D> {
         }
     }
 
-    /// Makes room for one number more, where there is none. Fails only where an allocation fails.
-    /// Example: `presences.make_room()?;`
-    pub fn make_room(&mut self) -> Result<(), AllocError>
-        ensures { self.new ≡ self.old }
+    /// What is open, with room for one number more; nothing is open here until it is put back. It takes no memory where there is room.
+    /// Fails only where an allocation fails, and then nothing has changed.
+    pub(crate) fn lend(
+        &mut self,
+        alloc: Global,
+    ) -> Result<RoomyByNumber<Presence<T, U, B, D>>, AllocError>
+        ensures ok { IfOk result (λ lent. lent ≡ self.old) }
+        ensures left { OnOk result (self.new ≡ []) }
+        ensures err { OnErr result (self.new ≡ self.old) }
     {
-        self.entries.make_room()
+        self.entries.lend(alloc)
     }
 
     /// A service opens under a number, in the place of one that had it. It fails only where an allocation fails, and then nothing has
@@ -134,7 +139,10 @@ impl<T: Copy, U: Copy, B: Drop, D: Drop> Presences<T, U, B, D> {
         ensures ok { OnOk result (self.new ≡ opened number presence self.old) }
         ensures err { OnErr result (self.new ≡ self.old) }
     {
-        self.entries.insert(alloc, number, presence)
+        let boxed = Box::new(alloc, presence)?;
+        let lent = self.entries.lend(alloc)?;
+        self.entries = lent.insert(number, boxed);
+        Ok(())
     }
 
     /// Nothing is open under a number any longer. The other numbers have what they had.

@@ -1,16 +1,16 @@
 //! The services of a hub.
-ghost use Rattle.std.specs.Prelude.{◌≡◌, ◌-◌, ◌^◌, ℕ, min, option_copied, IfSome, [], None};
+ghost use Rattle.std.specs.Prelude.{◌≡◌, ◌-◌, ◌^◌, ℕ, min, option_copied, IfSome, IfOk, OnErr, [], None};
 ghost use Rattle.iox_domain.specs.DescribeBase.Detail.{detail};
 ghost use Rattle.iox_domain.specs.DescribeBase.declared.type_detail.TypeVariant.TheVariants.{FixedSize};
 ghost use Rattle.iox_hub_base.specs.Open.{presence_of, domain_of};
 ghost use Rattle.iox_hub_base.specs.ServicesOpening.{is_open, Opens, without_service};
 ghost use Rattle.iox_hub_base.specs.Room.{loans_left_in, samples_at_most_in};
 
-use crate::presence::Presence;
 use crate::presences::Presences;
+use crate::service_room::RoomyServices;
 use iox_describe_base::ZeroCopySend;
 use iox_describe_settings::Description;
-use iox_domain::{Domain, DomainId};
+use iox_domain::Domain;
 use iox_domain_values::{DegradationHandler, DomainError, Handlers};
 use iox_queues_base::Words;
 use std::alloc::{AllocError, Global};
@@ -81,12 +81,17 @@ impl<T: Copy, U: Copy, B: Drop, D: Drop> Services<T, U, B, D> {
         self.presences.samples_at_most()
     }
 
-    /// Makes room for one service more, where there is none; its domain is yet to be made. Fails only where an allocation fails.
-    /// Example: `services.make_room()?;`
-    pub fn make_room(&mut self) -> Result<(), AllocError>
-        ensures { self.new ≡ self.old }
+    /// The services, with room for one more; none is open here until they are put back. It takes no memory where there is room. Fails only
+    /// where an allocation fails, and then nothing has changed.
+    pub(crate) fn lend(&mut self, alloc: Global) -> Result<RoomyServices<T, U, B, D>, AllocError>
+        ensures ok { IfOk result (λ lent. lent ≡ self.old) }
+        ensures err { OnErr result (self.new ≡ self.old) }
     {
-        self.presences.make_room()
+        let presences = self.presences.lend(alloc)?;
+        Ok(RoomyServices {
+            hub: self.hub,
+            presences,
+        })
     }
 
     /// Nothing is open under a number any longer: a domain that was here is dropped with its ports. The other services stay as they were.
@@ -121,14 +126,18 @@ impl<T: Words + ZeroCopySend, U: Copy + ZeroCopySend, B: Drop, D: Drop> Services
         if self.is_open(number) || !Domain::<T, U, B, D>::fits(description) {
             return Ok(());
         }
-        let id = DomainId {
-            hub: self.hub,
-            service: number,
-        };
-        let domain = Domain::new(alloc, id, description, expired_connection_buffer)?;
-        let Ok(()) = self.presences.insert(alloc, number, Presence::Here(domain)) else {
+        let Ok(lent) = self.lend(alloc) else {
             return Err(DomainError::OutOfMemory);
         };
-        Ok(())
+        match lent.open(alloc, description, number, expired_connection_buffer) {
+            Ok(services) => {
+                *self = services;
+                Ok(())
+            }
+            Err(services) => {
+                *self = services;
+                Err(DomainError::OutOfMemory)
+            }
+        }
     }
 }

@@ -13,7 +13,7 @@ use iox_negotiate_base::{
 };
 use std::alloc::Global;
 
-// Stands for a table where no memory is found before the first access: each access answers that.
+// Stands for a table where no memory is found before the first access: a look answers that, and no call comes further.
 #[derive(Drop)]
 struct Untouched;
 

@@ -134,6 +134,10 @@ looks_locked None is = absurd cc
 looks_locked (Some (lying.Locked node number)) is = refl
 looks_locked (Some (lying.Described number bytes)) is = absurd cc
 
+-- a lock is no description
+lock_described : Some state.Locked ≡ Some state.Described → ⊥
+lock_described same = cc
+
 -- what has the form of a description is within its limits if its settings are
 within_limits : (agreed : Agreement) → HasForm agreed → AreWithinLimits agreed.settings → IsWithinLimits agreed
 within_limits agreed formed limits = record {
@@ -432,11 +436,11 @@ module _ {T U B D : Type 0} (payload user_header : Detail) (types : MessageTypeD
         Ends why after = CreatesAs asked.options payload user_header types asked.node asked.name attributes
             (lists_of asked.name types steps) table hub (Err why) table after
 
-        so : (why : Refusal) → answer ≡ why → Ends why hub
+        so : (why : Refusal) → answer ≡ why → (first_look asked steps hub ≡ Some state.Described → ⊥) → Ends why hub
             → CreatesNumbered true payload user_header types asked attributes steps table hub (Some (Err answer)) table new
-        so why is ends = (
+        so why is apart ends = (
           None,
-          inl accepted,
+          (accepted, apart),
           (
             Ok (lists_of asked.name types steps),
             table,
@@ -453,9 +457,9 @@ module _ {T U B D : Type 0} (payload user_header : Detail) (types : MessageTypeD
         among (Some state.Absent) finds told = absurd cc
         among (Some state.Locked) finds told =
             let it = parts asked steps hub state.Locked finds in
-            so (create_refused asked.options uncreated.HangsInCreation) (answers told) (locked_creates payload user_header types table hub
-            asked.node asked.name (lists_of asked.name types steps) (none_next asked.name types steps it.0) attributes asked.options
-            accepted agreed it.1)
+            so (create_refused asked.options uncreated.HangsInCreation) (answers told) (λ stands. lock_described (sym finds ∙ stands))
+            (locked_creates payload user_header types table hub asked.node asked.name (lists_of asked.name types steps)
+            (none_next asked.name types steps it.0) attributes asked.options accepted agreed it.1)
         among (Some state.Described) finds told = (
           Some uncreated.AlreadyExists,
           inr (accepted, finds, refl),

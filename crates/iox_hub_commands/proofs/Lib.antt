@@ -7,7 +7,7 @@ pub mod Written
 mod Put
 mod Skipping
 mod Uncreated
-mod FirstLook
+pub mod FirstLook
 pub mod Unused
 pub mod Found
 pub mod Accesses

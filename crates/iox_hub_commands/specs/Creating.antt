@@ -86,8 +86,8 @@ CreatesUnlessRefused None payload user_header types asked attributes steps table
     × CreatesPrepared prepared payload user_header types asked attributes roomier old reply after new × (answer ≡ Some reply)
 
 -- The service that is asked for is created with these attributes, with these steps of foreign nodes before the accesses, and its
--- factory gets a number. Before any memory is asked for it is refused where the settings can't be, or where the first look finds that the
--- service stands. Nothing happens where the node isn't there.
+-- factory gets a number. Before any memory is asked for it is refused where the settings can't be, and where they can be and the first look
+-- finds that the service stands; it is so refused nowhere else. Nothing happens where the node isn't there.
 abbrev pub CreatesNumbered : {T U B D : Type 0} → Bool → Detail → Detail → MessageTypeDetails → ServiceAsked → List Attribute
     → List StepBefore → FactoryTable → Hub T U B D → Option (Result ℕ Refusal) → FactoryTable → Hub T U B D → Type 0
 CreatesNumbered false payload user_header types asked attributes steps table old answer after new = IsSkipped table old answer after new

@@ -79,11 +79,12 @@ create_told named (Some state.Described) = Some (create_refused named uncreated.
 create_told named found = None
 
 -- Why nothing is created, if that is told before any memory is asked for: these settings can't be; or they can, and a first look that
--- finds this finds that the service stands.
+-- finds this finds that the service stands. Nothing is told just where these settings can be, and it doesn't find that.
 abbrev pub IsRefusedFirst : Settings → Option HashState → Option CreateFailure → Type 0
-IsRefusedFirst settings found refused =
-    IsUncreated settings refused
-    ⊎ (IsUncreated settings None × (found ≡ Some state.Described) × (refused ≡ Some uncreated.AlreadyExists))
+IsRefusedFirst settings found (Some failure) =
+    IsUncreated settings (Some failure)
+    ⊎ (IsUncreated settings None × (found ≡ Some state.Described) × (failure ≡ uncreated.AlreadyExists))
+IsRefusedFirst settings found None = IsUncreated settings None × (found ≡ Some state.Described → ⊥)
 
 -- Why nothing is opened or created, if a first look that finds this tells it: no service stands, and none is created with these
 -- settings; or another is about to create it.

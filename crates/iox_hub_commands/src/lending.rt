@@ -15,8 +15,9 @@ use std::alloc::{AllocError, Global};
 
 /// A publisher lends so many elements, none of which is written. Skipped as `Made::loan_uninit` answers None, and refused as that is.
 ///
-/// Fails only where the table of loans is full and no memory is found for one more number; then nothing has changed. It is skipped, whatever
-/// memory there is, where no publisher goes by the number, and where its messages are single values and not one element is asked for.
+/// Fails only where the table of loans is full and no memory is found for one more number; then nothing has changed. It is skipped,
+/// whatever memory there is, where no publisher goes by the number, and where its messages are single values and not one element is asked
+/// for.
 /// Example: `let reply = loan_uninit(alloc, &mut made, &mut home, publisher, 4)?;`
 pub fn loan_uninit<T: Copy, U: Copy, H: Home<T, U>>(
     alloc: Global,

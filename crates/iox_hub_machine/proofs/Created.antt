@@ -126,10 +126,6 @@ unfit_so types named refused is =
     (subst (λ (long : Type 0). IsRefusal (AreWithinLimits (settings_of types named)) long refused) (same_history (settings_of types named))
     (subst (λ (s : Settings). IsUncreated s refused) (same_settings types named) is))
 
--- one failure is told
-one_failure : {one other : CreateFailure} → Some one ≡ Some other → one ≡ other
-one_failure {one} {other} same = cc
-
 -- what is done where this is found
 by_some : {V : Type 0} (P : Type 0) (Q : V → Type 0) (found : Option V) (v : V) → found ≡ Some v → Q v → MatchOption found P Q
 by_some P Q found v is q = subst (λ o. MatchOption o P Q) (sym is) q
@@ -317,6 +313,26 @@ module _ (payload user_header : Detail) (variant : TypeVariant) where
               reader_degrades names taken naming order old new state stands still same same_made;
         }
 
+    -- where it isn't refused first, the machine goes on as the call does
+    pub creation_followed : is_node node old.hub.nodes ≡ true → IsUncreated (named_settings named types) None
+        → (prepared : Result (List (List TableStep)) AllocError) (roomier : FactoryTable) (result : Result ℕ Refusal)
+        → new.made ≡ old.made → Prepares name types steps old.factories.made prepared roomier
+        → CreatesPrepared prepared payload user_header types (record { node = node; name = name; options = named }) attributes roomier
+        old.hub result new.factories.made new.hub
+        → Followed (factory_reply (Some result))
+    creation_followed is fits prepared roomier result same_made prepares creates =
+        let it = by_prepared prepared roomier result same_made prepares creates in record {
+          taken = it.taken_then;
+          naming = it.naming_then;
+          order = it.order_then;
+          after = it.after;
+          step = by_none (λ why. RefusesNode node (create_refusal named why) state (factory_reply (Some result)) it.after)
+              (unfit (settings_of types named)) (unfit_so types named None fits)
+              (by_true _ _ (nat_le 1 node && nat_le node state.made.nodes)
+              (ap (λ (n : ℕ). nat_le 1 node && nat_le node n) (sym stands.nodes) ∙ is) it.came);
+          stands = it.stands_then;
+        }
+
     by_node : (is_there : Bool) → is_node node old.hub.nodes ≡ is_there → (made : Option (Result ℕ Refusal)) → Numbered made is_there
         → new.made ≡ old.made → (answer : Reply T) → answer ≡ factory_reply made → StepsTo answer → Followed answer
     by_node true is made (Some failure, inl unfitting, (made_is, same, still)) same_made answer replied does = record {
@@ -336,7 +352,7 @@ module _ (payload user_header : Detail) (variant : TypeVariant) where
           taken naming order old new state stands still same same_made;
     }
     by_node true is made (Some failure, inr (fits, finds, told), (made_is, same, still)) same_made answer replied does =
-        let it = standing_so failure (one_failure told) finds fits still same same_made in
+        let it = standing_so failure told finds fits still same same_made in
         record {
           taken = it.taken_then;
           naming = it.naming_then;
@@ -352,23 +368,9 @@ module _ (payload user_header : Detail) (variant : TypeVariant) where
               (ap (λ (n : ℕ). nat_le 1 node && nat_le node n) (sym stands.nodes) ∙ is) it.came));
           stands = it.stands_then;
         }
-    by_node true is made (None, inr (fits, finds, told), creates) same_made answer replied does = absurd cc
-    by_node true is made (None, inl fit, (prepared, roomier, result, prepares, creates, made_is)) same_made answer replied does =
-        let it = by_prepared prepared roomier result same_made prepares creates in
-        record {
-          taken = it.taken_then;
-          naming = it.naming_then;
-          order = it.order_then;
-          after = it.after;
-          step = subst (λ (a : Reply T). machine.Step types choices old.hub.expired_connection_buffer
-              (command.Create node name named attributes steps) state a it.after)
-              (sym (replied ∙ ap factory_reply made_is))
-              (by_none (λ failure. RefusesNode node (create_refusal named failure) state (factory_reply (Some result)) it.after)
-              (unfit (settings_of types named)) (unfit_so types named None fit)
-              (by_true _ _ (nat_le 1 node && nat_le node state.made.nodes)
-              (ap (λ (n : ℕ). nat_le 1 node && nat_le node n) (sym stands.nodes) ∙ is) it.came));
-          stands = it.stands_then;
-        }
+    by_node true is made (None, (fits, apart), (prepared, roomier, result, prepares, creates, made_is)) same_made answer replied does =
+        subst (λ (a : Reply T). Followed a) (sym (replied ∙ ap factory_reply made_is))
+        (creation_followed is fits prepared roomier result same_made prepares creates)
     by_node false is made skipped same_made answer replied does =
         let is_skipped : answer ≡ reply.Skipped = replied ∙ ap factory_reply skipped.0 in
         let it = skipped_matches payload user_header types choices is_default_header fixed degrades decides fixed_reader

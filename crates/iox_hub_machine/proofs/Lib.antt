@@ -103,5 +103,6 @@ pub mod TypedSubscribing
 pub mod TypedLending
 pub mod TypedServices
 pub mod TypedReading
+mod CreatedBeside
 pub mod TypedOpening
 pub mod TypedRuns

@@ -166,7 +166,7 @@ module _ {T : Type 0} (types : MessageTypeDetails) (choices : Choices T) (buffer
   )
 
   -- a state to which one command more leads
-  came_more : (asked : Command T) (old new : State T) (answer : Reply T) → IsCome types choices buffer old
+  pub came_more : (asked : Command T) (old new : State T) (answer : Reply T) → IsCome types choices buffer old
       → machine.Step types choices buffer asked old answer new → IsCome types choices buffer new
   came_more asked old new answer (commands, answers, runs) step =
       (commands ++ asked ∷ [], answers ++ answer ∷ [], came_by commands asked new_state old new answers answer runs step)

@@ -9,7 +9,8 @@
 //! - [`threads`]: the ports of a domain in threads of their own.
 //! - [`laws`]: what holds of lanes and of the domain beside them.
 //!
-//! Named again is what a first program on lanes needs: [`Lanes`], [`RecordedLanes`], [`Message`], [`Party`], [`Call`], [`Move`],
+//! Named again is what a program on lanes needs: [`Lanes`], [`RecordedLanes`], [`Message`], [`Party`], [`Call`], [`Move`], what a step
+//! answers ([`Stepped`]) and a send ([`Delivery`]), what stands in an order ([`Placed`], [`Act`]), [`Positions`], [`Words`],
 //! [`values_in`] and [`numbered_values_in`], and for threads [`open_threads`], [`LanePublisher`], [`LaneSubscriber`].
 //!
 //! First calls:
@@ -37,9 +38,9 @@ pub mod threads;
 
 pub use domain_lanes::{DomainLanes, Refused, into_lanes};
 pub use into_domain_error::IntoDomainError;
-pub use iox_lanes_base::calls::Receipt;
+pub use iox_lanes_base::calls::{Delivery, Receipt};
 pub use iox_lanes_laws::messages::{Message, RecordedLanes};
-pub use iox_lanes_machine::{LaneSizes, Lanes};
+pub use iox_lanes_machine::{LaneSizes, Lanes, Link, Positions, Unrest};
 pub use iox_lanes_opening::refusals::IntoLanesError;
 pub use iox_lanes_parties::publisher::LoanAnswer;
 pub use iox_lanes_parties::{
@@ -50,5 +51,7 @@ pub use iox_lanes_threads::{
     EndError, EndedThreads, LanePublisher, LaneSubscriber, LaneThreads, OpenError, end,
     open_threads,
 };
+pub use iox_queues_base::Words;
 pub use iox_queues_steps::rings::RingKind;
+pub use iox_queues_steps::{Act, Placed, PopAnswer, PushAnswer, Stepped};
 pub use returning::StillLanes;

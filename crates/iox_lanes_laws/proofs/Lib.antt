@@ -23,6 +23,8 @@ pub mod Lanes
 pub mod Sent
 pub mod Whole
 pub mod Records
+pub mod RecordedRuns
+pub mod RecordedSteps
 pub mod NumberedOrders
 pub mod NumberedRuns
 pub mod SentNumbers

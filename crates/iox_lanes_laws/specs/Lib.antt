@@ -11,6 +11,8 @@ pub mod Messages
 pub mod Numbered
 pub mod WholeMessages
 pub mod Recorded
+pub mod RecordedSteps
+pub mod RecordedRuns
 pub mod HaveNumbers
 pub mod Accesses
 pub mod Takes

@@ -21,6 +21,8 @@ pub mod recorded;
 
 ghost use Rattle.iox_lanes_laws.specs.HaveNumbers.{OrdersHaveNumbers};
 ghost use Rattle.iox_lanes_laws.specs.Recorded.{OrdersFollowNumbers, ReadsGiveMessages, ReadsGiveWhatIsKept};
+ghost use Rattle.iox_lanes_laws.specs.RecordedRuns.{FullRunsAreRecorded, FullRunsGo, RecordedRunsFollow, RecordedStepsAreRuns};
+ghost use Rattle.iox_lanes_laws.specs.RecordedRuns.{RecordsRunLanes};
 ghost use Rattle.iox_lanes_laws.specs.WholeMessages.{ReadsGiveWhatWasSent, UsedSlotsSendNothing};
 
 pub use message::Message;
@@ -65,4 +67,21 @@ pub fn orders_follow_numbers()
 /// it is as long as at most 2^63 steps were made.
 pub fn orders_have_numbers()
     ensures { OrdersHaveNumbers }
+{}
+
+/// A run of lanes that keep messages is a run of the lanes alone: of just those entries that were made, in their order, as many as it
+/// answers. The messages whose sends these began are kept behind the others. A step is a run of one entry, and a run with one that
+/// goes on from there is one run: so whatever calls of `RecordedLanes::step` and `RecordedLanes::run` were made, together they are a run
+/// that the laws on lanes ask for.
+pub fn recorded_runs_run_lanes()
+    ensures steps { RecordedStepsAreRuns }
+    ensures follow { RecordedRunsFollow }
+    ensures lanes { RecordsRunLanes }
+{}
+
+/// A run that answers as many as it has entries left none out: each of them fitted where its turn came and was made, and that is all
+/// that happened. So it is of `Lanes::run` and of `RecordedLanes::run`. Where it answers fewer, some didn't fit or found no memory.
+pub fn full_runs_leave_none_out()
+    ensures lanes { FullRunsGo }
+    ensures recorded { FullRunsAreRecorded }
 {}

@@ -3,6 +3,7 @@ ghost use Rattle.std.specs.Prelude.{◌≡◌, ◌≤◌, ◌^◌, ℕ};
 ghost use Rattle.iox_lanes_machine.specs.Kept.{IsWithin};
 ghost use Rattle.iox_lanes_machine.specs.Mailboxes.{PositionsNear, positions_of};
 ghost use Rattle.iox_lanes_machine.specs.Opening.{SlotsNamed};
+ghost use Rattle.iox_lanes_machine.specs.Rooms.{RoomsFollow};
 ghost use Rattle.iox_lanes_machine.specs.Owned.{HistoriesAreOwn, MailHasRoom, MailIsOwn};
 ghost use Rattle.iox_lanes_machine.specs.Slots.{SlotsInRows};
 ghost use Rattle.iox_lanes_machine.specs.Together.{HoldTogether};
@@ -39,7 +40,8 @@ impl Lanes {
     /// What all lanes are: ports, connections and words are those of one service, and the slots of each publisher lie before
     /// those of the publishers behind it; each cell of a ring names a slot. As long as at most 2^63 steps were made, no read
     /// position is beyond its write position, what waits at a connection and what a history has are slots of its publisher, no
-    /// more wait at a connection between calls than may, and words, ports and slots hold together.
+    /// more wait at a connection between calls than may, words, ports and slots hold together, and no connection has more slots than
+    /// its ring of samples given back has cells.
     pub fn are_of_one_service(&self)
         ensures within { IsWithin self.now }
         ensures rows { SlotsInRows self.now }
@@ -49,6 +51,7 @@ impl Lanes {
         ensures room { (connection : ℕ) → MailHasRoom self.now connection }
         ensures histories { HistoriesAreOwn self.now }
         ensures together { self.now.moments ≤ 2 ^ 63 → HoldTogether self.now }
+        ensures rooms { RoomsFollow self.now }
     {
         let _ = &self.state;
     }

@@ -20,7 +20,7 @@ const SIZES: LaneSizes = LaneSizes {
 };
 
 // Whether a message of a hundred words is lent, written, sent, received, read and released; before it is sent nothing waits, and no other
-// one is lent.
+// one is lent. A publisher that isn't there lends none, and nothing ran out.
 fn goes(alloc: Global) -> Result<bool, AllocError> {
     let mut lanes = LanesInTurn::new(alloc, SIZES)?;
     let payload = vec![in alloc; 7u64; 100]?;
@@ -46,7 +46,13 @@ fn goes(alloc: Global) -> Result<bool, AllocError> {
     let Some(Ok(words)) = lanes.read(alloc, &sample) else {
         return Ok(false);
     };
-    Ok(words.as_slice() == [7u64; 100].as_slice() && lanes.release(&sample))
+    if !lanes.release(&sample) {
+        return Ok(false);
+    }
+    let None = lanes.loan(1) else {
+        return Ok(false);
+    };
+    Ok(words.as_slice() == [7u64; 100].as_slice() && lanes.ran_out().is_none())
 }
 
 #[test]

@@ -18,10 +18,13 @@
 //! - `returns`: what lanes leave in the domain that they become again.
 //! - `sizes`: domains with up to 1,000 messages.
 //! - `threading`: what goes on in threads, and lanes and ports that come back.
+//! - `cases`: single cases.
 #![tactic(auto)]
 
 #[cfg(test)]
 mod answers;
+#[cfg(test)]
+mod cases;
 #[cfg(test)]
 mod driving;
 #[cfg(test)]

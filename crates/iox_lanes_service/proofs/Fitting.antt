@@ -1,5 +1,5 @@
 -- Calls of lanes in turn that fit.
-use Rattle.std.proofs.Common.{ℕ, zero, suc, ◌≡◌, ◌+◌, ◌<◌, ◌&&◌, ◌==◌, Bool, true, false, List, [], ◌∷◌, length, slice_get, Option, None}
+use Rattle.std.proofs.Common.{ℕ, zero, suc, ◌≡◌, ◌+◌, ◌<◌, ◌&&◌, ◌==◌, Bool, true, List, [], ◌∷◌, length, slice_get, Option, None}
 use Rattle.std.proofs.Common.{Some}
 use Rattle.std.proofs.Common.{refl, sym, ◌∙◌, ap, subst, arith}
 use Rattle.std.specs.Global.{Vec}
@@ -29,6 +29,7 @@ use Rattle.iox_lanes_laws.specs.Turns.{GoesToEnd, IsInTurn}
 use Rattle.iox_lanes_service.specs.InTurn.{Turns}
 use Rattle.iox_lanes_service.specs.Naming.{LaneLoan, LaneSample, came_over, has_written}
 use Rattle.iox_lanes_service.specs.Turning.{AreTurns, TurnsGoOn, TurnsStand, named_so, turn_choices}
+use Rattle.iox_lanes_service.specs.declared.in_turn.RanOut.{RanOut}
 use Rattle.iox_lanes_service.proofs.Begins.{begun_types, turns_begin}
 use Rattle.iox_lanes_service.proofs.Holding.{both_right, over_borrowed}
 use Rattle.iox_lanes_service.proofs.Subscribing.{one_is}
@@ -106,7 +107,7 @@ borrower (Some lane) connection slot is = let both = by_place (place_of slot lan
     by_place None is = absurd (cc is)
     by_place (Some index) is = (refl, by_route (slice_get lane.port.routes index) is)
 
-module _ (stuck : Bool) (turns : Turns) (m : World) (a : AreTurns stuck turns m) (going : stuck ≡ false) where
+module _ (ran_out : Option RanOut) (turns : Turns) (m : World) (a : AreTurns ran_out turns m) (going : ran_out ≡ None) where
   -- lanes in turn stand for a service
   pub turns_stand : (after : State (List ℕ)) × TurnsStand turns m after
   turns_stand =

@@ -28,3 +28,7 @@ pub mod Fitting
 pub mod Filling
 pub mod Turns
 pub mod SampleTurns
+pub mod Stopping
+pub mod AnswerKinds
+pub mod Ending
+pub mod Moving

@@ -1,6 +1,6 @@
 -- What subscribers of lanes in turn do is recorded as the machine does it.
-use Rattle.std.proofs.Common.{ℕ, suc, ◌≡◌, ◌+◌, ◌≤◌, true, false, List, [], ◌∷◌, ◌++◌, length}
-use Rattle.std.proofs.Common.{drop-drop, slice_get, Option, Some, refl, sym, ◌∙◌, ap, subst, arith}
+use Rattle.std.proofs.Common.{ℕ, suc, ◌≡◌, ◌+◌, ◌≤◌, true, List, [], ◌∷◌, ◌++◌, length}
+use Rattle.std.proofs.Common.{drop-drop, slice_get, Option, None, Some, refl, sym, ◌∙◌, ap, subst, arith}
 use Rattle.std.specs.Global.{Vec}
 use Rattle.std.specs.Prelude.{IfOk, IfSome, MatchOption, MatchResult, Result, Ok, Err, drop}
 use Rattle.std.specs.Vec.{vec_items}
@@ -27,6 +27,7 @@ use Rattle.iox_lanes_service.specs.Turning.{lane_route, named_so, sample_taken, 
 use Rattle.iox_lanes_service.specs.declared.number.TurnNumber.{TurnNumber}
 use Rattle.iox_lanes_service.proofs.Chaining.{none_above, sizes_stay, vector_of}
 use Rattle.iox_lanes_service.proofs.Filling.{written_beside}
+use Rattle.iox_lanes_service.proofs.Moving.{turn_moves}
 use Rattle.iox_lanes_service.proofs.Reading.{reads_are_steps}
 use Rattle.iox_lanes_service.proofs.Receiving.{receives_are_steps}
 use Rattle.iox_lanes_service.proofs.Releasing.{releases_are_steps}
@@ -107,10 +108,11 @@ module _ (turns : Turns) (m n : World) (place : ℕ) where
   received_sizes receipt.Nothing = refl
   received_sizes receipt.ExceedsMaxBorrows = refl
 
-  received_stuck : (given : Receipt) → (received place given m turns).stuck ≡ turns.stuck
-  received_stuck (receipt.Taken at_place slot) = refl
-  received_stuck receipt.Nothing = refl
-  received_stuck receipt.ExceedsMaxBorrows = refl
+  received_still : (given : Receipt) → ((received place given m turns).stuck ≡ turns.stuck)
+      × ((received place given m turns).ran_out ≡ turns.ran_out)
+  received_still (receipt.Taken at_place slot) = (refl, refl)
+  received_still receipt.Nothing = (refl, refl)
+  received_still receipt.ExceedsMaxBorrows = (refl, refl)
 
   received_lent : (given : Receipt) → (received place given m turns).lent ≡ turns.lent
   received_lent (receipt.Taken at_place slot) = refl
@@ -197,16 +199,17 @@ module _ (turns : Turns) (m n : World) (place : ℕ) where
   received_low receipt.Nothing low = record { loans = low.loans; samples = low.samples }
   received_low receipt.ExceedsMaxBorrows low = record { loans = low.loans; samples = low.samples }
 
-  pub receive_recorded : (given : Receipt) → AreTurns false turns m
-      → TurnEnds m (Subscriber place) call.Receive (answer.Received given) n → AreTurns false (received place given m turns) n
+  pub receive_recorded : (given : Receipt) → AreTurns None turns m
+      → TurnEnds m (Subscriber place) call.Receive (answer.Received given) n → AreTurns None (received place given m turns) n
   receive_recorded given a t =
       let lane = subscriber_there m place call.Receive (slice_get m.subscribers place) refl t.in_turn.begins.0 in
       goes_on turns (received place given m turns) m n a (ends_well turns.sizes m n (Subscriber place) call.Receive t.in_turn (a.goes refl))
-      (command.Receive (suc place)) (received_as (turns.samples + 1) (values_for m.table given) given) (received_stuck given)
+      (command.Receive (suc place)) (received_as (turns.samples + 1) (values_for m.table given) given) (received_still given)
       (received_sizes given)
       (received_asked given) (received_answers given) (received_low given a.low)
       (written_beside turns (received place given m turns) m n place call.Receive t.in_turn (received_lent given) (received_written given)
       (received_loans given) (a.written refl))
+      (turn_moves turns.sizes m (Subscriber place) call.Receive n (a.goes refl) t.in_turn)
       (λ types buffer state s.
       let fresh = none_above turns.held state.made.samples (state.made.samples + 1) s.made.samples (omega arith) in
       let law = receives_are_steps turn_choices (λ words. words) types buffer (named_so s.message) turns.lent turns.held m n s.service
@@ -231,18 +234,19 @@ without_sample number turns = record (turned (command.Release number) reply.Done
 read_same : (one other : ℕ) → answer.Read one ≡ answer.Read other → one ≡ other
 read_same one other e = cc e
 
-module _ (turns : Turns) (m n : World) (number publisher place slot : ℕ) (a : AreTurns false turns m)
+module _ (turns : Turns) (m n : World) (number publisher place slot : ℕ) (a : AreTurns None turns m)
     (there : at number turns.held ≡ Some (record { publisher = publisher; subscriber = place; slot = slot })) where
   pub release_recorded : TurnEnds m (Subscriber place) (call.Release slot) (answer.Released true) n
-      → AreTurns false (without_sample number turns) n
+      → AreTurns None (without_sample number turns) n
   release_recorded t = goes_on turns (without_sample number turns) m n a
-      (ends_well turns.sizes m n (Subscriber place) (call.Release slot) t.in_turn (a.goes refl)) (command.Release number) reply.Done refl
-      refl refl refl
+      (ends_well turns.sizes m n (Subscriber place) (call.Release slot) t.in_turn (a.goes refl)) (command.Release number) reply.Done
+      (refl, refl) refl refl refl
       (record {
         loans = a.low.loans;
         samples = λ index entry is. let was = left_entry number turns.held index entry is in a.low.samples was.0 entry was.1;
       })
       (written_beside turns (without_sample number turns) m n place (call.Release slot) t.in_turn refl refl refl (a.written refl))
+      (turn_moves turns.sizes m (Subscriber place) (call.Release slot) n (a.goes refl) t.in_turn)
       (λ types buffer state s.
       let law = releases_are_steps turn_choices (λ words. words) types buffer (named_so s.message) turns.lent turns.held m n s.service
       state number (record { publisher = publisher; subscriber = place; slot = slot }) s.stands there t.in_turn in
@@ -259,13 +263,14 @@ module _ (turns : Turns) (m n : World) (number publisher place slot : ℕ) (a : 
 
   pub read_recorded : (from : ℕ) (words : List ℕ) → words ≡ drop n.table.sizes.user_header_words (drop 3 (drop from n.read))
       → TurnEnds m (Subscriber place) (call.Read slot) (answer.Read from) n
-      → AreTurns false (turned (command.Read number) (reply.Values (one_value words)) turns) n
+      → AreTurns None (turned (command.Read number) (reply.Values (one_value words)) turns) n
   read_recorded from words are t = goes_on turns (turned (command.Read number) (reply.Values (one_value words)) turns) m n a
       (ends_well turns.sizes m n (Subscriber place) (call.Read slot) t.in_turn (a.goes refl)) (command.Read number) (reply.Values
       (one_value words))
-      refl refl refl refl (record { loans = a.low.loans; samples = a.low.samples })
+      (refl, refl) refl refl refl (record { loans = a.low.loans; samples = a.low.samples })
       (written_beside turns (turned (command.Read number) (reply.Values (one_value words)) turns) m n place (call.Read slot) t.in_turn refl
       refl refl (a.written refl))
+      (turn_moves turns.sizes m (Subscriber place) (call.Read slot) n (a.goes refl) t.in_turn)
       (λ types buffer state s.
       let law = reads_are_steps turn_choices (λ words. words) types buffer (named_so s.message) turns.lent turns.held m n s.service
       state number (record { publisher = publisher; subscriber = place; slot = slot }) s.stands there t.in_turn in

@@ -1,9 +1,10 @@
 -- What lanes in turn record is a run of the machine.
 use Rattle.std.proofs.Common.{ℕ, zero, suc, ◌≡◌, ◌+◌, ◌*◌, ◌<◌, ◌≤◌, ◌^◌, ◌==◌, cond, Bool, true, false, List, [], ◌∷◌, ◌++◌, length}
-use Rattle.std.proofs.Common.{get_or, slice_get, None, Some, refl, sym, ◌∙◌, ap, subst, arith}
+use Rattle.std.proofs.Common.{get_or, slice_get, Option, None, Some, is_some, refl, sym, ◌∙◌, ap, subst, inl, inr, arith, length-append}
 use Rattle.std.specs.Global.{Vec}
 use Rattle.std.specs.Prelude.{IfOk, MatchResult, find, option_map}
 use Rattle.std.proofs.lemmas.Bool.{eq-eqb}
+use Rattle.std.proofs.lemmas.Bool.Decides.{eqb_tells}
 use Rattle.iox_command.specs.NegotiateBase.DescribeBase.declared.message_type.MessageTypeDetails.{MessageTypeDetails}
 use Rattle.iox_command.specs.declared.command.Command.{Command}
 use Rattle.iox_command.specs.declared.command.Command.TheVariants as command
@@ -12,6 +13,7 @@ use Rattle.iox_command.specs.declared.reply.Reply.{Reply}
 use Rattle.iox_command.specs.declared.reply.Reply.TheVariants as reply
 use Rattle.iox_lanes_machine.specs.LanesBase.Publishing.{publisher_is_idle}
 use Rattle.iox_lanes_machine.specs.LanesBase.Subscribing.{subscriber_is_idle}
+use Rattle.iox_lanes_machine.specs.LanesBase.declared.calls.route.Route.{Route}
 use Rattle.iox_lanes_machine.specs.LanesParties.Parties.{PublisherLaneState, SubscriberLaneState}
 use Rattle.iox_lanes_machine.specs.LanesParties.Within.{IsPublisher}
 use Rattle.iox_lanes_machine.specs.LanesParties.declared.call.Answer.{Answer}
@@ -20,12 +22,12 @@ use Rattle.iox_lanes_machine.specs.LanesParties.declared.call.Call.{Call}
 use Rattle.iox_lanes_machine.specs.LanesParties.declared.call.Call.TheVariants as call
 use Rattle.iox_lanes_machine.specs.LanesParties.declared.call.FinishedCall.{FinishedCall}
 use Rattle.iox_lanes_machine.specs.LanesParties.declared.call.Party.{Party}
-use Rattle.iox_lanes_machine.specs.LanesParties.declared.call.Party.TheVariants.{Publisher}
+use Rattle.iox_lanes_machine.specs.LanesParties.declared.call.Party.TheVariants.{Publisher, Subscriber}
 use Rattle.iox_lanes_machine.specs.LanesParties.declared.call.SendAnswer.{SendAnswer}
 use Rattle.iox_lanes_machine.specs.LanesParties.declared.call.SendAnswer.TheVariants as sent
 use Rattle.iox_lanes_machine.specs.LanesParties.declared.publisher.slot_book.LoanAnswer.{LoanAnswer}
 use Rattle.iox_lanes_machine.specs.LanesParties.declared.publisher.slot_book.LoanAnswer.TheVariants as loan
-use Rattle.iox_lanes_machine.specs.Made.{publisher_at, start, subscriber_at}
+use Rattle.iox_lanes_machine.specs.Made.{publisher_at, route_to, start, subscriber_at}
 use Rattle.iox_lanes_machine.specs.Resting.{AllBetween}
 use Rattle.iox_lanes_machine.specs.World.{World}
 use Rattle.iox_lanes_machine.specs.declared.sizes.LaneSizes.{LaneSizes}
@@ -35,15 +37,20 @@ use Rattle.iox_lanes_machine.proofs.Paces.{came_kept}
 use Rattle.iox_lanes_machine.proofs.Start.{listed_is, listed_length}
 use Rattle.iox_lanes_laws.specs.Turns.{IsAnswered, IsInTurn}
 use Rattle.iox_lanes_laws.proofs.Chains.{all_from}
-use Rattle.iox_lanes_laws.proofs.Ends.{calls_end_in_turn, publisher_there}
+use Rattle.iox_lanes_laws.proofs.Ends.{calls_end_in_turn, publisher_there, subscriber_there}
+use Rattle.iox_lanes_laws.proofs.Payloads.{publishers_stay_in_turn, subscribers_stay_in_turn}
+use Rattle.iox_lanes_laws.proofs.Publishers as publishers
+use Rattle.iox_lanes_laws.proofs.Subscribers as subscribers
 use Rattle.iox_lanes_service.specs.NewLanes.{IsUnusedFor}
-use Rattle.iox_lanes_service.specs.InTurn.{BeginsTurns, ComesToReceive, ComesToSend, Turns, turned}
+use Rattle.iox_lanes_service.specs.InTurn.{BeginsTurns, ComesToReceive, ComesToSend, Turns, most_steps, turned}
 use Rattle.iox_lanes_service.specs.Laws.{IsLaneStep, loan_replied, send_replied, with_lent_slot}
 use Rattle.iox_lanes_service.specs.Naming.{LaneLoan, LaneSample}
 use Rattle.iox_lanes_service.specs.TurnLaws.{AreMade}
-use Rattle.iox_lanes_service.specs.Turning.{AreTurns, AreWritten, NumbersLow, TurnEnds, TurnsGoOn, TurnsStand, lent_as, loan_spent}
+use Rattle.iox_lanes_service.specs.Turning.{AreTurns, AreWritten, HasStopped, NumbersLow, StopsWithin, TurnEnds, TurnsGoOn, TurnsStand}
+use Rattle.iox_lanes_service.specs.Turning.{lent_as, loan_spent}
 use Rattle.iox_lanes_service.specs.Turning.{loan_written}
 use Rattle.iox_lanes_service.specs.Turning.{loaned, named_so, sent_as, slot_lent, turn_choices, turn_names}
+use Rattle.iox_lanes_service.specs.declared.in_turn.RanOut.{RanOut}
 use Rattle.iox_lanes_service.specs.declared.number.TurnNumber.{TurnNumber}
 use Rattle.iox_lanes_service.proofs.Beginning.{new_lanes_stand}
 use Rattle.iox_lanes_service.proofs.Chaining.{none_above}
@@ -51,6 +58,7 @@ use Rattle.iox_lanes_service.proofs.Lending.{loans_are_steps}
 use Rattle.iox_lanes_service.proofs.Dropping.{drops_are_steps}
 use Rattle.iox_lanes_service.proofs.Filling.{drop_leaves, loan_leaves, send_leaves, write_leaves}
 use Rattle.iox_lanes_service.proofs.Fitting.{turns_fixed, turns_stand}
+use Rattle.iox_lanes_service.proofs.Moving.{turn_moves}
 use Rattle.iox_lanes_service.proofs.Sending.{sends_are_steps}
 use Rattle.iox_lanes_service.proofs.Writing.{writes_are_steps}
 use Rattle.iox_lanes_service.proofs.Tables.{appended_entry, left_entry, not_both, stands_at_index}
@@ -91,15 +99,18 @@ pub record NextStands (types : MessageTypeDetails) (buffer : ℕ) (new : Turns) 
   pub loans : (counted replied state.made).loans ≡ new.loans
   pub samples : (counted replied state.made).samples ≡ new.samples
 
-pub goes_on : (turns new : Turns) (m n : World) → AreTurns false turns m → TurnsGoOn turns.sizes n → (asked : Command (List ℕ))
-    (replied : Reply (List ℕ)) → new.stuck ≡ turns.stuck → new.sizes ≡ turns.sizes → new.asked ≡ turns.asked ++ asked ∷ []
+pub goes_on : (turns new : Turns) (m n : World) → AreTurns None turns m → TurnsGoOn turns.sizes n → (asked : Command (List ℕ))
+    (replied : Reply (List ℕ)) → (new.stuck ≡ turns.stuck) × (new.ran_out ≡ turns.ran_out)
+    → new.sizes ≡ turns.sizes → new.asked ≡ turns.asked ++ asked ∷ []
     → new.answers ≡ turns.answers ++ replied ∷ []
-    → NumbersLow new → AreWritten new n
+    → NumbersLow new → AreWritten new n → (most_steps turns.sizes < 2 ^ 61 → n.moments ≤ m.moments + most_steps turns.sizes)
     → ((types : MessageTypeDetails) (buffer : ℕ) (state : State (List ℕ)) (s : TurnsStand turns m state)
     → NextStands types buffer new n asked replied state s.service)
-    → AreTurns false new n
-goes_on turns new m n a c asked replied still sized asked_is answers_are low written each = record {
-  told = still ∙ a.told;
+    → AreTurns None new n
+goes_on turns new m n a c asked replied still sized asked_is answers_are low written moves each = record {
+  told = still.0 ∙ a.told;
+  why = still.1 ∙ a.why;
+  stopped = λ reason none. absurd (cc none);
   runs = λ types buffer state begins.
       let before = a.runs types buffer state (subst (λ (sizes : LaneSizes). BeginsTurns sizes state) sized begins) in
       let s : TurnsStand turns m before.0 = before.2 refl in
@@ -125,7 +136,48 @@ goes_on turns new m n a c asked replied still sized asked_is answers_are low wri
   goes = λ going. subst (λ (sizes : LaneSizes). TurnsGoOn sizes n) (sym sized) c;
   low = low;
   written = λ going. written;
+  moved = λ going few.
+      let same : most_steps new.sizes ≡ most_steps turns.sizes = ap most_steps sized in
+      let one_more : length new.asked ≡ length turns.asked + 1 =
+      ap (λ (xs : List (Command (List ℕ))). length xs) asked_is ∙ length-append turns.asked (asked ∷ []) in
+      let all : length new.asked * most_steps new.sizes ≡ (length turns.asked + 1) * most_steps turns.sizes =
+      ap (λ (k : ℕ). k * most_steps new.sizes) one_more ∙ ap (λ (k : ℕ). (length turns.asked + 1) * k) same in
+      let small : most_steps turns.sizes < 2 ^ 61 = omega (arith, few, same) in
+      moves_on (length turns.asked) (most_steps turns.sizes) _ _ _ (a.moved refl small) (moves small) all;
 }
+  where
+    moves_on : (count most before after all : ℕ) → before ≤ count * most → after ≤ before + most → all ≡ (count + 1) * most → after ≤ all
+    moves_on count most before after all was more is = omega (arith, was, more, is)
+
+-- each port has as many connections as before
+routes_stay : (sizes : LaneSizes) (m n : World) (party : Party) (asking : Call) → IsInTurn m party asking n → TurnsGoOn sizes m
+    → ((place : ℕ) (lane : PublisherLaneState) → slice_get n.publishers place ≡ Some lane → length lane.port.routes ≡ sizes.subscribers)
+    × ((place : ℕ) (lane : SubscriberLaneState) → slice_get n.subscribers place ≡ Some lane → length lane.port.routes ≡ sizes.publishers)
+routes_stay sizes m n (Publisher who) asking t c =
+    let before = publisher_there m who asking (slice_get m.publishers who) refl t.begins.0 in
+    let after = (publishers_stay_in_turn m n who asking before.0 t before.1).1 in
+    let others = (publishers.whole m who asking before.0 n after.0 t before.1 after.1).others in (
+      λ at x there. elim (eqb_tells at who) [
+        | inl same ↦ ap (λ (it : PublisherLaneState). length it.port.routes)
+            (some_is x after.0 (sym there ∙ ap (slice_get n.publishers) same.1 ∙ after.1))
+            ∙ ap (λ (rs : List Route). length rs) (after.2).routes ∙ c.sending who before.0 before.1
+        | inr other ↦ c.sending at x (sym (others.publishers at other.1) ∙ there)
+      ],
+      λ at x there. c.receiving at x (sym (ap (λ (xs : List SubscriberLaneState). slice_get xs at) others.subscribers) ∙ there),
+    )
+routes_stay sizes m n (Subscriber who) asking t c =
+    let before = subscriber_there m who asking (slice_get m.subscribers who) refl t.begins.0 in
+    let after = (subscribers_stay_in_turn m n who asking before.0 t before.1).1 in
+    let others = (subscribers.whole m who asking before.0 (λ k lane. Unit {0}) n after.0 (λ k lane a a' bound next over s. tt)
+    (λ may k bound. tt) t before.1 after.1).others in (
+      λ at x there. c.sending at x (sym (ap (λ (xs : List PublisherLaneState). slice_get xs at) others.publishers) ∙ there),
+      λ at x there. elim (eqb_tells at who) [
+        | inl same ↦ ap (λ (it : SubscriberLaneState). length it.port.routes)
+            (some_is x after.0 (sym there ∙ ap (slice_get n.subscribers) same.1 ∙ after.1))
+            ∙ ap (λ (rs : List Route). length rs) (after.2).routes ∙ c.receiving who before.0 before.1
+        | inr other ↦ c.receiving at x (sym (others.subscribers at other.1) ∙ there)
+      ],
+    )
 
 -- lanes go on behind a turn
 pub ends_well : (sizes : LaneSizes) (m n : World) (party : Party) (asking : Call) → IsInTurn m party asking n → TurnsGoOn sizes m
@@ -133,11 +185,14 @@ pub ends_well : (sizes : LaneSizes) (m n : World) (party : Party) (asking : Call
 ends_well sizes m n party asking t c =
     let e = calls_end_in_turn m party asking n t in
     let fixed = turns_fixed m n party asking t in
+    let routes = routes_stay sizes m n party asking t c in
     record {
       came = e.0;
       between = e.1;
       publishers = fixed.publisher_count ∙ c.publishers;
       subscribers = fixed.subscriber_count ∙ c.subscribers;
+      sending = routes.0;
+      receiving = routes.1;
       table = fixed.sizes ∙ c.table;
       small = subst (λ words. words.slots < 2 ^ 64) (sym fixed.sizes) c.small;
     }
@@ -165,26 +220,37 @@ answer_is m n party asking given other a t =
 -- ---- no command
 
 -- what was asked and answered is a run
-pub ran_so : (stuck : Bool) (turns : Turns) (m : World) → AreTurns stuck turns m → (types : MessageTypeDetails) (buffer : ℕ)
+pub ran_so : (ran_out : Option RanOut) (turns : Turns) (m : World) → AreTurns ran_out turns m → (types : MessageTypeDetails) (buffer : ℕ)
     (state : State (List ℕ)) → BeginsTurns turns.sizes state
     → (after : State (List ℕ)) × Runs types turn_choices buffer turns.asked state turns.answers after
-ran_so stuck turns m a types buffer state begins = let ran = a.runs types buffer state begins in (ran.0, ran.1)
+ran_so ran_out turns m a types buffer state begins = let ran = a.runs types buffer state begins in (ran.0, ran.1)
 
 -- as long as no turn got stuck, a turn is said of that
-pub kept_going : (stuck : Bool) (turns new : Turns) (m n : World) → stuck ≡ false → (AreTurns false turns m → AreTurns false new n)
-    → AreTurns stuck turns m → AreTurns stuck new n
-kept_going true turns new m n is on a = not_both true refl is
-kept_going false turns new m n is on a = on a
+pub kept_going : (ran_out : Option RanOut) (turns new : Turns) (m n : World) → ran_out ≡ None
+    → (AreTurns None turns m → AreTurns None new n) → AreTurns ran_out turns m → AreTurns ran_out new n
+kept_going (Some why) turns new m n is on a = absurd (cc is)
+kept_going None turns new m n is on a = on a
+
+-- nothing ran out where lanes aren't stuck
+pub none_out : (ran_out : Option RanOut) → is_some ran_out ≡ false → ran_out ≡ None
+none_out None is = refl
+none_out (Some why) is = absurd (cc is)
 
 -- a turn stopped within its call
-pub stuck_since : (stuck : Bool) (turns : Turns) (m n : World) → AreTurns stuck turns m → AreTurns true (record turns { stuck = true }) n
-stuck_since stuck turns m n a = record {
+pub stuck_since : (ran_out : Option RanOut) (turns : Turns) (m n : World) (party : Party) (asking : Call) (why : RanOut)
+    → AreTurns ran_out turns m → StopsWithin m party asking why n
+    → AreTurns (Some why) (record turns { stuck = true; ran_out = Some why }) n
+stuck_since ran_out turns m n party asking why a stops = record {
   told = refl;
+  why = refl;
+  stopped = λ reason is.
+      subst (λ (it : RanOut). HasStopped it n) (some_is why reason is) (m, party, asking, stops);
   runs = λ types buffer state begins.
-      let before = a.runs types buffer state begins in (before.0, before.1, λ going. not_both true refl going);
-  goes = λ going. not_both true refl going;
+      let before = a.runs types buffer state begins in (before.0, before.1, λ going. absurd (cc going));
+  goes = λ going. absurd (cc going);
   low = record { loans = a.low.loans; samples = a.low.samples };
-  written = λ going. not_both true refl going;
+  written = λ going. absurd (cc going);
+  moved = λ going few. absurd (cc going);
 }
 
 -- nothing was asked of lanes
@@ -199,6 +265,7 @@ unasked sizes = record {
   held = [];
   written = [];
   stuck = false;
+  ran_out = None;
 }
 
 -- nobody is inside a call on new lanes
@@ -262,11 +329,13 @@ unused_so sizes state b = record {
 
 pub new_turns : (sizes : LaneSizes) (m : World) → m ≡ start sizes → 0 < sizes.buffer → sizes.buffer < 2 ^ 61 → sizes.most_borrowed < 2 ^ 61
     → sizes.subscribers < 2 ^ 61 → sizes.publishers * sizes.slots < 2 ^ 64
-    → AreTurns false (unasked sizes) m
+    → AreTurns None (unasked sizes) m
 new_turns sizes m is some low borrowed ports small =
-    subst (AreTurns false (unasked sizes)) (sym is)
+    subst (AreTurns None (unasked sizes)) (sym is)
     (record {
       told = refl;
+      why = refl;
+      stopped = λ reason none. absurd (cc none);
       runs = λ types buffer state begins. (
         state,
         (refl, refl),
@@ -299,6 +368,12 @@ new_turns sizes m is some low borrowed ports small =
         between = start_between sizes;
         publishers = listed_length (publisher_at sizes) sizes.publishers;
         subscribers = listed_length (subscriber_at sizes) sizes.subscribers;
+        sending = λ place lane found. ap (λ (it : PublisherLaneState). length it.port.routes)
+            (listed_is (publisher_at sizes) sizes.publishers place lane found).1
+            ∙ listed_length (λ subscriber. route_to sizes (place * sizes.subscribers + subscriber)) sizes.subscribers;
+        receiving = λ place lane found. ap (λ (it : SubscriberLaneState). length it.port.routes)
+            (listed_is (subscriber_at sizes) sizes.subscribers place lane found).1
+            ∙ listed_length (λ publisher. route_to sizes (publisher * sizes.subscribers + place)) sizes.publishers;
         table = refl;
         small = small;
       };
@@ -310,6 +385,7 @@ new_turns sizes m is some low borrowed ports small =
         each = λ index entry there. absurd (none_lent index entry there);
         low = λ number has. absurd (cc has);
       };
+      moved = λ going few. omega arith;
     })
   where
     none_lent : (index : ℕ) (entry : ℕ × LaneLoan) → slice_get [] index ≡ Some entry → ⊥
@@ -369,10 +445,11 @@ module _ (turns : Turns) (m n : World) (place : ℕ) where
   loaned_sizes loan.ExceedsMaxLoans = refl
   loaned_sizes loan.OutOfMemory = refl
 
-  loaned_stuck : (given : LoanAnswer) → (loaned place given turns).stuck ≡ turns.stuck
-  loaned_stuck (loan.Slot slot) = refl
-  loaned_stuck loan.ExceedsMaxLoans = refl
-  loaned_stuck loan.OutOfMemory = refl
+  loaned_still : (given : LoanAnswer) → ((loaned place given turns).stuck ≡ turns.stuck)
+      × ((loaned place given turns).ran_out ≡ turns.ran_out)
+  loaned_still (loan.Slot slot) = (refl, refl)
+  loaned_still loan.ExceedsMaxLoans = (refl, refl)
+  loaned_still loan.OutOfMemory = (refl, refl)
 
   loaned_asked : (given : LoanAnswer) → (loaned place given turns).asked ≡ turns.asked ++ command.LoanUninit (suc place) 1 ∷ []
   loaned_asked (loan.Slot slot) = refl
@@ -426,19 +503,20 @@ module _ (turns : Turns) (m n : World) (place : ℕ) where
   loaned_low loan.ExceedsMaxLoans low = record { loans = low.loans; samples = low.samples }
   loaned_low loan.OutOfMemory low = record { loans = low.loans; samples = low.samples }
 
-  pub loan_recorded : (given : LoanAnswer) → AreTurns false turns m
-      → TurnEnds m (Publisher place) call.LoanUninit (answer.Lent given) n → AreTurns false (loaned place given turns) n
+  pub loan_recorded : (given : LoanAnswer) → AreTurns None turns m
+      → TurnEnds m (Publisher place) call.LoanUninit (answer.Lent given) n → AreTurns None (loaned place given turns) n
   loan_recorded given a t =
       let goes : TurnsGoOn turns.sizes m = a.goes refl in
       let lane = publisher_there m place call.LoanUninit (slice_get m.publishers place) refl t.in_turn.begins.0 in
       let p : IsPublisher m.table.sizes lane.0
       = all_at (IsPublisher m.table.sizes) m.publishers place lane.0 lane.1 ((came_kept m goes.came).0).within.publishers in
       goes_on turns (loaned place given turns) m n a (ends_well turns.sizes m n (Publisher place) call.LoanUninit t.in_turn goes)
-      (command.LoanUninit (suc place) 1) (loan_replied (turns.loans + 1) given) (loaned_stuck given) (loaned_sizes given) (loaned_asked
+      (command.LoanUninit (suc place) 1) (loan_replied (turns.loans + 1) given) (loaned_still given) (loaned_sizes given) (loaned_asked
       given)
       (loaned_answers given) (loaned_low given a.low)
       (loan_leaves turns m n place (a.written refl) given t.in_turn goes.small
       (λ other is. lent_same other given (answer_is m n (Publisher place) call.LoanUninit (answer.Lent other) (answer.Lent given) is t)))
+      (turn_moves turns.sizes m (Publisher place) call.LoanUninit n goes t.in_turn)
       (λ types buffer state s.
       let fresh = none_above turns.lent state.made.loans (state.made.loans + 1) s.made.loans (omega arith) in
       let law = loans_are_steps turn_choices (λ words. words) types buffer (named_so s.message) turns.lent turns.held m n s.service
@@ -455,7 +533,7 @@ module _ (turns : Turns) (m n : World) (place : ℕ) where
 
 -- ---- a loan that goes by a number
 
-module _ (turns : Turns) (m n : World) (number place slot : ℕ) (a : AreTurns false turns m)
+module _ (turns : Turns) (m n : World) (number place slot : ℕ) (a : AreTurns None turns m)
     (there : at number turns.lent ≡ Some (record { publisher = place; slot = slot })) where
   -- a loan goes by no number any longer
   fewer_made : (state : State (List ℕ)) (s : TurnsStand turns m state)
@@ -472,25 +550,27 @@ module _ (turns : Turns) (m n : World) (number place slot : ℕ) (a : AreTurns f
   }
 
   pub drop_recorded : TurnEnds m (Publisher place) (call.DropLoan slot) answer.Dropped n
-      → AreTurns false (loan_spent number (command.Drop number) reply.Done turns) n
+      → AreTurns None (loan_spent number (command.Drop number) reply.Done turns) n
   drop_recorded t = goes_on turns (loan_spent number (command.Drop number) reply.Done turns) m n a
       (ends_well turns.sizes m n (Publisher place) (call.DropLoan slot) t.in_turn (a.goes refl))
-      (command.Drop number) reply.Done refl refl refl refl (fewer_low (command.Drop number) reply.Done)
-      (drop_leaves turns m n place (a.written refl) number slot there (turns_stand false turns m a refl).0
-      (turns_stand false turns m a refl).1 (command.Drop number) reply.Done t.in_turn)
+      (command.Drop number) reply.Done (refl, refl) refl refl refl (fewer_low (command.Drop number) reply.Done)
+      (drop_leaves turns m n place (a.written refl) number slot there (turns_stand None turns m a refl).0
+      (turns_stand None turns m a refl).1 (command.Drop number) reply.Done t.in_turn)
+      (turn_moves turns.sizes m (Publisher place) (call.DropLoan slot) n (a.goes refl) t.in_turn)
       (λ types buffer state s.
       let law = drops_are_steps turn_choices (λ words. words) types buffer (named_so s.message) turns.lent turns.held m n s.service
       state number (record { publisher = place; slot = slot }) s.stands there t.in_turn in
       record { message = s.message; step = law.1; made = fewer_made state s; loans = s.loans; samples = s.samples })
 
   pub send_recorded : (given : SendAnswer) → TurnEnds m (Publisher place) (call.Send slot) (answer.Sent given) n
-      → AreTurns false (loan_spent number (command.Send number) (send_replied given) turns) n
+      → AreTurns None (loan_spent number (command.Send number) (send_replied given) turns) n
   send_recorded given t = goes_on turns (loan_spent number (command.Send number) (send_replied given) turns) m n a
       (ends_well turns.sizes m n (Publisher place) (call.Send slot) t.in_turn (a.goes refl)) (command.Send number) (send_replied given)
-      refl refl refl refl
+      (refl, refl) refl refl refl
       (fewer_low (command.Send number) (send_replied given))
-      (send_leaves turns m n place (a.written refl) number slot there (turns_stand false turns m a refl).0
-      (turns_stand false turns m a refl).1 (command.Send number) (send_replied given) t.in_turn)
+      (send_leaves turns m n place (a.written refl) number slot there (turns_stand None turns m a refl).0
+      (turns_stand None turns m a refl).1 (command.Send number) (send_replied given) t.in_turn)
+      (turn_moves turns.sizes m (Publisher place) (call.Send slot) n (a.goes refl) t.in_turn)
       (λ types buffer state s.
       let law = sends_are_steps turn_choices (λ words. words) types buffer (named_so s.message) turns.lent turns.held m n s.service
       state number (record { publisher = place; slot = slot }) s.stands there t.in_turn in
@@ -515,14 +595,16 @@ module _ (turns : Turns) (m n : World) (number place slot : ℕ) (a : AreTurns f
 
   pub write_recorded : (payload user_header : Vec ℕ)
       → TurnEnds m (Publisher place) (call.Write slot payload user_header) answer.Written n
-      → AreTurns false (loan_written number payload.items turns) n
+      → AreTurns None (loan_written number payload.items turns) n
   write_recorded payload user_header t = goes_on turns (loan_written number payload.items turns) m n a
       (ends_well turns.sizes m n (Publisher place) (call.Write slot payload user_header) t.in_turn (a.goes refl))
-      (command.Fill number (payload.items ∷ [])) reply.Done refl refl refl refl (record { loans = a.low.loans; samples = a.low.samples })
-      (write_leaves turns m n place (a.written refl) number slot there (turns_stand false turns m a refl).0
-      (turns_stand false turns m a refl).1 payload user_header t.in_turn
+      (command.Fill number (payload.items ∷ [])) reply.Done (refl, refl) refl refl refl
+      (record { loans = a.low.loans; samples = a.low.samples })
+      (write_leaves turns m n place (a.written refl) number slot there (turns_stand None turns m a refl).0
+      (turns_stand None turns m a refl).1 payload user_header t.in_turn
       (let index = stands_at_index number (record { publisher = place; slot = slot }) turns.lent there in
       a.low.loans index.0 (number, record { publisher = place; slot = slot }) index.1))
+      (turn_moves turns.sizes m (Publisher place) (call.Write slot payload user_header) n (a.goes refl) t.in_turn)
       (λ types buffer state s.
       let law = writes_are_steps turn_choices (λ words. words) types buffer (named_so s.message) turns.lent turns.held m n s.service
       state number (record { publisher = place; slot = slot }) payload user_header s.stands there t.in_turn in

@@ -1,5 +1,6 @@
 -- What was asked of lanes in turn, and what they answered.
-use Rattle.std.specs.Prelude.{ℕ, suc, ◌≡◌, ◌<◌, ◌≤◌, ◌⊎◌, Bool, true, false, List, [], ◌∷◌, ◌++◌, length, None, Some}
+use Rattle.std.specs.Prelude.{ℕ, suc, ◌≡◌, ◌+◌, ◌*◌, ◌<◌, ◌≤◌, ◌^◌, ◌⊎◌, ⊤, Bool, true, false, List, [], ◌∷◌, ◌++◌, length, Option, None}
+use Rattle.std.specs.Prelude.{Some}
 use Rattle.iox_command.specs.DomainValues.Actions.{decision_of}
 use Rattle.iox_command.specs.DomainValues.declared.backpressure.BackpressureDecision.TheVariants.{DiscardData}
 use Rattle.iox_command.specs.declared.command.Command.{Command}
@@ -8,6 +9,8 @@ use Rattle.iox_lanes_machine.specs.QueuesSteps.Ends.{overflows}
 use Rattle.iox_lanes_machine.specs.Made.{listed}
 use Rattle.iox_lanes_machine.specs.declared.sizes.LaneSizes.{LaneSizes}
 use Rattle.iox_lanes_service.specs.Naming.{LaneLoan, LaneSample}
+use Rattle.iox_lanes_service.specs.declared.in_turn.RanOut.{RanOut}
+use Rattle.iox_lanes_service.specs.declared.in_turn.RanOut.TheVariants as out
 use Rattle.iox_machine.specs.PortList.{those}
 use Rattle.iox_machine.specs.Service.{Publisher, Service, Subscriber, mailbox}
 use Rattle.iox_machine.specs.State.{State}
@@ -15,7 +18,7 @@ use Rattle.iox_machine.specs.Table.{at}
 
 -- What was asked of lanes of some sizes, one whole call after the other, in the words of commands, and what was answered to each. And how
 -- many loans and samples were made so far, which go by numbers, and which loans were written. Lanes are stuck once memory or steps ran out
--- within a call.
+-- within a call, and what ran out is told.
 pub record Turns : Type 0 where
   pub sizes : LaneSizes
   pub asked : List (Command (List ℕ))
@@ -26,15 +29,30 @@ pub record Turns : Type 0 where
   pub held : List (ℕ × LaneSample)
   pub written : List ℕ
   pub stuck : Bool
+  pub ran_out : Option RanOut
 
 -- one command more, which was answered so
 abbrev pub turned : Command (List ℕ) → Reply (List ℕ) → Turns → Turns
 turned asked answer turns = record turns { asked = turns.asked ++ asked ∷ []; answers = turns.answers ++ answer ∷ [] }
 
--- A call wasn't answered. Either nothing changed, and lanes were stuck before if the call fits; or they are stuck since, and nothing else
--- changed.
+-- how many steps a call makes at most, of lanes of these sizes
+abbrev pub most_steps : LaneSizes → ℕ
+most_steps sizes = 4 * sizes.subscribers * (sizes.buffer + sizes.most_borrowed + 3) + 8 * sizes.publishers + sizes.user_header_words
+    + sizes.payload_words + 7
+
+-- Memory or steps ran out within a call: a step of it found no memory for what it records; or the call made 2^62 steps, and isn't over; or
+-- more than 2^63 steps were made in all. Steps run out only where the calls that were answered, and one more, may make 2^61.
+abbrev pub RunsOut : Turns → RanOut → Type 0
+RunsOut turns out.Memory = ⊤
+RunsOut turns (out.Steps made) = (2 ^ 62 ≤ made) × (2 ^ 61 ≤ (length turns.asked + 1) * most_steps turns.sizes)
+RunsOut turns (out.Moments made) = (2 ^ 63 < made) × (2 ^ 61 ≤ (length turns.asked + 1) * most_steps turns.sizes)
+
+-- A call wasn't answered. Either nothing changed, and lanes were stuck before if the call fits; or memory or steps ran out within it, lanes
+-- are stuck since, and nothing else changed.
 abbrev pub IsUnanswered : Type 0 → Turns → Turns → Type 0
-IsUnanswered Fits old new = ((new ≡ old) × (Fits → old.stuck ≡ true)) ⊎ (new ≡ record old { stuck = true })
+IsUnanswered Fits old new =
+    ((new ≡ old) × (Fits → old.stuck ≡ true))
+    ⊎ ((why : RanOut) × RunsOut old why × (new ≡ record old { stuck = true; ran_out = Some why }))
 
 -- A publisher that came, and is connected to each subscriber, before it lends and sends. It numbers no messages, and where mailboxes may be
 -- full it discards.

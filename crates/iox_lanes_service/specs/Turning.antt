@@ -1,6 +1,6 @@
 -- What lanes in turn record, and what ties the record to the lanes.
 use Rattle.std.specs.Prelude.{Option, None, Some, Result, Ok, Err, ⊤}
-use Rattle.std.specs.Prelude.{ℕ, ◌+◌, ◌≡◌, ◌<◌, ◌≤◌, ◌^◌, suc, Bool, true, false, List, [], ◌∷◌, ◌++◌, length, slice_get}
+use Rattle.std.specs.Prelude.{ℕ, ◌+◌, ◌*◌, ◌≡◌, ◌<◌, ◌≤◌, ◌^◌, zero, suc, true, false, List, [], ◌∷◌, ◌++◌, length, slice_get, is_some}
 use Rattle.std.specs.Global.{Vec}
 use Rattle.iox_command.specs.DomainValues.declared.port_error.LoanError.{LoanError}
 use Rattle.iox_command.specs.DomainValues.declared.port_error.LoanError.TheVariants as refused
@@ -17,11 +17,11 @@ use Rattle.iox_command.specs.NegotiateBase.DescribeBase.declared.message_type.Me
 use Rattle.iox_lanes_machine.specs.LanesBase.declared.calls.route.Route.{Route}
 use Rattle.iox_lanes_machine.specs.LanesBase.declared.calls.subscriber.Receipt.{Receipt}
 use Rattle.iox_lanes_machine.specs.LanesBase.declared.calls.subscriber.Receipt.TheVariants as receipt
-use Rattle.iox_lanes_machine.specs.LanesParties.Parties.{SubscriberLaneState}
+use Rattle.iox_lanes_machine.specs.LanesParties.Parties.{PublisherLaneState, SubscriberLaneState}
 use Rattle.iox_lanes_machine.specs.LanesParties.declared.call.Answer.{Answer}
 use Rattle.iox_lanes_machine.specs.LanesParties.declared.call.Call.{Call}
 use Rattle.iox_lanes_machine.specs.LanesParties.declared.call.FinishedCall.{FinishedCall}
-use Rattle.iox_lanes_machine.specs.LanesParties.declared.call.Move.TheVariants.{Begin}
+use Rattle.iox_lanes_machine.specs.LanesParties.declared.call.Move.TheVariants.{Begin, GoOn}
 use Rattle.iox_lanes_machine.specs.LanesParties.declared.call.Party.{Party}
 use Rattle.iox_lanes_machine.specs.LanesParties.declared.call.SendAnswer.{SendAnswer}
 use Rattle.iox_lanes_machine.specs.LanesParties.declared.call.SendAnswer.TheVariants as sent
@@ -30,12 +30,15 @@ use Rattle.iox_lanes_machine.specs.LanesParties.declared.publisher.slot_book.Loa
 use Rattle.iox_lanes_machine.specs.Made.{table_sizes}
 use Rattle.iox_lanes_machine.specs.Resting.{AllBetween}
 use Rattle.iox_lanes_machine.specs.WholeReads.{CameTo}
-use Rattle.iox_lanes_machine.specs.World.{World, fits}
+use Rattle.iox_lanes_machine.specs.QueuesSteps.declared.schedule.Stepped.TheVariants as stepped
+use Rattle.iox_lanes_machine.specs.World.{World, StepsTo, fits}
 use Rattle.iox_lanes_machine.specs.declared.sizes.LaneSizes.{LaneSizes}
 use Rattle.iox_lanes_laws.specs.Turns.{GoesToEnd, IsInTurn}
 use Rattle.iox_lanes_service.specs.declared.turn.Turn.{Turn}
 use Rattle.iox_lanes_service.specs.declared.turn.Turn.TheVariants as turn
-use Rattle.iox_lanes_service.specs.InTurn.{BeginsTurns, Turns, turned}
+use Rattle.iox_lanes_service.specs.InTurn.{BeginsTurns, Turns, most_steps, turned}
+use Rattle.iox_lanes_service.specs.declared.in_turn.RanOut.{RanOut}
+use Rattle.iox_lanes_service.specs.declared.in_turn.RanOut.TheVariants as out
 use Rattle.iox_lanes_service.specs.declared.in_turn.TurnLoan.{TurnLoan}
 use Rattle.iox_lanes_service.specs.declared.in_turn.TurnSample.{TurnSample}
 use Rattle.iox_lanes_service.specs.declared.number.TurnNumber.{TurnNumber}
@@ -82,9 +85,27 @@ turn_choices = as_named (λ words. ⊤)
 abbrev pub turn_names : LaneNaming
 turn_names = record { publisher = λ place. suc place; subscriber = λ place. suc place; message = λ slot. 0; numbered = false }
 
--- from where a party was to where it is, it went on, so that who ends its call here ends it there
-abbrev pub LeadsOn : Party → World → World → Type 0
-LeadsOn party m n = (last : World) (more : ℕ) → GoesToEnd party more n last → (all : ℕ) × GoesToEnd party all m last
+-- a party goes on for so many steps, of which none ends its call
+abbrev pub GoesThrough : Party → ℕ → World → World → Type 0
+GoesThrough party zero m n = n ≡ m
+GoesThrough party (suc more) m n = (next : World) × StepsTo m party GoOn stepped.Went next × GoesThrough party more next n
+
+-- where a call stopped that a party was in: its next step found no memory for what it records; or it made so many steps, 2^62 or more, and
+-- isn't over; or it is over, and so many steps were made in all, more than 2^63
+abbrev pub StoppedBy : Party → World → RanOut → World → Type 0
+StoppedBy party m out.Memory n = (made : ℕ) × GoesThrough party made m n × StepsTo n party GoOn stepped.NoMemory n
+StoppedBy party m (out.Steps made) n = (2 ^ 62 ≤ made) × GoesThrough party made m n
+StoppedBy party m (out.Moments made) n = (2 ^ 63 < made) × (n.moments ≡ made) × ((more : ℕ) × GoesToEnd party more m n)
+
+-- a call began and stopped, since memory or steps ran out
+pub record StopsWithin (m : World) (party : Party) (asking : Call) (why : RanOut) (n : World) : Type 0 where
+  pub begun : World
+  pub begins : StepsTo m party (Begin asking) stepped.Went begun
+  pub stopped : StoppedBy party begun why n
+
+-- some call did
+abbrev pub HasStopped : RanOut → World → Type 0
+HasStopped why n = (m : World) × (party : Party) × (asking : Call) × StopsWithin m party asking why n
 
 -- a call was made in turn, and this is its answer
 pub record TurnEnds (m : World) (party : Party) (asking : Call) (given : Answer) (n : World) : Type 0 where
@@ -93,10 +114,10 @@ pub record TurnEnds (m : World) (party : Party) (asking : Call) (given : Answer)
   pub ended : slice_get n.finished (length m.finished) ≡ Some call
   pub answered : call.answer ≡ given
 
--- how a turn came out: its call doesn't fit, and nothing changed; it stopped within its call, after which nothing is said; or it ended
+-- how a turn came out: its call doesn't fit, and nothing changed; it stopped within its call, since memory or steps ran out; or it ended
 abbrev pub TakesTurn : World → Party → Call → Turn → World → Type 0
 TakesTurn m party asking turn.NotBegun n = (fits m party (Begin asking) ≡ false) × (n ≡ m)
-TakesTurn m party asking turn.Stuck n = ⊤
+TakesTurn m party asking (turn.Stuck why) n = StopsWithin m party asking why n
 TakesTurn m party asking (turn.Ended given) n = TurnEnds m party asking given n
 
 -- the numbers of loans and samples, and the names of ports, where messages have these names
@@ -113,12 +134,17 @@ pub record TurnsStand (turns : Turns) (m : World) (state : State (List ℕ)) : T
   pub loans : state.made.loans ≡ turns.loans
   pub samples : state.made.samples ≡ turns.samples
 
--- lanes of these sizes go on from here: they came to here, nobody is inside a call, and slots have numbers below 2^64
+-- lanes of these sizes go on from here: they came to here, nobody is inside a call, each publisher has a connection to each subscriber, and
+-- slots have numbers below 2^64
 pub record TurnsGoOn (sizes : LaneSizes) (m : World) : Type 0 where
   pub came : CameTo m
   pub between : AllBetween m
   pub publishers : length m.publishers ≡ sizes.publishers
   pub subscribers : length m.subscribers ≡ sizes.subscribers
+  pub sending : (place : ℕ) (lane : PublisherLaneState) → slice_get m.publishers place ≡ Some lane
+      → length lane.port.routes ≡ sizes.subscribers
+  pub receiving : (place : ℕ) (lane : SubscriberLaneState) → slice_get m.subscribers place ≡ Some lane
+      → length lane.port.routes ≡ sizes.publishers
   pub table : m.table.sizes ≡ table_sizes sizes
   pub small : m.table.sizes.slots < 2 ^ 64
 
@@ -133,16 +159,19 @@ pub record AreWritten (turns : Turns) (m : World) : Type 0 where
       → has_written entry.1.slot (slice_get m.publishers entry.1.publisher) ≡ true
   pub low : (number : ℕ) → contains turns.written number ≡ true → number ≤ turns.loans
 
--- What was asked and answered is a run of the machine; and as long as no turn got stuck, lanes stand for what the machine has then. The
--- record tells whether one did.
-pub record AreTurns (stuck : Bool) (turns : Turns) (m : World) : Type 0 where
-  pub told : turns.stuck ≡ stuck
+-- What was asked and answered is a run of the machine; and as long as no turn got stuck, lanes stand for what the machine has then, and
+-- no more steps were made than the calls may make. The record tells whether a turn got stuck, and what ran out.
+pub record AreTurns (ran_out : Option RanOut) (turns : Turns) (m : World) : Type 0 where
+  pub told : turns.stuck ≡ is_some ran_out
+  pub why : turns.ran_out ≡ ran_out
+  pub stopped : (reason : RanOut) → ran_out ≡ Some reason → HasStopped reason m
   pub runs : (types : MessageTypeDetails) (buffer : ℕ) (state : State (List ℕ)) → BeginsTurns turns.sizes state
       → (after : State (List ℕ)) × Runs types turn_choices buffer turns.asked state turns.answers after
-      × (stuck ≡ false → TurnsStand turns m after)
-  pub goes : stuck ≡ false → TurnsGoOn turns.sizes m
+      × (ran_out ≡ None → TurnsStand turns m after)
+  pub goes : ran_out ≡ None → TurnsGoOn turns.sizes m
   pub low : NumbersLow turns
-  pub written : stuck ≡ false → AreWritten turns m
+  pub written : ran_out ≡ None → AreWritten turns m
+  pub moved : ran_out ≡ None → most_steps turns.sizes < 2 ^ 61 → m.moments ≤ length turns.asked * most_steps turns.sizes
 
 -- what a publisher at a place lent, by this number, or why it lent nothing
 abbrev pub lent_as : ℕ → LoanAnswer → TurnNumber → Result TurnLoan LoanError

@@ -1,7 +1,8 @@
 //! What was asked of lanes in turn, and what they answered, which only proofs read.
-ghost use Rattle.std.specs.Prelude.{◌≡◌, true};
+ghost use Rattle.std.specs.Prelude.{◌≡◌, true, Some};
 ghost use Rattle.iox_lanes_service.specs.InTurn.{Turns};
 
+use crate::in_turn::RanOut;
 use std::marker::Model;
 
 /// What was asked of lanes in turn, and what they answered. It takes no memory, and nothing is done with it at run time.
@@ -27,10 +28,10 @@ impl TurnHistory {
         TurnHistory {}
     }
 
-    // The same, where the last call got stuck.
-    pub(crate) fn stopped(&self) -> TurnHistory
-        ensures { result.turns ≡ record self.now.turns { stuck = true } }
+    // The same, where the last call got stuck, and what ran out.
+    pub(crate) fn stopped(&self, why: RanOut) -> TurnHistory
+        ensures { result.turns ≡ record self.now.turns { stuck = true; ran_out = Some why } }
     {
-        TurnHistory::told(self, &(), &())
+        TurnHistory::told(self, &why, &())
     }
 }

@@ -53,17 +53,34 @@ pub struct TurnSample {
     pub number: TurnNumber,
 }
 
+/// What ran out within a call of lanes in turn.
+///
+/// This port's own.
+#[derive(Clone, Copy, Debug, PartialEq, Eq)]
+pub enum RanOut {
+    /// A step found no memory for what it records.
+    Memory,
+    /// The call made so many steps, and isn't over.
+    Steps(u64),
+    /// The call is over, and so many steps were made in all.
+    Moments(u64),
+}
+
 /// Lanes whose calls go in turn, one whole call after the other. Proofs know what was asked, in the words of commands, and what was
 /// answered.
 ///
 /// Each call says which command it is, and what it is answered. Where it doesn't fit, or where memory or steps ran out within it, it
-/// answers None, or false, and no command is recorded. Where they ran out, lanes are stuck: no call is made any more. That these are a run
-/// of the machine says `answers_as_machine`. This port's own.
+/// answers None, or false, and no command is recorded. Where they ran out, lanes are stuck: no call is made any more. Memory ran out where
+/// a step found none for what it records; steps ran out where a call made 2^62 and isn't over, or where more than 2^63 were made in all.
+/// So it can be only where the calls that were answered, and one more, may make 2^61 steps: for P publishers and S subscribers, where B
+/// messages may wait and R be borrowed, a call makes 4 · S · (B + R + 3) + 8 · P + 7 at most, and one more for each word of user
+/// header and payload.
+/// That what was asked and answered is a run of the machine says `answers_as_machine`. This port's own.
 #[derive(Drop)]
 pub struct LanesInTurn {
     lanes: Lanes,
-    // Whether a call ran out of memory or steps.
-    stuck: bool,
+    // What ran out within a call, after which none is made.
+    ran_out: Option<RanOut>,
     history: TurnHistory,
 }
 
@@ -75,7 +92,7 @@ impl Model for LanesInTurn {
 
     ghost view = { λ it. it.history.turns };
 
-    ghost invariant = { λ it. AreTurns it.stuck it.history.turns it.lanes };
+    ghost invariant = { λ it. AreTurns it.ran_out it.history.turns it.lanes };
 }
 
 impl LanesInTurn {
@@ -94,6 +111,7 @@ impl LanesInTurn {
           held = [];
           written = [];
           stuck = false;
+          ran_out = None;
         }) }
     {
         if sizes.buffer >= 1 << 61
@@ -107,7 +125,7 @@ impl LanesInTurn {
         }
         Ok(LanesInTurn {
             lanes: Lanes::new(alloc, sizes)?,
-            stuck: false,
+            ran_out: None,
             history: TurnHistory::told(&sizes, &(), &()),
         })
     }
@@ -120,6 +138,14 @@ impl LanesInTurn {
             → (after : State (List ℕ)) × Runs types (as_named (λ words. ⊤)) buffer self.now.asked state self.now.answers after }
     {
         let _ = &self.lanes;
+    }
+
+    /// What ran out, if lanes are stuck.
+    /// Example: `let why = lanes.ran_out();`
+    pub fn ran_out(&self) -> Option<RanOut>
+        ensures { result ≡ self.now.ran_out }
+    {
+        self.ran_out
     }
 
     /// The publisher at a place lends a slot for one value: the command `LoanUninit`. It fits where the sizes have such a publisher.
@@ -139,7 +165,7 @@ impl LanesInTurn {
             × (at loan.number.value self.new.lent ≡ Some (record { publisher = publisher; slot = loan.slot })))) }
         ensures stuck { self.old.stuck ≡ true → result ≡ None }
     {
-        if self.stuck {
+        if self.ran_out.is_some() {
             return None;
         }
         match take_turn(
@@ -148,14 +174,17 @@ impl LanesInTurn {
             Call::LoanUninit,
         ) {
             Turn::NotBegun => None,
-            Turn::Ended(Answer::Lent(given)) => {
+            Turn::Ended(answer) => {
+                let Answer::Lent(given) = answer else {
+                    unreachable!()
+                };
                 let number = TurnNumber::given(&self.history);
                 self.history = TurnHistory::told(&self.history, &publisher, &given);
                 Some(lent_as(publisher, given, number))
             }
-            _ => {
-                self.stuck = true;
-                self.history = self.history.stopped();
+            Turn::Stuck(why) => {
+                self.ran_out = Some(why);
+                self.history = self.history.stopped(why);
                 None
             }
         }
@@ -174,7 +203,7 @@ impl LanesInTurn {
             × (length user_header.items ≡ self.old.sizes.user_header_words)) self.old self.new) }
         ensures stuck { self.old.stuck ≡ true → result ≡ false }
     {
-        if self.stuck {
+        if self.ran_out.is_some() {
             return false;
         }
         let history = TurnHistory::told(&self.history, &loan.number, &payload);
@@ -188,13 +217,16 @@ impl LanesInTurn {
             },
         ) {
             Turn::NotBegun => false,
-            Turn::Ended(Answer::Written) => {
+            Turn::Ended(answer) => {
+                let Answer::Written = answer else {
+                    unreachable!()
+                };
                 self.history = history;
                 true
             }
-            _ => {
-                self.stuck = true;
-                self.history = self.history.stopped();
+            Turn::Stuck(why) => {
+                self.ran_out = Some(why);
+                self.history = self.history.stopped(why);
                 false
             }
         }
@@ -216,7 +248,7 @@ impl LanesInTurn {
             })) }
         ensures stuck { self.old.stuck ≡ true → result ≡ None }
     {
-        if self.stuck {
+        if self.ran_out.is_some() {
             return None;
         }
         match take_turn(
@@ -225,13 +257,16 @@ impl LanesInTurn {
             Call::Send { loan: loan.slot },
         ) {
             Turn::NotBegun => None,
-            Turn::Ended(Answer::Sent(given)) => {
+            Turn::Ended(answer) => {
+                let Answer::Sent(given) = answer else {
+                    unreachable!()
+                };
                 self.history = TurnHistory::told(&self.history, &loan.number, &given);
                 Some(sent_as(given))
             }
-            _ => {
-                self.stuck = true;
-                self.history = self.history.stopped();
+            Turn::Stuck(why) => {
+                self.ran_out = Some(why);
+                self.history = self.history.stopped(why);
                 None
             }
         }
@@ -248,7 +283,7 @@ impl LanesInTurn {
             (IsUnanswered ⊤ self.old self.new) }
         ensures stuck { self.old.stuck ≡ true → result ≡ false }
     {
-        if self.stuck {
+        if self.ran_out.is_some() {
             return false;
         }
         match take_turn(
@@ -257,13 +292,16 @@ impl LanesInTurn {
             Call::DropLoan { loan: loan.slot },
         ) {
             Turn::NotBegun => false,
-            Turn::Ended(Answer::Dropped) => {
+            Turn::Ended(answer) => {
+                let Answer::Dropped = answer else {
+                    unreachable!()
+                };
                 self.history = TurnHistory::told(&self.history, &loan.number, &());
                 true
             }
-            _ => {
-                self.stuck = true;
-                self.history = self.history.stopped();
+            Turn::Stuck(why) => {
+                self.ran_out = Some(why);
+                self.history = self.history.stopped(why);
                 false
             }
         }
@@ -290,7 +328,7 @@ impl LanesInTurn {
             ≡ Some (record { publisher = publisher; subscriber = subscriber; slot = sample.slot })))))) }
         ensures stuck { self.old.stuck ≡ true → result ≡ None }
     {
-        if self.stuck {
+        if self.ran_out.is_some() {
             return None;
         }
         let seen = Seen::of(&self.lanes);
@@ -300,14 +338,17 @@ impl LanesInTurn {
             Call::Receive,
         ) {
             Turn::NotBegun => None,
-            Turn::Ended(Answer::Received(given)) => {
+            Turn::Ended(answer) => {
+                let Answer::Received(given) = answer else {
+                    unreachable!()
+                };
                 let number = TurnNumber::given(&self.history);
                 self.history = TurnHistory::told(&self.history, &seen, &(subscriber, given));
                 Some(taken_as(subscriber, given, number))
             }
-            _ => {
-                self.stuck = true;
-                self.history = self.history.stopped();
+            Turn::Stuck(why) => {
+                self.ran_out = Some(why);
+                self.history = self.history.stopped(why);
                 None
             }
         }
@@ -327,7 +368,7 @@ impl LanesInTurn {
             × IfOk answer (λ words. vec_items values ≡ words.items ∷ [])) }
         ensures stuck { self.old.stuck ≡ true → result ≡ None }
     {
-        if self.stuck {
+        if self.ran_out.is_some() {
             return None;
         }
         match take_turn(
@@ -338,15 +379,18 @@ impl LanesInTurn {
             },
         ) {
             Turn::NotBegun => None,
-            Turn::Ended(Answer::Read { from }) => {
+            Turn::Ended(answer) => {
+                let Answer::Read { from } = answer else {
+                    unreachable!()
+                };
                 let words = payload_read(&self.lanes, from);
                 let copied = Vec::from_slice(alloc, words);
                 self.history = TurnHistory::told(&self.history, &sample.number, &words);
                 Some(copied)
             }
-            _ => {
-                self.stuck = true;
-                self.history = self.history.stopped();
+            Turn::Stuck(why) => {
+                self.ran_out = Some(why);
+                self.history = self.history.stopped(why);
                 None
             }
         }
@@ -364,7 +408,7 @@ impl LanesInTurn {
             (IsUnanswered ⊤ self.old self.new) }
         ensures stuck { self.old.stuck ≡ true → result ≡ false }
     {
-        if self.stuck {
+        if self.ran_out.is_some() {
             return false;
         }
         match take_turn(
@@ -375,13 +419,16 @@ impl LanesInTurn {
             },
         ) {
             Turn::NotBegun => false,
-            Turn::Ended(Answer::Released(true)) => {
+            Turn::Ended(answer) => {
+                let Answer::Released(_) = answer else {
+                    unreachable!()
+                };
                 self.history = TurnHistory::told(&self.history, &sample.number, &());
                 true
             }
-            _ => {
-                self.stuck = true;
-                self.history = self.history.stopped();
+            Turn::Stuck(why) => {
+                self.ran_out = Some(why);
+                self.history = self.history.stopped(why);
                 false
             }
         }

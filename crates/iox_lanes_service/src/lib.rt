@@ -7,7 +7,7 @@
 //!
 //! [`LanesInTurn`] are lanes whose calls go in turn. They record, for proofs alone, which commands were asked and what was answered:
 //! a run of the machine, said in its words alone.
-//! A call that fits is answered, unless memory or steps ran out.
+//! A call that fits is answered, unless memory or steps ran out ([`RanOut`]).
 //!
 //! The functions here do nothing: the contract of each is a law of the definitions. A proof cites a law by a call of its function; what
 //! it states is then among the facts of the caller:
@@ -33,7 +33,7 @@ pub mod number;
 mod seen;
 mod turn;
 
-pub use in_turn::{LanesInTurn, TurnLoan, TurnSample};
+pub use in_turn::{LanesInTurn, RanOut, TurnLoan, TurnSample};
 use iox_domain_values::{Decides, Degrades};
 
 /// Lanes that were made stand, before their first step, for a service at which at least as many ports came, with the same sizes: they

@@ -1,10 +1,12 @@
 //! Whole calls of lanes, one after the other.
-ghost use Rattle.std.specs.Prelude.{ℕ, ◌≡◌, true};
+ghost use Rattle.std.specs.Prelude.{ℕ, ◌≡◌, ◌+◌, true, length, MatchResult};
 ghost use Rattle.iox_lanes_laws.specs.Turns.{GoesToEnd};
 ghost use Rattle.iox_lanes_machine.specs.Resting.{AllBetween};
 ghost use Rattle.iox_lanes_machine.specs.WholeReads.{CameTo};
-ghost use Rattle.iox_lanes_service.specs.Turning.{TakesTurn};
+ghost use Rattle.iox_lanes_machine.specs.World.{fits};
+ghost use Rattle.iox_lanes_service.specs.Turning.{StoppedBy, TakesTurn};
 
+use crate::in_turn::RanOut;
 use iox_lanes_machine::Lanes;
 use iox_lanes_parties::{Answer, Call, Move, Party};
 use iox_queues_steps::Stepped;
@@ -17,24 +19,29 @@ const STEPS: u64 = 1 << 62;
 pub(crate) enum Turn {
     /// The call doesn't fit, and nothing changed.
     NotBegun,
-    /// It stopped inside the call, where memory or steps ran out.
-    Stuck,
+    /// It stopped, since memory or steps ran out.
+    Stuck(RanOut),
     /// The call ended, and answered this.
     Ended(Answer),
 }
 
-// A party goes on to the end of its call; whether it came there.
-fn goes_to_end(lanes: &mut Lanes, party: Party) -> bool
-    ensures { result ≡ true → (more : ℕ) × GoesToEnd party more lanes.old lanes.new }
+// A party inside a call goes on to its end, with which one call more ended; or what ran out before.
+fn goes_to_end(lanes: &mut Lanes, party: Party) -> Result<(), RanOut>
+    requires { fits lanes.old party Move.GoOn ≡ true }
+    ensures { MatchResult result
+        (λ done. ((more : ℕ) × GoesToEnd party more lanes.old lanes.new)
+        × (length lanes.new.finished ≡ length lanes.old.finished + 1))
+        (λ why. StoppedBy party lanes.old why lanes.new) }
 {
-    for _ in 0..STEPS {
+    for _made in 0..STEPS {
         match lanes.step(party, &Move::GoOn) {
             Stepped::Went => {}
-            Stepped::Finished => return true,
-            Stepped::Skipped | Stepped::NoMemory => return false,
+            Stepped::Finished => return Ok(()),
+            Stepped::NoMemory => return Err(RanOut::Memory),
+            Stepped::Skipped => unreachable!(),
         }
     }
-    false
+    Err(RanOut::Steps(STEPS))
 }
 
 /// A whole call of a party, which no other call overlaps.
@@ -47,16 +54,19 @@ pub(crate) fn take_turn(lanes: &mut Lanes, party: Party, asking: Call) -> Turn
     match lanes.step(party, &Move::Begin(asking)) {
         Stepped::Went => {}
         Stepped::Skipped => return Turn::NotBegun,
-        Stepped::Finished | Stepped::NoMemory => return Turn::Stuck,
+        Stepped::Finished => unreachable!(),
+        Stepped::NoMemory => unreachable!(),
     }
-    if !goes_to_end(lanes, party) {
-        return Turn::Stuck;
+    match goes_to_end(lanes, party) {
+        Ok(()) => {}
+        Err(why) => return Turn::Stuck(why),
     }
-    if lanes.moments() > 9_223_372_036_854_775_808 {
-        return Turn::Stuck;
+    let moments = lanes.moments();
+    if moments > 9_223_372_036_854_775_808 {
+        return Turn::Stuck(RanOut::Moments(moments));
     }
     match lanes.finished().get(ended) {
         Some(call) => Turn::Ended(call.answer),
-        None => Turn::Stuck,
+        None => unreachable!(),
     }
 }

@@ -7,3 +7,8 @@ mod Joints
 mod Lanes
 mod Sequences
 mod Waiting
+mod Unfollowing
+mod Untying
+mod StrayLists
+mod StrayCalls
+mod Strays

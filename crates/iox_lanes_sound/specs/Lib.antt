@@ -3,3 +3,4 @@ pub mod Standing
 pub mod Having
 pub mod Lanes
 pub mod Sequences
+pub mod Strays

@@ -11,7 +11,7 @@
 //! ```
 #![tactic(auto)]
 
-ghost use Rattle.std.specs.Prelude.{ℕ, List, ◌≡◌, ◌<◌, ◌^◌, length, None};
+ghost use Rattle.std.specs.Prelude.{ℕ, List, ◌≡◌, ◌<◌, ◌^◌, ◌⊎◌, length, None, Some};
 ghost use Rattle.iox_command.specs.NegotiateBase.DescribeBase.declared.message_type.MessageTypeDetails.{MessageTypeDetails};
 ghost use Rattle.iox_domain.specs.DomainPorts.declared.attached.Taken.{Taken};
 ghost use Rattle.iox_domain.specs.DomainValues.declared.degradation.DegradationCause.TheVariants as cause;
@@ -26,13 +26,16 @@ ghost use Rattle.iox_lanes_laws.specs.Numbered.{found_messages};
 ghost use Rattle.iox_lanes_machine.specs.WholeReads.{CameTo};
 ghost use Rattle.iox_lanes_opening.specs.Middles.{middle_count, middle_words};
 ghost use Rattle.iox_lanes_opening.specs.Refusals.{first_reason};
+ghost use Rattle.iox_lanes_opening.specs.declared.refusals.into_lanes_error.IntoLanesError.TheVariants as reason;
 ghost use Rattle.iox_lanes_sound.specs.Having.{AreReadBack, HaveMessages, lane_names};
 ghost use Rattle.iox_lanes_sound.specs.Lanes.{StandAsPorts, TurnsGoOnAsPorts};
 ghost use Rattle.iox_lanes_sound.specs.Sequences.{SequencesFound, SequencesStayUp, SequencesWait};
 ghost use Rattle.iox_lanes_sound.specs.Standing.{StandingPortsAreSound};
+ghost use Rattle.iox_lanes_sound.specs.Strays.{AreWithoutStrays, LeaveNoStrays, SomePublisherLags, SomeSubscriberLags};
 ghost use Rattle.iox_machine.specs.Choices.{Handed, chosen_by};
 ghost use Rattle.iox_machine.specs.Service.{Service};
 
+use iox_domain::Domain;
 use iox_domain_values::{Decides, Degrades, Overrides};
 use iox_lanes::DomainLanes;
 use iox_queues_base::Words;
@@ -137,4 +140,28 @@ pub fn found_sequences_go_up<T: Words, U: Words>(opened: &DomainLanes<T, U>)
 pub fn sequences_stay_up<T, U, O: Overrides, B: Decides + Degrades>(_overriding: &O, _handlers: &B)
     ensures { SequencesStayUp T U (O.overrides _overriding.now) (B.degrades _handlers.now cause.FailedToEstablishConnection)
         (B.decides _handlers.now) }
+{}
+
+/// No call leaves a stray tie: a publisher that followed the list of subscribers as it is has no connection for a place that lists nobody.
+/// What is kept is `AreWithoutStrays`: each publisher has seen at most as many changes of the list as there were, and where it has seen
+/// them all, each place that is tied to a connection lists somebody. So it is of a new service (`begins`), each call leaves it so, whatever
+/// override and handlers answer (`goes_on`), and so do any calls from a new service on (`stays`).
+///
+/// Of such ports none that has seen all changes has a stray tie (`tame`). So a publisher is up to date just where it has seen them all, and
+/// shares a connection with each subscriber that is listed (`current`).
+pub fn calls_leave_no_strays<T, U, O: Overrides, B: Decides + Degrades>(
+    _overriding: &O,
+    _handlers: &B,
+)
+    ensures { LeaveNoStrays T U (O.overrides _overriding.now) (B.degrades _handlers.now cause.FailedToEstablishConnection)
+        (B.decides _handlers.now) }
+{}
+
+/// A domain whose ports calls left (`AreWithoutStrays`) is `ConnectionsNotUpToDate` only where a port that is listed lags behind. A
+/// publisher isn't there, or hasn't seen all changes of the list of subscribers, or shares no connection with one who is listed. Or a
+/// subscriber isn't there, or hasn't followed the list of publishers as it is, or has to follow it again.
+pub fn refused_where_ports_lag<T, U>(domain: &Domain<T, U>)
+    requires without { AreWithoutStrays domain.now.state.ports }
+    requires told { first_reason domain.now ≡ Some reason.ConnectionsNotUpToDate }
+    ensures { SomePublisherLags domain.now.state.ports ⊎ SomeSubscriberLags domain.now.state.ports }
 {}

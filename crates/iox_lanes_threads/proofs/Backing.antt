@@ -5,11 +5,12 @@ use Rattle.std.proofs.lemmas.List.Elements.{All-nil}
 use mathlib.Core.Option.{some, some-injective}
 use lib.ListN.{get_elem?}
 use Rattle.iox_lanes_machine.specs.LanesParties.Parties.{PublisherLaneState, SubscriberLaneState}
+use Rattle.iox_lanes_machine.specs.Rooms.{RoomsKept}
 use Rattle.iox_lanes_machine.specs.Together.{HoldTogether}
 use Rattle.iox_lanes_machine.specs.World.{World}
 use Rattle.iox_lanes_threads_ports.specs.LanesThreadsRule.Lanes.{HasParty, IsSeen, IsBacked}
 use Rattle.iox_lanes_threads_ports.specs.LanesThreadsRule.declared.view.Port.{Port}
-use Rattle.iox_lanes_threads_rule.proofs.Anew.{retimed, anew}
+use Rattle.iox_lanes_threads_rule.proofs.Anew.{retimed, anew, rooms_anew}
 use Rattle.iox_lanes_threads.specs.Opening.{service_of, publishers_from, subscribers_from, ports_of}
 use Rattle.iox_lanes_threads_rule.proofs.Lists.{none_there, in_either}
 
@@ -46,10 +47,11 @@ module _ (m : World) where
         (λ j lane f. let same : 0 + j ≡ j = omega arith in ap (slice_get m.subscribers) same ∙ f) there.2
   ]
 
-  pub lanes_back : HoldTogether m → IsBacked (service_of m) m.table.words (ports_of m)
-  lanes_back k early = record {
+  pub lanes_back : HoldTogether m → RoomsKept m → IsBacked (service_of m) m.table.words (ports_of m)
+  lanes_back k rooms early = record {
     lanes = retimed m;
     together = anew m early k;
+    rooms = rooms_anew m rooms;
     few = omega arith;
     table = refl;
     lines = refl;

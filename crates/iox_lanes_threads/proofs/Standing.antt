@@ -26,6 +26,7 @@ use Rattle.iox_lanes_machine.specs.Kept.{IsLinkOf, IsWithin, sender, receiver}
 use Rattle.iox_lanes_machine.specs.Mailboxes.{PositionsNear, positions_of}
 use Rattle.iox_lanes_machine.specs.Opening.{SlotsNamed}
 use Rattle.iox_lanes_machine.specs.Reads.{width}
+use Rattle.iox_lanes_machine.specs.Rooms.{RoomsFollow}
 use Rattle.iox_lanes_machine.specs.Slots.{SlotsInRows}
 use Rattle.iox_lanes_machine.specs.Together.{HoldTogether}
 use Rattle.iox_lanes_machine.specs.World.{World}
@@ -53,6 +54,7 @@ pub record Sound (m : World) : Type 0 where
   pub named : SlotsNamed m
   pub near : (connection : ℕ) → PositionsNear m connection (positions_of m.table connection)
   pub together : m.moments ≤ 2 ^ 63 → HoldTogether m
+  pub rooms : RoomsFollow m
 
 -- and of their publishers: each has each of its connections once
 abbrev pub Apart : World → Type 0
@@ -155,7 +157,7 @@ module _ (m : World) (k : Sound m) where
   }
 
   pub fitting : m.moments ≤ 2 ^ 63 → Fitting m
-  fitting few = (fits few, lanes_back m (k.together few))
+  fitting few = (fits few, lanes_back m (k.together few) (k.rooms few))
 
   sending_end : (place : ℕ) (route : Route) → IsLinkOf m.links sender place route → IsEnd (service_of m) sender_of (Publisher place) route
   sending_end place route is = record {

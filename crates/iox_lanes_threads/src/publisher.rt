@@ -62,9 +62,9 @@ impl LanePublisher {
     }
 
     /// Asks for a slot to be written. It ends after at most as many steps as its connections need to give back all that they have
-    /// room for, and one more sample each. None where the port stands inside a call, or where one connection gave back more
-    /// samples during this call than its ring of samples given back has cells, which no lanes come to: then it stays inside this
-    /// one.
+    /// room for, and one more sample each. It answers, unless the port stands inside a call. That is so as long as no write
+    /// position stands at 2^64 - 1 when it loads a word: a call that doesn't answer stays inside, with more samples taken back at
+    /// one connection than its ring of samples given back has cells.
     pub fn loan_uninit(&mut self) -> Option<LoanAnswer>
         ensures same { StaysPublisher self.old self.new }
         ensures call { Loans self.old.own self.new.own result }
@@ -105,7 +105,7 @@ impl LanePublisher {
     }
 
     /// Sends a loan that is written, and tells how many connections took it. It is `UnableToDeliver` just where the publisher
-    /// fails at a full mailbox and one refused. None where the slot is no such loan of this port, or as of a loan.
+    /// fails at a full mailbox and one refused. It answers, unless the slot is no such loan of this port, or as a loan.
     pub fn send(&mut self, loan: u64) -> Option<SendAnswer>
         ensures same { StaysPublisher self.old self.new }
         ensures call { Sends self.old.own loan self.new.own result }

@@ -6,6 +6,9 @@ pub mod SubscriberSteps
 pub mod Connections
 pub mod Pacing
 pub mod Starting
+pub mod Sweeping
+pub mod Moments
+pub mod Swept
 pub mod Running
 pub mod Striding
 pub mod RingStriding

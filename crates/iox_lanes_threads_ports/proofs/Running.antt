@@ -1,6 +1,7 @@
 -- A port that goes on step by step.
 use Rattle.std.proofs.Common.{ℕ, ◌≡◌, ◌+◌, ◌<◌, ◌≤◌, ◌⊎◌, true, false, List, Option, Some, None, is_some, refl, sym, ◌∙◌, ap, subst, inl}
 use Rattle.std.proofs.Common.{inr, arith}
+use Rattle.std.proofs.lemmas.Option.{slice_get_within}
 use Rattle.atomic_table.specs.Table.{Me}
 use Rattle.iox_lanes_machine.specs.LanesBase.Numbers.{IsSmall}
 use Rattle.iox_lanes_machine.specs.LanesBase.declared.words.sizes.TableSizes.{TableSizes}
@@ -25,7 +26,7 @@ use Rattle.iox_lanes_threads_rule.specs.declared.view.PortParty.{PortParty}
 use Rattle.iox_lanes_threads_rule.specs.declared.view.View.{View}
 use Rattle.iox_lanes_threads_ports.specs.Courses.{publisher_party, publisher_stepped, subscriber_party, subscriber_stepped, PublisherGoes}
 use Rattle.iox_lanes_threads_ports.specs.Courses.{PublisherSteps, SubscriberGoes, SubscriberSteps}
-use Rattle.iox_lanes_threads_ports.specs.Pace.{IsGoing, steps_to_go, StartsWithin}
+use Rattle.iox_lanes_threads_ports.specs.Pace.{IsGoing, steps_to_go, HasNotLoaded, StartsWithin}
 use Rattle.iox_lanes_threads_ports.specs.Paces.{back_at, steps_in, taken_in, PublisherEnds, StaysInside, PublisherRuns}
 use Rattle.iox_lanes_threads_ports.specs.Courses.PublisherGoes.{stays as publisher_stays, goes as publisher_goes}
 use Rattle.iox_lanes_threads_ports.specs.Courses.SubscriberGoes.{stays as subscriber_stays, goes as subscriber_goes}
@@ -37,6 +38,7 @@ use Rattle.iox_lanes_threads_ports.proofs.Connections.{few_connections, small_co
 use Rattle.iox_lanes_threads_ports.proofs.Pacing.{TooMany, placed, some_to_go, steps_fall}
 use Rattle.iox_lanes_threads_ports.proofs.PublisherSteps as publishers
 use Rattle.iox_lanes_threads_ports.proofs.SubscriberSteps as subscribers
+use Rattle.iox_lanes_threads_ports.proofs.Swept.{few_taken}
 
 -- a port under way, with a seat of its own
 pub record SeatIs (p : Port) (me : Me ℕ View) : Type 0 where
@@ -211,12 +213,24 @@ publisher_stops most made p lane me now me' now' (Some a) few run step answers e
 
 -- and one that made all the steps that it may
 pub publisher_stays_inside : (most : ℕ) (p : Port) (lane : PublisherLaneState) (q : Port) (now : PublisherLaneState)
-    → Paced most most p lane q now → StaysInside most p lane q now
-publisher_stays_inside most p lane q now run = elim run.pace [
+    → PublisherStands p lane → HasNotLoaded lane.port.call → Paced most most p lane q now → StaysInside most p lane q now
+publisher_stays_inside most p lane q now stands first run = elim run.pace [
   | inl few ↦ let some = some_to_go p.service.sizes (p.service.sizes.completion_cells + 1) p.service.sizes.connections run.words
       (taken_in run.goes) now.port.call run.going in absurd (omega (arith, few, some))
-  | inr many ↦ let more = many.more in record
-      { goes = run.goes; all = run.all; place = many.place; route = many.route; found = many.found; more = omega (arith, more) }
+  | inr many ↦
+      let more = many.more in
+      record {
+        goes = run.goes;
+        all = run.all;
+        place = many.place;
+        route = many.route;
+        found = many.found;
+        more = omega (arith, more);
+        late = λ early.
+            let few = few_taken p lane q now run.goes stands first early many.place
+            (slice_get_within lane.port.routes many.place many.route many.found) in
+            absurd (omega (arith, more, few));
+      }
 ]
 
 -- a subscriber under way

@@ -9,6 +9,7 @@ pub mod RingCalls
 pub mod SlotParts
 pub mod Pace
 pub mod Paces
+pub mod GivenBack
 pub mod Counts
 pub use Rattle.iox_lanes_threads_rule.specs as LanesThreadsRule
 pub mod ReadLaw

@@ -1,5 +1,6 @@
 -- How many steps a publisher's call in threads may still make, if it takes no more than so many samples back at one connection.
-use Rattle.std.specs.Prelude.{ℕ, ◌+◌, ◌-◌, ◌*◌, ◌≤◌}
+use Rattle.std.specs.Prelude.{ℕ, ◌≡◌, ◌+◌, ◌-◌, ◌*◌, ◌≤◌}
+use Rattle.iox_lanes_machine.specs.QueuesSteps.declared.rings.refusing.pop.Pop.TheVariants.{Begun}
 use Rattle.iox_lanes_machine.specs.LanesBase.declared.words.sizes.TableSizes.{TableSizes}
 use Rattle.iox_lanes_machine.specs.LanesBase.declared.calls.publisher.PublisherCall.{PublisherCall}
 use Rattle.iox_lanes_machine.specs.LanesBase.declared.calls.publisher.PublisherCall.TheVariants as publishing
@@ -42,10 +43,25 @@ steps_to_go most connections words taken (publishing.Pushing slot at route push 
 steps_to_go most connections words taken (publishing.Sent slot delivery) = 1
 steps_to_go most connections words taken (publishing.Dropping slot) = 1
 
+-- a call that takes back has loaded no word of a connection yet
+abbrev pub HasNotLoaded : PublisherCall → Type 0
+HasNotLoaded publishing.Idle = Unit {0}
+HasNotLoaded (publishing.LoanReclaims at route pop) = pop ≡ Begun
+HasNotLoaded publishing.Lending = Unit {0}
+HasNotLoaded (publishing.Writing slot word value) = Unit {0}
+HasNotLoaded (publishing.Written slot) = Unit {0}
+HasNotLoaded (publishing.Heading slot word value) = Unit {0}
+HasNotLoaded (publishing.Remembering slot) = Unit {0}
+HasNotLoaded (publishing.SendReclaims slot at route pop) = pop ≡ Begun
+HasNotLoaded (publishing.Pushing slot at route push delivery) = Unit {0}
+HasNotLoaded (publishing.Sent slot delivery) = Unit {0}
+HasNotLoaded (publishing.Dropping slot) = Unit {0}
+
 -- a call that begins makes so many steps at most
 pub record StartsWithin (sizes : TableSizes) (most : ℕ) (c : PublisherCall) : Type 0 where
   pub words : ℕ
   pub going : IsGoing sizes words c
+  pub first : HasNotLoaded c
   pub few : steps_to_go (sizes.completion_cells + 1) sizes.connections words (λ place. 0) c ≤ most
 
 -- a loan, a write or a send has so many steps at most

@@ -1,12 +1,16 @@
 -- How many steps a publisher's call makes, and how it ends.
 use Rattle.std.specs.Prelude.{ℕ, ◌≡◌, ◌+◌, ◌*◌, ◌<◌, ◌==◌, if◌then◌else◌, true, slice_get, Option, None, Some}
 use Rattle.iox_lanes_machine.specs.LanesBase.declared.words.sizes.TableSizes.{TableSizes}
-use Rattle.iox_lanes_machine.specs.LanesBase.Publishing.{publisher_is_over, publisher_change}
+use Rattle.iox_lanes_machine.specs.LanesBase.Publishing.{publisher_next, publisher_is_over, publisher_change}
 use Rattle.iox_lanes_machine.specs.LanesBase.declared.calls.publisher.PublisherChange.{PublisherChange}
 use Rattle.iox_lanes_machine.specs.LanesBase.declared.calls.publisher.PublisherChange.TheVariants as change
 use Rattle.iox_lanes_machine.specs.LanesBase.declared.calls.route.Route.{Route}
 use Rattle.iox_lanes_machine.specs.LanesParties.Parties.{PublisherLaneState, publisher_after, publisher_answer}
 use Rattle.iox_lanes_machine.specs.LanesParties.declared.call.Answer.{Answer}
+use Rattle.iox_lanes_machine.specs.LanesBase.declared.words.access.SharedAccess.{SharedAccess}
+use Rattle.iox_lanes_machine.specs.LanesBase.declared.words.access.SharedAccess.TheVariants.{Load, Store, Exchange, Local}
+use Rattle.iox_lanes_threads_rule.specs.Acts.{ToldBy}
+use Rattle.iox_lanes_threads_rule.specs.Lanes.{IsEarly, as_table}
 use Rattle.iox_lanes_threads_rule.specs.declared.view.Port.{Port}
 use Rattle.iox_lanes_threads_ports.specs.Courses.{PublisherGoes}
 use Rattle.iox_lanes_threads_ports.specs.Courses.PublisherGoes.{stays, goes}
@@ -60,8 +64,22 @@ pub record PublisherEnds (most : ℕ) (p : Port) (lane : PublisherLaneState) (q 
   pub after : now ≡ publisher_after 0 last
   pub answers : publisher_answer last.fails last.port.call now.port.book.answer ≡ Some answer
 
--- So many steps of a publisher's call, without its last. That is so only where one connection gave back more samples in this one
--- call than its ring of samples given back has cells.
+-- no write position stood at 2^64 - 1 when a load got its answer; of other accesses nothing is asked
+abbrev pub IsLoadedEarly : (p : Port) (access : SharedAccess) (answer : ℕ) → ToldBy p access answer → Type 0
+IsLoadedEarly p (Load w) answer told = IsEarly (as_table p.service told.1.words)
+IsLoadedEarly p (Store w new) answer told = Unit {0}
+IsLoadedEarly p (Exchange w old new) answer told = Unit {0}
+IsLoadedEarly p Local answer told = Unit {0}
+
+-- so it was at each load of these steps of a publisher
+abbrev pub AreLoadedEarly : {p : Port} {lane : PublisherLaneState} {q : Port} {now : PublisherLaneState} → PublisherGoes p lane q now
+    → Type 0
+AreLoadedEarly stays = Unit {0}
+AreLoadedEarly (goes q now answer before told) =
+    AreLoadedEarly before × IsLoadedEarly q (publisher_next now.port.call) answer told
+
+-- So many steps of a publisher's call, without its last. That is so only where some write position stood at 2^64 - 1 when one of
+-- them loaded a word, and one connection gave back more samples in this one call than its ring of samples given back has cells.
 pub record StaysInside (most : ℕ) (p : Port) (lane : PublisherLaneState) (q : Port) (now : PublisherLaneState) : Type 0 where
   pub goes : PublisherGoes p lane q now
   pub all : steps_in goes ≡ most
@@ -69,6 +87,7 @@ pub record StaysInside (most : ℕ) (p : Port) (lane : PublisherLaneState) (q : 
   pub route : Route
   pub found : slice_get lane.port.routes place ≡ Some route
   pub more : p.service.sizes.completion_cells < taken_in goes place
+  pub late : AreLoadedEarly goes → ⊥
 
 -- the steps of a publisher's call: with an answer to its end, and else so many to somewhere inside it
 abbrev pub PublisherRuns : ℕ → Port → PublisherLaneState → Port → PublisherLaneState → Option Answer → Type 0

@@ -1,5 +1,6 @@
 //! Each stage of a call knows what its next step needs: proved of the definitions that the contracts of ports name.
 ghost use Rattle.iox_lanes_threads_ports.specs.Counts.{PublishersCount, SubscribersCount};
+ghost use Rattle.iox_lanes_threads_ports.specs.GivenBack.{NoMoreComesBack};
 ghost use Rattle.iox_lanes_threads_ports.specs.Holding.{HeldReadsStay, HeldReadsAgree, HeldReadsAreKnown};
 ghost use Rattle.iox_lanes_threads_ports.specs.OneValue.{ReadsGiveOneValue};
 ghost use Rattle.iox_lanes_threads_ports.specs.Ports.{PublishersGoOn, SubscribersGoOn};
@@ -24,6 +25,12 @@ pub fn publishers_count()
 /// So does a subscriber's.
 pub fn subscribers_count()
     ensures { SubscribersCount }
+{}
+
+/// Behind any steps of a call that begins, no more samples were taken back at a connection than its ring of samples given back has
+/// cells, as long as no write position stood at 2^64 - 1 when these steps loaded a word. So a loan, a write or a send that fits answers.
+pub fn no_more_comes_back()
+    ensures { NoMoreComesBack }
 {}
 
 /// What a read lent of a sample is what the words of its slot hold, and what the publisher knows of them, as long as the subscriber's

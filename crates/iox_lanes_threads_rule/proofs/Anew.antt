@@ -18,6 +18,7 @@ use Rattle.iox_lanes_machine.specs.LedgerUses.{one_if, count, refers_to}
 use Rattle.iox_lanes_machine.specs.Links.{LinkState}
 use Rattle.iox_lanes_machine.specs.Returns.{AreReturning}
 use Rattle.iox_lanes_machine.specs.Rings.{ring_in, waiting, push_on, pop_on, sent_word}
+use Rattle.iox_lanes_machine.specs.Rooms.{RoomsKept}
 use Rattle.iox_lanes_machine.specs.Together.{HoldTogether}
 use Rattle.iox_lanes_machine.specs.Uses.{aside_at, given_back, IsBalanced, PublisherUses}
 use Rattle.iox_lanes_machine.specs.World.{World, publisher_stage, subscriber_stage}
@@ -128,3 +129,13 @@ module _ (m : World) (early : IsEarly m.table) (k : HoldTogether m) where
     reads = record { each = k.reads.each; all = k.reads.all; rooms = k.reads.rooms };
     held = k.held;
   }
+
+-- the room at connections has no moments
+pub rooms_anew : (m : World) → RoomsKept m → RoomsKept (retimed m)
+rooms_anew m r = record {
+  publishers = r.publishers;
+  subscribers = r.subscribers;
+  receivers = r.receivers;
+  cells = r.cells;
+  releases = r.releases;
+}

@@ -13,6 +13,7 @@ use Rattle.iox_lanes_machine.specs.LanesParties.declared.call.Party.{Party}
 use Rattle.iox_lanes_machine.specs.LanesParties.declared.call.Party.TheVariants.{Publisher, Subscriber}
 use Rattle.iox_lanes_machine.specs.Apart.{MayChange}
 use Rattle.iox_lanes_machine.specs.LedgerUses.{refers_to}
+use Rattle.iox_lanes_machine.specs.Rooms.{RoomsKept}
 use Rattle.iox_lanes_machine.specs.Slots.{IsLoanAt}
 use Rattle.iox_lanes_machine.specs.Together.{HoldTogether}
 use Rattle.iox_lanes_machine.specs.World.{World}
@@ -66,12 +67,13 @@ unheld_before m n place slot went loan (Subscriber other) (party.Subscriber lane
     (has.0, ap (λ (xs : List SubscriberLaneState). slice_get xs other) went.others.0 ∙ has.1) sample
 
 -- a party that stores a word of a slot next
-storing : (m : World) (name : Party) (own : PortParty) (slot new : ℕ) (word : SlotWord) (after : ℕ → PortParty) → HoldTogether m
-    → m.moments < 2 ^ 63 → IsEarly m.table → HasParty m name own → MakesNext own (Store (Slot slot word) new) after
+storing : (m : World) (name : Party) (own : PortParty) (slot new : ℕ) (word : SlotWord) (after : ℕ → PortParty)
+    → HoldTogether m → RoomsKept m → m.moments < 2 ^ 63 → IsEarly m.table → HasParty m name own
+    → MakesNext own (Store (Slot slot word) new) after
     → IsLoneLoanOf (after 0) slot
     × ((other : Party) (theirs : PortParty) → HasParty m other theirs → IsSampleOf theirs slot → ⊥)
-storing m (Publisher place) (party.Publisher lane) slot new word after k few early has acts =
-    let r = publisher_reaches m place lane acts.now k few early has acts.comes in
+storing m (Publisher place) (party.Publisher lane) slot new word after k rooms few early has acts =
+    let r = publisher_reaches m place lane acts.now k rooms few early has acts.comes in
     let now : PublisherLaneState = acts.now in
     let touched : MayChange (publisher_next now.port.call) (Slot slot word)
     = subst (λ (a : SharedAccess). MayChange a (Slot slot word)) (sym acts.next) refl in
@@ -88,9 +90,9 @@ storing m (Publisher place) (party.Publisher lane) slot new word after k few ear
       subst (λ (x : PortParty). IsLoneLoanOf x slot) (sym (acts.after_is 0)) lone,
       (λ other theirs there sample. unheld_before m r.0 place slot r.1 loan other theirs there sample),
     )
-storing m (Publisher place) (party.Subscriber lane) slot new word after k few early has acts = absurd has
-storing m (Subscriber place) (party.Publisher lane) slot new word after k few early has acts = absurd has
-storing m (Subscriber place) (party.Subscriber lane) slot new word after k few early has acts =
+storing m (Publisher place) (party.Subscriber lane) slot new word after k rooms few early has acts = absurd has
+storing m (Subscriber place) (party.Publisher lane) slot new word after k rooms few early has acts = absurd has
+storing m (Subscriber place) (party.Subscriber lane) slot new word after k rooms few early has acts =
     absurd (subscriber_touches acts.now.port.call slot word
     (subst (λ (a : SharedAccess). MayChange a (Slot slot word)) (sym acts.next) refl))
 
@@ -98,5 +100,5 @@ pub slot_stores_are_of_loans : SlotStoresAreOfLoans
 slot_stores_are_of_loans s words ports p slot word new after back early at next =
     let b = back early in
     let same : IsEarly (b.lanes).table = subst IsEarly (sym b.table) early in
-    let t = storing b.lanes p.name p.party slot new word after b.together b.few same (b.ports p.number p at) next in
+    let t = storing b.lanes p.name p.party slot new word after b.together b.rooms b.few same (b.ports p.number p at) next in
     (t.0, (λ number q there sample. t.1 q.name q.party (b.ports number q there) sample))

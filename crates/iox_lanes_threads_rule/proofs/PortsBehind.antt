@@ -25,6 +25,7 @@ use Rattle.iox_lanes_machine.specs.LanesParties.Parties.{PublisherLaneState, Sub
 use Rattle.iox_lanes_machine.specs.LanesParties.declared.call.Party.{Party}
 use Rattle.iox_lanes_machine.specs.LanesParties.declared.call.Party.TheVariants.{Publisher, Subscriber}
 use Rattle.iox_lanes_machine.specs.Apart.{OthersStay}
+use Rattle.iox_lanes_machine.specs.Rooms.{RoomsKept}
 use Rattle.iox_lanes_machine.specs.Together.{HoldTogether}
 use Rattle.iox_lanes_machine.specs.World.{World}
 use Rattle.iox_lanes_threads_rule.specs.Lanes.{MakesNext, IsEarly, HasPublisher, HasSubscriber, HasParty, IsSeen, IsBacked}
@@ -76,28 +77,28 @@ MadeAccess m who access own = (n : World) × AfterAccess m who access n × HasPa
 
 -- the lanes go on as a party does
 party_goes : (m : World) (who : Party) (own : PortParty) (access : SharedAccess) (after : ℕ → PortParty) → HoldTogether m
-    → m.moments < 2 ^ 63 → IsEarly m.table → IsEarly (after_shared m.table access) → (access ≡ Local → ⊥)
+    → RoomsKept m → m.moments < 2 ^ 63 → IsEarly m.table → IsEarly (after_shared m.table access) → (access ≡ Local → ⊥)
     → HasParty m who own → MakesNext own access after → MadeAccess m who access (after (shared_answer m.table access))
-party_goes m (Publisher place) (party.Publisher lane) access after k few early still off has acts =
-    let r = publisher_reaches m place lane acts.now k few early has acts.comes in
+party_goes m (Publisher place) (party.Publisher lane) access after k rooms few early still off has acts =
+    let r = publisher_reaches m place lane acts.now k rooms few early has acts.comes in
     let busy = busy_publisher acts.now.port.call access acts.next off in
     let later : IsEarly (after_shared (r.0).table access)
     = subst (λ (t : TableWords). IsEarly (after_shared t access)) (sym (r.1).table) still in
-    let t = publisher_steps r.0 place acts.now access (r.1).together (r.1).few r.2 busy acts.next later in
+    let t = publisher_steps r.0 place acts.now access (r.1).together (r.1).rooms (r.1).few r.2 busy acts.next later in
     let own : HasPublisher t.0 place (publisher_after (shared_answer m.table access) acts.now)
     = subst (λ (b : TableWords). HasPublisher t.0 place (publisher_after (shared_answer b access) acts.now)) (r.1).table t.2 in (
       t.0,
       went_on m r.0 t.0 (Publisher place) access r.1 t.1,
       subst (HasParty t.0 (Publisher place)) (sym (acts.after_is (shared_answer m.table access))) own,
     )
-party_goes m (Publisher place) (party.Subscriber lane) access after k few early still off has acts = absurd has
-party_goes m (Subscriber place) (party.Publisher lane) access after k few early still off has acts = absurd has
-party_goes m (Subscriber place) (party.Subscriber lane) access after k few early still off has acts =
-    let r = subscriber_reaches m place lane acts.now k few early has acts.comes in
+party_goes m (Publisher place) (party.Subscriber lane) access after k rooms few early still off has acts = absurd has
+party_goes m (Subscriber place) (party.Publisher lane) access after k rooms few early still off has acts = absurd has
+party_goes m (Subscriber place) (party.Subscriber lane) access after k rooms few early still off has acts =
+    let r = subscriber_reaches m place lane acts.now k rooms few early has acts.comes in
     let busy = busy_subscriber acts.now.port.call access acts.next off in
     let later : IsEarly (after_shared (r.0).table access)
     = subst (λ (t : TableWords). IsEarly (after_shared t access)) (sym (r.1).table) still in
-    let t = subscriber_steps r.0 place acts.now access (r.1).together (r.1).few r.2 busy acts.next later in
+    let t = subscriber_steps r.0 place acts.now access (r.1).together (r.1).rooms (r.1).few r.2 busy acts.next later in
     let own : HasSubscriber t.0 place (subscriber_after (shared_answer m.table access) acts.now)
     = subst (λ (b : TableWords). HasSubscriber t.0 place (subscriber_after (shared_answer b access) acts.now)) (r.1).table t.2 in (
       t.0,
@@ -159,12 +160,13 @@ module _ (s : Service) (words now : List ℕ) (ports : List Port) (p : Port) (se
       let same : IsEarly (b.lanes).table = subst IsEarly (sym b.table) was in
       let still : IsEarly (after_shared (b.lanes).table access)
       = subst (λ (t : TableWords). IsEarly (after_shared t access)) (sym b.table) (subst IsEarly (sym table) early) in
-      let made = party_goes b.lanes p.name p.party access after b.together b.few same still off (b.ports p.number p at) next in
+      let made = party_goes b.lanes p.name p.party access after b.together b.rooms b.few same still off (b.ports p.number p at) next in
       let told : shared_answer (b.lanes).table access ≡ found = ap (λ (t : TableWords). shared_answer t access) b.table ∙ answer in
       let own : HasParty made.0 p.name (after found) = subst (λ (n : ℕ). HasParty made.0 p.name (after n)) told made.2 in
       record {
         lanes = made.0;
         together = (made.1).together;
+        rooms = (made.1).rooms;
         few = (made.1).few;
         table = (made.1).table ∙ ap (λ (t : TableWords). after_shared t access) b.table ∙ table;
         lines = b.lines ∙ ap (map line_of) (sym (made.1).links);

@@ -13,6 +13,7 @@ use Rattle.iox_lanes_machine.specs.LanesParties.declared.call.Call.{Call}
 use Rattle.iox_lanes_machine.specs.LanesParties.declared.call.Call.TheVariants as call
 use Rattle.iox_lanes_machine.specs.LanesParties.declared.call.Move.TheVariants.{Begin, GoOn}
 use Rattle.iox_lanes_machine.specs.LanesParties.declared.call.Party.TheVariants.{Publisher}
+use Rattle.iox_lanes_machine.specs.Rooms.{RoomsKept}
 use Rattle.iox_lanes_machine.specs.Together.{HoldTogether}
 use Rattle.iox_lanes_machine.specs.World.{World, fits, happens, placed, publisher_fits_at, publisher_begins, publisher_goes_on}
 use Rattle.iox_lanes_machine.proofs.Within.{set_same}
@@ -82,15 +83,15 @@ gone m place first now e = (
 )
 
 -- the next access of a publisher
-pub publisher_steps : (m : World) (place : ℕ) (now : PublisherLaneState) (access : SharedAccess) → HoldTogether m → m.moments < 2 ^ 63
-    → HasPublisher m place now → publisher_is_idle now.port.call ≡ false → publisher_next now.port.call ≡ access
+pub publisher_steps : (m : World) (place : ℕ) (now : PublisherLaneState) (access : SharedAccess) → HoldTogether m → RoomsKept m
+    → m.moments < 2 ^ 63 → HasPublisher m place now → publisher_is_idle now.port.call ≡ false → publisher_next now.port.call ≡ access
     → IsEarly (after_shared m.table access)
     → (n : World) × AfterAccess m (Publisher place) access n × HasPublisher n place (publisher_after (shared_answer m.table access) now)
-publisher_steps m place now access k few has busy next early =
+publisher_steps m place now access k rooms few has busy next early =
     let g = gone m place has.0 now has.1 in
     let fit : fits m (Publisher place) GoOn ≡ true = g.0 ∙ ap not busy in (
       retimed (happens m (Publisher place) GoOn),
-      stepped_anew m (Publisher place) GoOn access fit few k (g.1 ∙ ap (after_shared m.table) next) early,
+      stepped_anew m (Publisher place) GoOn access fit few k rooms (g.1 ∙ ap (after_shared m.table) next) early,
       subst (λ (b : SharedAccess). HasPublisher (happens m (Publisher place) GoOn) place (publisher_after (shared_answer m.table b) now))
           next
           g.2,
@@ -114,7 +115,7 @@ reach_begin m place moment now c fit early r =
     let still : IsEarly (after_shared n.table Local) = subst IsEarly (sym (r.1).table) early in (
       retimed (happens n (Publisher place) (Begin c)),
       went_on m n (retimed (happens n (Publisher place) (Begin c))) (Publisher place) Local r.1
-          (stepped_anew n (Publisher place) (Begin c) Local fits' (r.1).few (r.1).together table still),
+          (stepped_anew n (Publisher place) (Begin c) Local fits' (r.1).few (r.1).together (r.1).rooms table still),
       (
         b.0,
         ap (λ (at : Option PublisherLaneState). slice_get (publisher_begins n place c at).publishers place) e
@@ -129,15 +130,15 @@ reach_step : (m : World) (place : ℕ) (now : PublisherLaneState) → publisher_
 reach_step m place now local early r true h
     = (r.0, r.1, subst (HasPublisher r.0 place) (sym (idle_publisher now now.port.call refl h)) r.2)
 reach_step m place now local early r false h =
-    let s = publisher_steps r.0 place now Local (r.1).together (r.1).few r.2 h local (subst IsEarly (sym (r.1).table) early) in
+    let s = publisher_steps r.0 place now Local (r.1).together (r.1).rooms (r.1).few r.2 h local (subst IsEarly (sym (r.1).table) early) in
     (s.0, went_on m r.0 s.0 (Publisher place) Local r.1 s.1, s.2)
 
 -- so lanes go on to where a publisher comes
-pub publisher_reaches : (m : World) (place : ℕ) (lane now : PublisherLaneState) → HoldTogether m → m.moments < 2 ^ 63 → IsEarly m.table
-    → HasPublisher m place lane → PublisherLeads lane now
+pub publisher_reaches : (m : World) (place : ℕ) (lane now : PublisherLaneState) → HoldTogether m → RoomsKept m → m.moments < 2 ^ 63
+    → IsEarly m.table → HasPublisher m place lane → PublisherLeads lane now
     → (n : World) × AfterAccess m (Publisher place) Local n × HasPublisher n place now
-publisher_reaches m place lane _ k few early has stays = (m, went_nowhere m (Publisher place) k few, has)
-publisher_reaches m place lane _ k few early has (begins now moment c run fit) =
-    reach_begin m place moment now c fit early (publisher_reaches m place lane now k few early has run)
-publisher_reaches m place lane _ k few early has (goes now run local) =
-    reach_step m place now local early (publisher_reaches m place lane now k few early has run) (publisher_is_idle now.port.call) refl
+publisher_reaches m place lane _ k rooms few early has stays = (m, went_nowhere m (Publisher place) k rooms few, has)
+publisher_reaches m place lane _ k rooms few early has (begins now moment c run fit) =
+    reach_begin m place moment now c fit early (publisher_reaches m place lane now k rooms few early has run)
+publisher_reaches m place lane _ k rooms few early has (goes now run local) =
+    reach_step m place now local early (publisher_reaches m place lane now k rooms few early has run) (publisher_is_idle now.port.call) refl

@@ -14,6 +14,7 @@ use Rattle.iox_lanes_machine.specs.LanesParties.declared.call.Call.{Call}
 use Rattle.iox_lanes_machine.specs.LanesParties.declared.call.Call.TheVariants as call
 use Rattle.iox_lanes_machine.specs.LanesParties.declared.call.Move.TheVariants.{Begin, GoOn}
 use Rattle.iox_lanes_machine.specs.LanesParties.declared.call.Party.TheVariants.{Subscriber}
+use Rattle.iox_lanes_machine.specs.Rooms.{RoomsKept}
 use Rattle.iox_lanes_machine.specs.Together.{HoldTogether}
 use Rattle.iox_lanes_machine.specs.World.{World, fits, happens, placed, subscriber_fits_at, subscriber_begins, subscriber_goes_on}
 use Rattle.iox_lanes_machine.proofs.Within.{set_same}
@@ -93,15 +94,15 @@ gone m place first now e = (
 )
 
 -- the next access of a subscriber
-pub subscriber_steps : (m : World) (place : ℕ) (now : SubscriberLaneState) (access : SharedAccess) → HoldTogether m → m.moments < 2 ^ 63
-    → HasSubscriber m place now → subscriber_is_idle now.port.call ≡ false → subscriber_next now.port.call ≡ access
+pub subscriber_steps : (m : World) (place : ℕ) (now : SubscriberLaneState) (access : SharedAccess) → HoldTogether m → RoomsKept m
+    → m.moments < 2 ^ 63 → HasSubscriber m place now → subscriber_is_idle now.port.call ≡ false → subscriber_next now.port.call ≡ access
     → IsEarly (after_shared m.table access)
     → (n : World) × AfterAccess m (Subscriber place) access n × HasSubscriber n place (subscriber_after (shared_answer m.table access) now)
-subscriber_steps m place now access k few has busy next early =
+subscriber_steps m place now access k rooms few has busy next early =
     let g = gone m place has.0 now has.1 in
     let fit : fits m (Subscriber place) GoOn ≡ true = g.0 ∙ ap not busy in (
       retimed (happens m (Subscriber place) GoOn),
-      stepped_anew m (Subscriber place) GoOn access fit few k (g.1 ∙ ap (after_shared m.table) next) early,
+      stepped_anew m (Subscriber place) GoOn access fit few k rooms (g.1 ∙ ap (after_shared m.table) next) early,
       subst (λ (b : SharedAccess). HasSubscriber (happens m (Subscriber place) GoOn) place
           (subscriber_after (shared_answer m.table b) now)) next
           g.2,
@@ -125,7 +126,7 @@ reach_begin m place moment now c fit early r =
     let still : IsEarly (after_shared n.table Local) = subst IsEarly (sym (r.1).table) early in (
       retimed (happens n (Subscriber place) (Begin c)),
       went_on m n (retimed (happens n (Subscriber place) (Begin c))) (Subscriber place) Local r.1
-          (stepped_anew n (Subscriber place) (Begin c) Local fits' (r.1).few (r.1).together table still),
+          (stepped_anew n (Subscriber place) (Begin c) Local fits' (r.1).few (r.1).together (r.1).rooms table still),
       (
         b.0,
         ap (λ (at : Option SubscriberLaneState). slice_get (subscriber_begins n place c at).subscribers place) e
@@ -140,15 +141,16 @@ reach_step : (m : World) (place : ℕ) (now : SubscriberLaneState) → subscribe
 reach_step m place now local early r true h
     = (r.0, r.1, subst (HasSubscriber r.0 place) (sym (idle_subscriber now now.port.call refl h)) r.2)
 reach_step m place now local early r false h =
-    let s = subscriber_steps r.0 place now Local (r.1).together (r.1).few r.2 h local (subst IsEarly (sym (r.1).table) early) in
+    let s = subscriber_steps r.0 place now Local (r.1).together (r.1).rooms (r.1).few r.2 h local (subst IsEarly (sym (r.1).table) early) in
     (s.0, went_on m r.0 s.0 (Subscriber place) Local r.1 s.1, s.2)
 
 -- so lanes go on to where a subscriber comes
-pub subscriber_reaches : (m : World) (place : ℕ) (lane now : SubscriberLaneState) → HoldTogether m → m.moments < 2 ^ 63 → IsEarly m.table
-    → HasSubscriber m place lane → SubscriberLeads lane now
+pub subscriber_reaches : (m : World) (place : ℕ) (lane now : SubscriberLaneState) → HoldTogether m → RoomsKept m → m.moments < 2 ^ 63
+    → IsEarly m.table → HasSubscriber m place lane → SubscriberLeads lane now
     → (n : World) × AfterAccess m (Subscriber place) Local n × HasSubscriber n place now
-subscriber_reaches m place lane _ k few early has stays = (m, went_nowhere m (Subscriber place) k few, has)
-subscriber_reaches m place lane _ k few early has (begins now moment c run fit) =
-    reach_begin m place moment now c fit early (subscriber_reaches m place lane now k few early has run)
-subscriber_reaches m place lane _ k few early has (goes now run local) =
-    reach_step m place now local early (subscriber_reaches m place lane now k few early has run) (subscriber_is_idle now.port.call) refl
+subscriber_reaches m place lane _ k rooms few early has stays = (m, went_nowhere m (Subscriber place) k rooms few, has)
+subscriber_reaches m place lane _ k rooms few early has (begins now moment c run fit) =
+    reach_begin m place moment now c fit early (subscriber_reaches m place lane now k rooms few early has run)
+subscriber_reaches m place lane _ k rooms few early has (goes now run local) =
+    reach_step m place now local early (subscriber_reaches m place lane now k rooms few early has run)
+    (subscriber_is_idle now.port.call) refl

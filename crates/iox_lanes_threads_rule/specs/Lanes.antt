@@ -20,6 +20,7 @@ use Rattle.iox_lanes_machine.specs.LanesParties.declared.call.Move.TheVariants.{
 use Rattle.iox_lanes_machine.specs.LanesParties.declared.call.Party.{Party}
 use Rattle.iox_lanes_machine.specs.LanesParties.declared.call.Party.TheVariants.{Publisher, Subscriber}
 use Rattle.iox_lanes_machine.specs.Links.{LinkState}
+use Rattle.iox_lanes_machine.specs.Rooms.{RoomsKept}
 use Rattle.iox_lanes_machine.specs.Together.{HoldTogether}
 use Rattle.iox_lanes_machine.specs.World.{World}
 use Rattle.iox_lanes_threads_rule.specs.Rule.{held}
@@ -109,11 +110,13 @@ pub record IsSeen (s : Service) (words : List ℕ) (p : Port) (w : SharedWord) :
 abbrev pub line_of : LinkState → Line
 line_of link = record { publisher = link.publisher; subscriber = link.subscriber; kind = link.kind; limit = link.limit }
 
--- Some lanes that hold together have these words and connections, and each port as its last step on a shared word left it. What a
--- port has loaded of a sample that it has is what it knows of it.
+-- Some lanes that hold together, with room at each connection for all that may be given back there, have these words and
+-- connections, and each port as its last step on a shared word left it. What a port has loaded of a sample that it has is what it
+-- knows of it.
 pub record StandBehind (s : Service) (words : List ℕ) (all : List Port) : Type 0 where
   pub lanes : World
   pub together : HoldTogether lanes
+  pub rooms : RoomsKept lanes
   pub few : lanes.moments < 2 ^ 63
   pub table : lanes.table ≡ as_table s words
   pub lines : s.lines ≡ map line_of lanes.links

@@ -77,6 +77,8 @@ mod WalkSteps
 mod Linking
 mod Listed
 mod Connected
+mod Following
+mod FollowRuns
 mod Through
 mod RefusedPorts
 mod Undelivered

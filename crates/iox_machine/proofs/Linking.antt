@@ -627,12 +627,12 @@ module _ {T : Type 0} where
     boxed = λ publisher subscriber box service.
         turned-level service (with_mailbox publisher subscriber box service) refl refl (λ n. refl) (λ n. refl)
         (λ p s is. box-set p s publisher subscriber box service is);
-    turned = λ number was after service found stands connected.
+    turned = λ number was after service found stands connected seen.
         turned-level service (with_publisher number after service) refl refl
         (λ n. changed-view publisher_view number n was after service.publishers found (λ i. (stands i, connected i))) (λ n. refl)
         (λ p s is. is);
     follows = turned-follows;
-    swept = λ number was after service found stands connected.
+    swept = λ number was after service found stands connected seen again.
         turned-level service (with_subscriber number after service) refl refl (λ n. refl)
         (λ n. changed-view subscriber_view number n was after service.subscribers found (λ i. (stands i, connected i)))
         (λ p s is. is);

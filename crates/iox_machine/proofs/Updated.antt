@@ -198,7 +198,7 @@ module _ {T : Type 0} where
   -- ---- a publisher
 
   -- what welcomes leave of a service
-  abbrev Same : Service T → Service T → Type 0
+  abbrev pub Same : Service T → Service T → Type 0
   Same base service =
       (service.publishers ≡ base.publishers) × (service.subscribers ≡ base.subscribers)
       × (service.publisher_list ≡ base.publisher_list) × (service.subscriber_list ≡ base.subscriber_list)
@@ -267,7 +267,7 @@ module _ {T : Type 0} where
       here true (Some box) is = absurd (true≢false is)
       here false o is = is
 
-  publisher-followed : (number : ℕ) (publisher : Publisher T) (old : Service T) (after : Publisher T) (new : Service T)
+  pub publisher-followed : (number : ℕ) (publisher : Publisher T) (old : Service T) (after : Publisher T) (new : Service T)
       → publishing.Follows number publisher old after new
       → Same (with_publisher number after old) new × (after.stands ≡ publisher.stands) × (after.seen ≡ old.subscriber_list.changes)
       × (length after.connected ≡ length old.subscriber_list.places)
@@ -551,7 +551,7 @@ module _ {T : Type 0} where
           (fold-keeps (StaysAt other number box) (λ it publisher. connect limit publisher number it)
           (λ it publisher there. connect-stays limit number publisher other box it there) publishers service is ∙ sym is) ∙ holds
 
-  subscriber-followed : (buffer number : ℕ) (subscriber : Subscriber) (old : Service T) (after : Subscriber) (new : Service T)
+  pub subscriber-followed : (buffer number : ℕ) (subscriber : Subscriber) (old : Service T) (after : Subscriber) (new : Service T)
       → subscribing.Follows buffer number subscriber old after new
       → Same (with_subscriber number after old) new × (after.stands ≡ subscriber.stands) × (after.seen ≡ old.publisher_list.changes)
       × (after.degradation ≡ subscriber.degradation)

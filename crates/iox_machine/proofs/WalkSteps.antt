@@ -349,7 +349,7 @@ module _ {T : Type 0} where
           (at-blocked-walks publisher (λ (one : Publisher T) (send : Send T). GoesOn choices publisher one
           (record send { retries = send.retries + 1; elapsed = nanoseconds })) old answer new
           (λ one send service after found did. walks-goes-on R walks choices publisher one one
-          (record send { retries = send.retries + 1; elapsed = nanoseconds }) service answer after found refl refl did) h)
+          (record send { retries = send.retries + 1; elapsed = nanoseconds }) service answer after found refl refl refl did) h)
       step-comes (command.GiveUp publisher) old answer new h =
           ports-come old answer new
           (at-blocked-walks publisher
@@ -357,7 +357,7 @@ module _ {T : Type 0} where
           (answered ≡ reply.Delivered send.delivered)
           × (after ≡ with_publisher publisher (record one { blocked = None }) service)) old answer new
           (λ one send service after found did. subst (λ (it : Service T). R service it) (sym did.1)
-          (walks.turned publisher one (record one { blocked = None }) service found refl refl)) h)
+          (walks.turned publisher one (record one { blocked = None }) service found refl refl refl)) h)
       step-comes (command.Receive subscriber) old answer new h =
           ports-come old answer new
           (at-subscriber-walks choices buffer subscriber (λ failure. refusal.Receive (receive_error.ConnectionFailure failure))

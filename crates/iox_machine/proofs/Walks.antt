@@ -38,11 +38,13 @@ pub record Walks {T : Type 0} (R : Service T → Service T → Type 0) : Type 0 
   pub boxed : (publisher subscriber : ℕ) (box : Mailbox T) (service : Service T)
       → R service (with_mailbox publisher subscriber box service)
   pub turned : (number : ℕ) (was after : Publisher T) (service : Service T) → at number service.publishers ≡ Some was
-      → after.stands ≡ was.stands → after.connected ≡ was.connected → R service (with_publisher number after service)
+      → after.stands ≡ was.stands → after.connected ≡ was.connected → after.seen ≡ was.seen
+      → R service (with_publisher number after service)
   pub follows : (number : ℕ) (was : Publisher T) (service : Service T) (after : Publisher T) (new : Service T)
       → at number service.publishers ≡ Some was → publishing.Follows number was service after new → R service new
   pub swept : (number : ℕ) (was after : Subscriber) (service : Service T) → at number service.subscribers ≡ Some was
-      → after.stands ≡ was.stands → after.connected ≡ was.connected → R service (with_subscriber number after service)
+      → after.stands ≡ was.stands → after.connected ≡ was.connected → after.seen ≡ was.seen → after.again ≡ was.again
+      → R service (with_subscriber number after service)
   pub attends : (buffer number : ℕ) (was : Subscriber) (service : Service T) (after : Subscriber) (new : Service T)
       → at number service.subscribers ≡ Some was → subscribing.Follows buffer number was service after new → R service new
 
@@ -111,15 +113,15 @@ module _ {T : Type 0} (R : Service T → Service T → Type 0) (walks : Walks R)
   pub walks-goes-on : (choices : Choices T) (number : ℕ) (was publisher : Publisher T) (send : Send T) (old : Service T)
       (answer : Reply T) (new : Service T)
       → at number old.publishers ≡ Some was → publisher.stands ≡ was.stands → publisher.connected ≡ was.connected
-      → GoesOn choices number publisher send old answer new → R old new
-  walks-goes-on choices number was publisher send old answer new found stands connected h =
+      → publisher.seen ≡ was.seen → GoesOn choices number publisher send old answer new → R old new
+  walks-goes-on choices number was publisher send old answer new found stands connected seen h =
       let so = goes-on-so choices number publisher send old answer new h in
       let after : Send T × Service T = deliver number so.0 send.left send old in
       let now : Publisher T = record publisher { blocked = cond (is_some (slice_get after.0.left 0)) (Some after.0) None } in
       let on : Delivered old after.1 = walks-deliver number so.0 send.left send old in
       subst (λ (it : Service T). R old it) (sym so.1.1)
       (walks.both old after.1 (with_publisher number now after.1) on.0
-      (walks.turned number was now after.1 (ap (at number) on.1 ∙ found) stands connected))
+      (walks.turned number was now after.1 (ap (at number) on.1 ∙ found) stands connected seen))
 
   pub walks-sends : (choices : Choices T) (number : ℕ) (message : Message T) (publisher : Publisher T) (old : Service T)
       (answer : Reply T) (new : Service T)
@@ -139,11 +141,11 @@ module _ {T : Type 0} (R : Service T → Service T → Type 0) (walks : Walks R)
       begins after mid there begun =
           walks-goes-on choices number after (keeping message after mid)
           (sending message after)
-          mid answer new there refl refl begun
+          mid answer new there refl refl refl begun
 
-  -- who lends stands as before, and is connected so
+  -- who lends stands as before, is connected so, and has seen as much
   abbrev Lent : Publisher T → Publisher T → Type 0
-  Lent one after = (after.stands ≡ one.stands) × (after.connected ≡ one.connected)
+  Lent one after = (after.stands ≡ one.stands) × (after.connected ≡ one.connected) × (after.seen ≡ one.seen)
 
   lends-turned : (number count : ℕ) (one : Publisher T) (service : Service T) (refused : Option LoanError) (after : Publisher T)
       → Lends number count one service refused after → Lent one after
@@ -155,14 +157,14 @@ module _ {T : Type 0} (R : Service T → Service T → Type 0) (walks : Walks R)
         | inl w ↦ elim (by-bool (nat_lt one.room count) (LendsLonger number count one refused after)
             ((refused ≡ None) × (after ≡ record one { next = one.next + 1 })) w.1) [
               | inl k ↦ longer k.1
-              | inr k ↦ subst (Lent one) (sym k.1.1) (refl, refl)
+              | inr k ↦ subst (Lent one) (sym k.1.1) (refl, refl, refl)
             ]
-        | inr w ↦ subst (Lent one) (sym w.2.1) (refl, refl)
+        | inr w ↦ subst (Lent one) (sym w.2.1) (refl, refl, refl)
       ]
     where
       longer : LendsLonger number count one refused after → Lent one after
-      longer (inl (told, same)) = subst (Lent one) (sym same) (refl, refl)
-      longer (inr (room, allowed, few, told, same)) = subst (Lent one) (sym same) (refl, refl)
+      longer (inl (told, same)) = subst (Lent one) (sym same) (refl, refl, refl)
+      longer (inr (room, allowed, few, told, same)) = subst (Lent one) (sym same) (refl, refl, refl)
 
   pub walks-lends : (loan number count : ℕ) (value : Option T) (publisher : Publisher T) (old : Service T) (answer : Reply T)
       (new : Service T) → at number old.publishers ≡ Some publisher → LendsLoan loan number count value publisher old answer new
@@ -175,7 +177,7 @@ module _ {T : Type 0} (R : Service T → Service T → Type 0) (walks : Walks R)
       ++ (loan, record { publisher = number; number = publisher.next; values = replicate count value }) ∷ [] in
       subst (λ (it : Service T). R old it) (sym came)
       (walks.both old (with_publisher number after old) (record (with_publisher number after old) { loans = loans })
-      (walks.turned number publisher after old found kept.0 kept.1) (walks.lent loans (with_publisher number after old)))
+      (walks.turned number publisher after old found kept.0 kept.1 kept.2) (walks.lent loans (with_publisher number after old)))
 
   pub walks-puts : (choices : Choices T) (number : ℕ) (values : List T) (publisher : Publisher T) (old : Service T) (answer : Reply T)
       (new : Service T)
@@ -185,7 +187,7 @@ module _ {T : Type 0} (R : Service T → Service T → Type 0) (walks : Walks R)
   walks-puts choices number values publisher old answer new found (None, after, lent, sent) =
       let kept : Lent publisher after = lends-turned number (length values) publisher old None after lent in
       let mid : Service T = with_publisher number after old in
-      walks.both old mid new (walks.turned number publisher after old found kept.0 kept.1)
+      walks.both old mid new (walks.turned number publisher after old found kept.0 kept.1 kept.2)
       (walks-sends choices number (record { number = publisher.next; sequence = None; values = values }) after mid answer new
       (at-changed number after publisher old.publishers found) sent)
 
@@ -252,7 +254,7 @@ module _ {T : Type 0} (R : Service T → Service T → Type 0) (walks : Walks R)
       swept = with_subscriber number later old
 
       sweeps : R old swept
-      sweeps = walks.swept number subscriber later old found refl refl
+      sweeps = walks.swept number subscriber later old found refl refl refl refl
 
       received : Receives number sample subscriber old answer new → R old new
       received (None, is, (told, came)) = subst (λ (it : Service T). R old it) (sym came) sweeps

@@ -31,6 +31,7 @@ pub mod ConnectionLaws
 pub mod OpeningLaws
 pub mod RefusalLaws
 pub mod UpdateLaws
+pub mod FollowLaws
 pub mod Renaming
 pub mod Renumbering
 pub mod IndependenceLaws

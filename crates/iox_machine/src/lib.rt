@@ -14,6 +14,7 @@ ghost use Rattle.iox_machine.specs.AgreementLaws.{NodesAreAgreed, OneAgreement, 
 ghost use Rattle.iox_machine.specs.AmongLaws.{StepsAmong, UnknownIsSkipped};
 ghost use Rattle.iox_machine.specs.Choices.{Handed, chosen_by};
 ghost use Rattle.iox_machine.specs.ConnectionLaws.{ConnectedAreJoined, PairsConnectOnce, StandingAreListed};
+ghost use Rattle.iox_machine.specs.FollowLaws.{PublisherIsConnected, SubscriberIsConnected};
 ghost use Rattle.iox_machine.specs.GoingLaws.{EachIsAnswered};
 ghost use Rattle.iox_machine.specs.IndependenceLaws.{NumbersAreCountedAnew, OthersAreLeft, ServicesAreAsIfAlone};
 ghost use Rattle.iox_machine.specs.Laws.{PutAtUnknownIsSkipped, OverflowDropsTheOldest};
@@ -318,6 +319,23 @@ pub fn an_update_of_a_publisher_keeps_mailboxes<T: Default, B: Decides + Degrade
 /// their connections.
 pub fn an_update_of_a_subscriber_keeps_mailboxes<T: Default, B: Decides + Degrades, D: Degrades>()
     ensures { (handed : Handed B D) → SubscriberKeepsMailboxes (chosen_by T.is_default (λ who. B.decides who) (λ who. B.degrades who)
+        (λ who. D.degrades who) handed) }
+{}
+
+/// In every run of a new machine take a publisher that has seen all changes of the list of subscribers, as each has after an update that
+/// went well, whatever was there before it. It has as many places as that list. At each place where a subscriber is listed it is connected
+/// to that, or to none since that connection failed: when the list was this already, at some state of the run, the two had no mailbox.
+pub fn a_publisher_is_connected_as_listed<T: Default, B: Decides + Degrades, D: Degrades>()
+    ensures { (handed : Handed B D) → PublisherIsConnected (chosen_by T.is_default (λ who. B.decides who) (λ who. B.degrades who)
+        (λ who. D.degrades who) handed) }
+{}
+
+/// In every run of a new machine take a subscriber that has seen all changes of the list of publishers, as each has after an update that
+/// went well, whatever was there before it. It has as many places as that list. At each place where a publisher is listed it is connected
+/// to that, or to none since that connection failed: when the list was this already, at some state of the run, the two had no mailbox. Or
+/// it is to update again, and is connected there to another, that left.
+pub fn a_subscriber_is_connected_as_listed<T: Default, B: Decides + Degrades, D: Degrades>()
+    ensures { (handed : Handed B D) → SubscriberIsConnected (chosen_by T.is_default (λ who. B.decides who) (λ who. B.degrades who)
         (λ who. D.degrades who) handed) }
 {}
 

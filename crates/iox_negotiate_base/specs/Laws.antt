@@ -85,10 +85,12 @@ OpensOrCreatesInFourteen V = (hash : ServiceHash) (node : ℕ) (verdict : Agreem
 abbrev pub EitherLeavesNoLock : Type 0 → Type 0
 EitherLeavesNoLock V = (hash : ServiceHash) (node : ℕ) (verdict : Agreement
     → Result (Unit {0}) V) (agreed : Agreement) (refusal : Option CreateFailure)
-    (made : List Access) (result : Result Opened (OpenOrCreateFailure V)) → OpensOrCreates hash node verdict agreed refusal made result → locks_taken made ≡ locks_ended made
+    (made : List Access) (result : Result Opened (OpenOrCreateFailure V))
+    → OpensOrCreates hash node verdict agreed refusal made result → locks_taken made ≡ locks_ended made
 
 -- a refused opening or creation asks to remove each segment that it made
 abbrev pub RefusedEitherLeavesNoSegment : Type 0 → Type 0
 RefusedEitherLeavesNoSegment V = (hash : ServiceHash) (node : ℕ) (verdict : Agreement
     → Result (Unit {0}) V) (agreed : Agreement) (refusal : Option CreateFailure)
-    (made : List Access) (failure : OpenOrCreateFailure V) → OpensOrCreates hash node verdict agreed refusal made (Err failure) → segments_made made ≡ segments_removed made
+    (made : List Access) (failure : OpenOrCreateFailure V)
+    → OpensOrCreates hash node verdict agreed refusal made (Err failure) → segments_made made ≡ segments_removed made

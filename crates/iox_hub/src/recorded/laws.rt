@@ -23,9 +23,9 @@ pub fn reads_are_followed<T, B: PublisherHandlers, D: SubscriberHandler>()
         (λ handler. D.degrades handler) }
 {}
 
-/// A fixed action answers and decides as it names. So where nobody else decides for ports, as in `RecordedHub<T, U>`, this is all that calls
-/// stand on (`AreFollowed`): no two services of the names that they ask for share a hash, they and the steps that they name are fewer than
-/// 2^56, and each message that was received fits in a vector.
+/// A fixed action answers and decides as it names. So where nobody else decides for ports, as in `RecordedHub<T, U>`, this is all that
+/// calls stand on (`AreFollowed`): no two services of the names that they ask for share a hash, they and the steps that they name are
+/// fewer than 2^56, and each message that was received fits in a vector.
 pub fn fixed_actions_decide_for_calls<T>()
     ensures { DecidesForCalls T ⟦<FixedHandlers as PublisherHandlers>⟧.fixed ⟦<FixedHandlers as Degrades>⟧.degrades
         ⟦<FixedHandlers as Decides>⟧.decides ⟦<FixedDegradation as SubscriberHandler>⟧.fixed ⟦<FixedDegradation as Degrades>⟧.degrades }

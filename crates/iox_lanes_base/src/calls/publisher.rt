@@ -390,7 +390,7 @@ fn taken_back(place: u64, pop: RefusingPop) -> PublisherChange
 {
     match refusing_pop_answer(&pop) {
         Some(PopAnswer::Got(Some(slot))) => PublisherChange::TakenBack { place, slot },
-        _ => PublisherChange::Nothing,
+        Some(PopAnswer::Got(None) | PopAnswer::Saw(_)) | None => PublisherChange::Nothing,
     }
 }
 

@@ -307,7 +307,7 @@ fn borrowed_by(place: u64, pop: &Pop) -> SubscriberChange
 {
     match pop_answer(pop) {
         Some(PopAnswer::Got(Some(slot))) => SubscriberChange::Borrow { place, slot },
-        _ => SubscriberChange::Nothing,
+        Some(PopAnswer::Got(None) | PopAnswer::Saw(_)) | None => SubscriberChange::Nothing,
     }
 }
 

@@ -34,6 +34,23 @@ impl Model for RecordedLanes {
 impl RecordedLanes {
     ghost use Rattle.iox_lanes_laws.specs.Messages.{begun_messages, message_of};
     ghost use Rattle.iox_lanes_laws.specs.Recorded.{RecordsTo, RecordsRun};
+    ghost use Rattle.iox_lanes_laws.specs.RecordedSteps.{AllFollow, MakesStep};
+    ghost use Rattle.iox_lanes_machine.specs.Alone.{LoansStandAlone, UsedSlotsStay};
+    ghost use Rattle.iox_lanes_machine.specs.Apart.{StaysApart};
+    ghost use Rattle.iox_lanes_machine.specs.Calls.{CallsKeepTime};
+    ghost use Rattle.iox_lanes_machine.specs.Fixed.{StaysFixed};
+    ghost use Rattle.iox_lanes_machine.specs.Held.{ReadsWhole};
+    ghost use Rattle.iox_lanes_machine.specs.Left.{StoresLeft};
+    ghost use Rattle.iox_lanes_machine.specs.Loans.{LoansLent};
+    ghost use Rattle.iox_lanes_machine.specs.Mailboxes.{OrdersFollow};
+    ghost use Rattle.iox_lanes_machine.specs.Queues.{GivenBackInTurn};
+    ghost use Rattle.iox_lanes_machine.specs.Reads.{ReadsLie};
+    ghost use Rattle.iox_lanes_machine.specs.Receipts.{ReceiptsFollow};
+    ghost use Rattle.iox_lanes_machine.specs.Rooms.{ReleasesFollow};
+    ghost use Rattle.iox_lanes_machine.specs.Sends.{SendsFollow};
+    ghost use Rattle.iox_lanes_machine.specs.Slots.{LoansApart, SlotsStay};
+    ghost use Rattle.iox_lanes_machine.specs.Told.{Told};
+    ghost use Rattle.iox_lanes_machine.specs.WholeReads.{CameTo};
     ghost use Rattle.iox_lanes_machine.specs.LanesParties.Parties.{is_out};
     ghost use Rattle.iox_lanes_machine.specs.LanesParties.PublisherKeeping.{loan_of};
     ghost use Rattle.iox_lanes_machine.specs.World.{fits};
@@ -49,23 +66,50 @@ impl RecordedLanes {
         }
     }
 
-    /// Makes a step of the lanes, as `Lanes::step`. Where it begins a send, the message is kept behind the others, as it is then:
-    /// later stores change nothing of it. Answers `NoMemory`, with nothing changed, also where no memory is found for that.
+    /// Makes a step of the lanes, as `Lanes::step`, and says of them what that says. Where it begins a send, the message is kept behind
+    /// the others, as it is then: later stores change nothing of it. Answers `NoMemory`, with nothing changed, also where no memory is
+    /// found for that. What the laws ask of lanes (`CameTo`) is true of them again.
     pub fn step(&mut self, party: Party, step: &Move) -> Stepped
-        ensures { RecordsTo self.old party step.now result self.new }
+        ensures steps { RecordsTo self.old party step.now result self.new }
+        ensures apart { StaysApart self.old.lanes party step.now result self.new.lanes }
+        ensures told { Told self.old.lanes party step.now result self.new.lanes }
+        ensures came { CameTo self.old.lanes → CameTo self.new.lanes }
+        ensures slots { SlotsStay self.old.lanes party self.new.lanes }
+        ensures fixed { StaysFixed self.old.lanes self.new.lanes }
+        ensures uses { UsedSlotsStay self.old.lanes self.new.lanes }
+        ensures left { StoresLeft self.old.lanes self.new.lanes }
+        ensures lent { LoansLent self.old.lanes self.new.lanes }
+        ensures turns { GivenBackInTurn self.old.lanes party self.new.lanes }
+        ensures whole { ReadsWhole self.old.lanes self.new.lanes }
+        ensures orders { OrdersFollow self.new.lanes }
+        ensures receipts { ReceiptsFollow self.new.lanes }
+        ensures sends { SendsFollow self.new.lanes }
+        ensures calls { CallsKeepTime self.new.lanes }
+        ensures loans { LoansApart self.new.lanes }
+        ensures alone { LoansStandAlone self.new.lanes }
+        ensures reads { ReadsLie self.new.lanes }
+        ensures releases { ReleasesFollow self.new.lanes }
     {
-        match self.begun(party, step) {
-            Ok(Some(message)) => self.send(party, step, message),
-            Ok(None) => self.lanes.step(party, step),
-            Err(_) => Stepped::NoMemory,
-        }
+        self.make(party, step)
     }
 
     /// Makes the entries one after the other, and leaves out those that don't fit or find no memory for what they record; these
-    /// change nothing. Returns how many were made, so how many went or finished.
+    /// change nothing. Returns how many were made, so how many went or finished: where that is how many entries there are, each was
+    /// made. It says of the lanes what `Lanes::run` says, and what the laws ask of lanes (`CameTo`) is true of them again.
     pub fn run(&mut self, schedule: &[Entry]) -> usize
-        ensures { RecordsRun self.old schedule.now result self.new }
+        ensures runs { RecordsRun self.old schedule.now result self.new }
+        ensures came { CameTo self.old.lanes → CameTo self.new.lanes }
+        ensures fixed { StaysFixed self.old.lanes self.new.lanes }
+        ensures orders { OrdersFollow self.new.lanes }
+        ensures receipts { ReceiptsFollow self.new.lanes }
+        ensures sends { SendsFollow self.new.lanes }
+        ensures calls { CallsKeepTime self.new.lanes }
+        ensures loans { LoansApart self.new.lanes }
+        ensures alone { LoansStandAlone self.new.lanes }
+        ensures reads { ReadsLie self.new.lanes }
+        ensures releases { ReleasesFollow self.new.lanes }
     {
+        self.follow();
         let mut made = 0;
         let mut rest = schedule;
         while let Some((entry, tail)) = rest.split_first() {
@@ -73,6 +117,35 @@ impl RecordedLanes {
             rest = tail;
         }
         made
+    }
+
+    // Makes a step, and says all of it in one.
+    fn make(&mut self, party: Party, step: &Move) -> Stepped
+        ensures { MakesStep self.old party step.now result self.new }
+    {
+        match self.begun(party, step) {
+            Ok(Some(message)) => self.send(party, step, message),
+            Ok(None) => self.lanes.step(party, step),
+            Err(_) => self.lack(party, step),
+        }
+    }
+
+    // Makes no step, as no memory was found for the message whose send it begins.
+    fn lack(&mut self, party: Party, step: &Move) -> Stepped
+        requires fits { fits self.old.lanes party step.now ≡ true }
+        requires begins { 0 < length (begun_messages self.old.lanes party step.now) }
+        ensures { MakesStep self.old party step.now result self.new }
+    {
+        self.follow();
+        Stepped::NoMemory
+    }
+
+    // What all lanes keep, as a run of no entries says it.
+    fn follow(&mut self)
+        ensures same { self.new ≡ self.old }
+        ensures follow { AllFollow self.new.lanes }
+    {
+        self.lanes.run(&[]);
     }
 
     /// These lanes, with the messages that are found on them: what each slot holds that has a use, publisher by publisher and slot by
@@ -98,10 +171,10 @@ impl RecordedLanes {
     fn send(&mut self, party: Party, step: &Move, message: Message) -> Stepped
         requires fits { fits self.old.lanes party step.now ≡ true }
         requires begins { begun_messages self.old.lanes party step.now ≡ message ∷ [] }
-        ensures { RecordsTo self.old party step.now result self.new }
+        ensures { MakesStep self.old party step.now result self.new }
     {
         if self.messages.reserve(1).is_err() {
-            return Stepped::NoMemory;
+            return self.lack(party, step);
         }
         // The beginning of a call records nothing, so this step lacks no memory.
         let stepped = self.lanes.step(party, step);

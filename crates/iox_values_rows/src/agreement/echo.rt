@@ -1,9 +1,8 @@
 //! Somebody who says each line again.
-ghost use Rattle.std.specs.Prelude.{◌≡◌, ◌+◌, ◌<◌, ◌^◌};
+ghost use Rattle.std.specs.Prelude.{◌≡◌};
 
-use iox_conversation::{AnswersLines, Input, Output, ServeError, serve};
+use iox_conversation::AnswersLines;
 use std::alloc::{AllocError, Global};
-use std::io::{Read, Write};
 
 #[derive(Drop)]
 pub(crate) struct Echo;
@@ -47,15 +46,4 @@ impl AnswersLines for Forgetful {
         self.answered -= 1;
         out.extend_from_slice(line)
     }
-}
-
-/// A conversation with who says each line again.
-pub(crate) fn converse<R: Read, W: Write>(
-    alloc: Global,
-    input: &mut Input<R>,
-    output: &mut Output<W>,
-) -> Result<(), ServeError>
-    requires { input.old.calls + 2 ^ 20 < 2 ^ 64 }
-{
-    serve(alloc, Echo, input, output)
 }

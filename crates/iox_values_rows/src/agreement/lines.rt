@@ -2,10 +2,11 @@
 //! each function that names it.
 use crate::answers::{have_size, hold};
 use iox_describe::{
-    Description, DescriptionError, MessagingPattern, ServiceName, Settings, decode, encode,
-    encode_v1, service_hash,
+    Description, DescriptionError, MessagingPattern, ServiceName, decode, encode, encode_v1,
+    service_hash,
 };
 use std::alloc::{AllocError, Global};
+use std::process::Abort;
 
 /// Service `23` over slices of `u64` with a `u64` user header, at default settings. This line and those of other patterns are of
 /// version 2.
@@ -47,19 +48,22 @@ fn is_first_line(
     match encode_v1(alloc, description) {
         Ok(line) => Ok(line.as_slice() == bytes),
         Err(DescriptionError::OutOfMemory) => Err(AllocError),
-        Err(_) => Ok(false),
+        Err(DescriptionError::Invalid | DescriptionError::NotInVersion1) => Ok(false),
     }
 }
 
-/// Whether the bytes are read as a description that is spelled so, by its line of one version or the other.
+/// Whether the description is spelled so, by its line of one version or the other.
+fn is_line(alloc: Global, description: &Description, bytes: &[u8]) -> Result<bool, AllocError> {
+    let is_second = encode(alloc, description)?.as_slice() == bytes;
+    Ok(is_second != is_first_line(alloc, description, bytes)?)
+}
+
+/// Whether the bytes are read as a description that is spelled so.
 pub(crate) fn is_read(alloc: Global, bytes: &[u8]) -> Result<bool, AllocError> {
     match decode(alloc, bytes) {
-        Ok(description) => {
-            let line = encode(alloc, &description)?;
-            Ok((line.as_slice() == bytes) != is_first_line(alloc, &description, bytes)?)
-        }
+        Ok(description) => is_line(alloc, &description, bytes),
         Err(DescriptionError::OutOfMemory) => Err(AllocError),
-        Err(_) => Ok(false),
+        Err(DescriptionError::Invalid | DescriptionError::NotInVersion1) => Ok(false),
     }
 }
 
@@ -224,90 +228,58 @@ fn is_spelled(alloc: Global, line: &str, row: &str) -> Result<bool, AllocError> 
     is_read(alloc, format!(in alloc; "{before}{to}{after}")?.as_bytes())
 }
 
-/// The first row that is read though it should not be, or the other way round.
-fn wrong_row(
+/// Each row must be read, or none.
+fn are_spelled(
+    rt: &impl Abort,
     alloc: Global,
     line: &str,
     rows: &[&str],
     read: bool,
-) -> Result<Option<usize>, AllocError> {
-    for (place, row) in rows.iter().enumerate() {
-        if is_spelled(alloc, line, *row)? != read {
-            return Ok(Some(place));
-        }
+) -> Result<(), AllocError> {
+    for row in rows {
+        assert!(rt; is_spelled(alloc, line, *row)? == read, "{row}");
     }
-    Ok(None)
+    Ok(())
 }
 
 #[test]
 fn other_spellings_are_refused(rt: HostRuntime) -> Result<(), AllocError> {
-    let wrong = wrong_row(rt.alloc(), publish_subscribe_line(), &REFUSED, false)?;
-    assert!(rt; wrong == None, "{wrong:?}");
-    Ok(())
+    are_spelled(&rt, rt.alloc(), publish_subscribe_line(), &REFUSED, false)
 }
 
 #[test]
 fn other_spellings_of_version_1_are_refused(rt: HostRuntime) -> Result<(), AllocError> {
-    let wrong = wrong_row(
+    are_spelled(
+        &rt,
         rt.alloc(),
         first_publish_subscribe_line(),
         &FIRST_REFUSED,
         false,
-    )?;
-    assert!(rt; wrong == None, "{wrong:?}");
-    Ok(())
+    )
 }
 
 #[test]
 fn numbers_at_their_ends_and_escaped_letters_are_read(rt: HostRuntime) -> Result<(), AllocError> {
-    let wrong = wrong_row(rt.alloc(), publish_subscribe_line(), &READ, true)?;
-    assert!(rt; wrong == None, "{wrong:?}");
-    Ok(())
+    are_spelled(&rt, rt.alloc(), publish_subscribe_line(), &READ, true)
 }
 
-/// Whether the messages of the described service have numbers.
-fn has_numbers(description: &Description) -> bool {
-    match description.settings() {
-        Settings::PublishSubscribe(config) => config.sequence_numbers,
-        _ => false,
-    }
+/// What writing version 1 comes to of a line that is read.
+fn first_of(alloc: Global, line: &[u8]) -> Result<Vec<u8>, DescriptionError> {
+    encode_v1(alloc, &decode(alloc, line)?)
 }
 
-/// Whether a line of version 1 is read with the switch off, and written in both versions.
-fn first_line_is_read_as_off(alloc: Global) -> Result<bool, DescriptionError> {
-    let description = decode(alloc, first_publish_subscribe_line().as_bytes())?;
-    let first = encode_v1(alloc, &description)?;
-    let second = encode(alloc, &description)?;
-    Ok(
-        !has_numbers(&description)
-            && first.as_slice() == first_publish_subscribe_line().as_bytes()
-            && second.as_slice() == publish_subscribe_line().as_bytes(),
-    )
-}
-
-/// What writing version 1 comes to for the service with numbers, whose line of version 2 was read.
-fn first_line_of_numbers(alloc: Global) -> Result<Vec<u8>, DescriptionError> {
+/// Whether the service with numbers, whose line of version 2 is read, has none of version 1.
+fn are_numbers_refused(alloc: Global) -> Result<bool, AllocError> {
     let Some((before, after)) = publish_subscribe_line().split_once("false") else {
-        return Err(DescriptionError::Invalid);
+        return Ok(false);
     };
     let line = format!(in alloc; "{before}true{after}")?;
-    let description = decode(alloc, line.as_bytes())?;
-    if !has_numbers(&description) {
-        return Err(DescriptionError::Invalid);
-    }
-    encode_v1(alloc, &description)
+    Ok(first_of(alloc, line.as_bytes()).err() == Some(DescriptionError::NotInVersion1))
 }
 
 #[test]
-fn version_1_is_read_as_off_and_refuses_numbers(rt: HostRuntime) {
-    let alloc: Global = rt.alloc();
-    let read = first_line_is_read_as_off(alloc);
-    assert!(rt; read == Ok(true), "{read:?}");
-    let refused = first_line_of_numbers(alloc).err();
-    assert!(rt;
-        refused == Some(DescriptionError::NotInVersion1),
-        "{refused:?}"
-    );
+fn version_1_refuses_numbers(rt: HostRuntime) -> Result<(), AllocError> {
+    hold(&rt, &[are_numbers_refused(rt.alloc())])
 }
 
 /// Whether the hash of publish-subscribe has these digits.

@@ -1,7 +1,7 @@
 //! Readers and writers that give or take little at a time, or fail.
 ghost use Rattle.std.specs.Prelude.{◌+◌, ◌<◌, ◌^◌};
 
-use crate::agreement::echo::{Forgetful, converse};
+use crate::agreement::echo::{Echo, Forgetful};
 use iox_conversation::{Input, Output, READ_CALLS, ServeError, serve};
 use std::alloc::{AllocError, Global};
 use std::io;
@@ -163,7 +163,7 @@ fn told(alloc: Global, talk: Talk) -> Told {
         good_calls: talk.writes,
         signals: Signals::new(talk.write_signals),
     });
-    let result = converse(alloc, &mut input, &mut output);
+    let result = serve(alloc, Echo, &mut input, &mut output);
     let taken = output.writer().taken.as_slice();
     let written = LINES.starts_with(taken).then_some(taken.len());
     (result, input.has_failed(), output.has_failed(), written)
@@ -355,7 +355,7 @@ fn told_of_signals(alloc: Global) -> (Result<(), ServeError>, bool, u64, usize) 
         signals: Signals::new(usize::MAX),
     });
     let mut output = Output::new(Vec::new(alloc));
-    let result = converse(alloc, &mut input, &mut output);
+    let result = serve(alloc, Echo, &mut input, &mut output);
     (
         result,
         input.has_failed(),
@@ -450,7 +450,7 @@ fn told_of_drips(alloc: Global, input: &mut Input<Drips>) -> (Result<(), ServeEr
     requires { input.old.calls + 2 ^ 20 < 2 ^ 64 }
 {
     let mut output = Output::new(Vec::new(alloc));
-    let result = converse(alloc, input, &mut output);
+    let result = serve(alloc, Echo, input, &mut output);
     (result, input.has_failed(), output.writer().len())
 }
 
@@ -489,7 +489,7 @@ fn bytes_of(alloc: Global, [before, letters, behind]: Text) -> Result<Vec<u8>, A
 /// How many bytes are said again of these, if all goes well.
 fn heard(alloc: Global, bytes: &[u8]) -> Result<usize, ServeError> {
     let mut output = Output::new(Vec::new(alloc));
-    converse(alloc, &mut Input::new(bytes), &mut output)?;
+    serve(alloc, Echo, &mut Input::new(bytes), &mut output)?;
     Ok(output.writer().len())
 }
 

@@ -1,8 +1,8 @@
 //! Tables with any number of lives and foreign steps, with ample memory.
 use crate::answers::hold;
 use iox_describe::{
-    AttributeSpecifier, Description, Header, LimitError, MessageTypeDetails, MessagingPattern,
-    ServiceHash, ServiceName, Settings, TypeVariant, event, publish_subscribe, service_hash,
+    AttributeSpecifier, Description, LimitError, MessagingPattern, ServiceHash, ServiceName,
+    Settings, event, service_hash,
 };
 use iox_negotiate_base::{
     LeaveAnswer, LockAnswer, LookAnswer, MakeSegmentAnswer, OpenSegmentAnswer, PublishAnswer,
@@ -12,28 +12,24 @@ use iox_negotiate_table::{ForeignStep, StepList, Stepped, Table};
 use std::alloc::{AllocError, Global};
 use std::process::Abort;
 
-/// The hash of the event service of this name.
-fn hash_of(name: &[u8]) -> Result<ServiceHash, LimitError> {
-    Ok(service_hash(MessagingPattern::Event, &ServiceName::new(name)?))
+/// The hash of the event service `A`.
+fn hash() -> Result<ServiceHash, LimitError> {
+    Ok(service_hash(MessagingPattern::Event, &ServiceName::new(b"A")?))
 }
 
-/// Whether a node makes a service of this number with room for so many nodes, and publishes this text.
-pub(crate) fn is_made(
-    table: &mut Table,
-    hash: &ServiceHash,
-    (number, node, room): (u64, u64, u64),
-    text: &[u8],
-) -> bool {
-    table.lock(hash, node) == LockAnswer::Taken(number)
-        && table.make_segment(hash, number, node, room) == MakeSegmentAnswer::Made
+/// Whether a node makes a service of this number with room for itself, and publishes this text.
+fn is_made(table: &mut Table, hash: &ServiceHash, number: u64, text: &[u8]) -> bool {
+    table.lock(hash, 0) == LockAnswer::Taken(number)
+        && table.make_segment(hash, number, 0, 1) == MakeSegmentAnswer::Made
         && table.publish(hash, number, text) == PublishAnswer::Published
 }
 
 /// Whether the table shows this text.
-fn is_shown(table: &mut Table, hash: &ServiceHash, text: &[u8]) -> bool {
+pub(crate) fn is_shown(table: &mut Table, hash: &ServiceHash, text: &[u8]) -> bool {
     match table.look(hash) {
         LookAnswer::Found { bytes, .. } => bytes.as_bytes() == text,
-        _ => false,
+        LookAnswer::Absent | LookAnswer::Locked | LookAnswer::Denied => false,
+        LookAnswer::Broken | LookAnswer::OutOfMemory => false,
     }
 }
 
@@ -48,7 +44,7 @@ fn is_taken_away(table: &mut Table, hash: &ServiceHash, number: u64) -> bool {
 /// Whether a service has so many lives, with this text each.
 fn all_follow(table: &mut Table, hash: &ServiceHash, count: u64, text: &[u8]) -> bool {
     for number in 1..=count {
-        if !is_made(table, hash, (number, 0, 1), text)
+        if !is_made(table, hash, number, text)
             || !is_shown(table, hash, text)
             || !is_taken_away(table, hash, number)
         {
@@ -60,7 +56,7 @@ fn all_follow(table: &mut Table, hash: &ServiceHash, count: u64, text: &[u8]) ->
 
 /// The same of the service `A` in a new table.
 fn lives_follow_in(alloc: Global, count: u64, text: &[u8]) -> bool {
-    match hash_of(b"A") {
+    match hash() {
         Ok(hash) => all_follow(&mut Table::new(alloc, 1), &hash, count, text),
         Err(_) => false,
     }
@@ -148,7 +144,7 @@ fn all_are_done(stepped: &mut Stepped, hash: &ServiceHash, lists: usize, next: u
 
 /// The same of the service `A`.
 fn are_done(stepped: &mut Stepped, lists: usize, next: u64) -> bool {
-    match hash_of(b"A") {
+    match hash() {
         Ok(hash) => all_are_done(stepped, &hash, lists, next),
         Err(_) => false,
     }
@@ -186,60 +182,4 @@ fn all_lists_are_done(rt: &impl Abort, alloc: Global) -> Result<(), AllocError> 
 #[test]
 fn any_number_of_lists_and_of_steps_is_done(rt: HostRuntime) -> Result<(), AllocError> {
     all_lists_are_done(&rt, rt.alloc())
-}
-
-/// Whether a service is found once this step was done behind the lock of foreign node 1.
-fn is_found(table: &mut Table, hash: &ServiceHash, step: &ForeignStep) -> bool {
-    table.act(hash, &ForeignStep::Lock { node: 1 }).is_ok()
-        && table.act(hash, step).is_ok()
-        && matches!(table.look(hash), LookAnswer::Found { .. })
-}
-
-/// Whether foreign node 1, which has the lock of event service `A`, publishes this.
-fn publishes(alloc: Global, hash: &ServiceHash, description: Description) -> bool {
-    let step = ForeignStep::Publish {
-        node: 1,
-        description,
-    };
-    is_found(&mut Table::new(alloc, 1), hash, &step)
-}
-
-/// The same of what is of these settings and this name, and states the hash of the event service of the other name.
-fn publishes_for_a(alloc: Global, settings: Settings, name: &[u8], stated: &[u8]) -> Option<bool> {
-    let hash = hash_of(b"A").ok()?;
-    let name = ServiceName::new(name).ok()?;
-    let stated = hash_of(stated).ok()?;
-    let description = Description::of_parts(name, stated, settings, AttributeSpecifier::new());
-    Some(publishes(alloc, &hash, description))
-}
-
-/// Settings of an event service.
-fn of_event() -> Settings {
-    Settings::Event(event::StaticConfig::new())
-}
-
-/// Settings of a publish-subscribe service.
-fn of_messages() -> Settings {
-    let types = MessageTypeDetails::from::<Header, u64, u64>(TypeVariant::Dynamic);
-    Settings::PublishSubscribe(publish_subscribe::StaticConfig::new(types))
-}
-
-#[test]
-fn a_foreign_node_publishes_a_description_of_that_service_alone(rt: HostRuntime) {
-    let alloc: Global = rt.alloc();
-    let published = [
-        publishes_for_a(alloc, of_event(), b"A", b"A"),
-        publishes_for_a(alloc, of_event(), b"B", b"A"),
-        publishes_for_a(alloc, of_event(), b"A", b"B"),
-        publishes_for_a(alloc, of_event(), b"B", b"B"),
-        publishes_for_a(alloc, of_messages(), b"A", b"A"),
-    ];
-    let alone = [
-        Some(true),
-        Some(false),
-        Some(false),
-        Some(false),
-        Some(false),
-    ];
-    assert!(rt; published == alone, "{published:?}");
 }

@@ -3,11 +3,6 @@ use crate::answers::{are_displayed, hold};
 use iox_conversation::ServeError;
 use iox_describe::requirement::{event, publish_subscribe, request_response};
 use iox_describe::{AttributeError, DescriptionError, LimitError};
-use iox_negotiate_base::errors::{
-    CloseError, EventCreateError, EventOpenError, EventOpenOrCreateError,
-    PublishSubscribeCreateError, PublishSubscribeOpenError, PublishSubscribeOpenOrCreateError,
-    RequestResponseCreateError, RequestResponseOpenError, RequestResponseOpenOrCreateError,
-};
 use std::alloc::{AllocError, Global};
 use std::fmt::{Debug, Display};
 
@@ -96,72 +91,6 @@ fn errors_of_descriptions_display_as_type_and_variant(rt: HostRuntime) -> Result
         ),
         are_told(alloc, "LimitError", &[LimitError::OutsideLimits]),
         are_told(alloc, "AttributeError", &[AttributeError::OutOfMemory]),
-    ];
-    hold(&rt, &answers)
-}
-
-const EITHER_OPEN: PublishSubscribeOpenOrCreateError =
-    PublishSubscribeOpenOrCreateError::PublishSubscribeOpenError(
-        PublishSubscribeOpenError::DoesNotSupportRequestedMinBufferSize,
-    );
-
-const EITHER_CREATE: RequestResponseOpenOrCreateError =
-    RequestResponseOpenOrCreateError::RequestResponseCreateError(
-        RequestResponseCreateError::AlreadyExists,
-    );
-
-#[test]
-fn errors_of_negotiation_display_as_type_and_variant(rt: HostRuntime) -> Result<(), AllocError> {
-    let alloc: Global = rt.alloc();
-    let answers = [
-        are_told(
-            alloc,
-            "PublishSubscribeOpenError",
-            &[
-                PublishSubscribeOpenError::IncompatibleTypes,
-                PublishSubscribeOpenError::IncompatibleSequenceNumbers,
-            ],
-        ),
-        are_told(
-            alloc,
-            "PublishSubscribeCreateError",
-            &[PublishSubscribeCreateError::SubscriberBufferMustBeLargerThanHistorySize],
-        ),
-        are_told(
-            alloc,
-            "PublishSubscribeOpenOrCreateError",
-            &[EITHER_OPEN, PublishSubscribeOpenOrCreateError::SystemInFlux],
-        ),
-        are_told(
-            alloc,
-            "EventOpenError",
-            &[EventOpenError::IncompatibleDeadline],
-        ),
-        are_told(alloc, "EventCreateError", &[EventCreateError::OutOfMemory]),
-        are_told(
-            alloc,
-            "EventOpenOrCreateError",
-            &[EventOpenOrCreateError::SystemInFlux],
-        ),
-        are_told(
-            alloc,
-            "RequestResponseOpenError",
-            &[RequestResponseOpenError::DoesNotSupportRequestedAmountOfClientRequestLoans],
-        ),
-        are_told(
-            alloc,
-            "RequestResponseCreateError",
-            &[RequestResponseCreateError::HangsInCreation],
-        ),
-        are_told(alloc, "RequestResponseOpenOrCreateError", &[EITHER_CREATE]),
-        are_told(
-            alloc,
-            "CloseError",
-            &[
-                CloseError::NotThisStorage,
-                CloseError::UnableToRemoveSegment,
-            ],
-        ),
     ];
     hold(&rt, &answers)
 }

@@ -4,15 +4,13 @@ use iox_index_steps::atomic::{AtomicMachine, Call, Move};
 use iox_queues::sets::Event;
 use iox_queues::{Access, Word};
 use std::alloc::{AllocError, Global};
+use std::process::Abort;
 
 const BEGIN: Move = Move::Begin(1, Call::Load);
 
 const LOAD: Move = Move::GoOn(1);
 
 const STORE: Move = Move::GoOn(0);
-
-/// What is stored and loaded: the value of two words that is current at first, and one to be stored.
-const VALUES: [[u64; 2]; 2] = [[11, 12], [21, 22]];
 
 /// A schedule on a value of two words; what its load finds in cells, in that order; and how many calls end.
 struct Course {
@@ -124,39 +122,54 @@ const COURSES: [Course; 6] = [
     },
 ];
 
-/// Values of two words each.
+/// Values of two words each: the one that is current at first, and one to be stored.
 fn table(alloc: Global) -> Result<Vec<Vec<u64>>, AllocError> {
-    let mut values = Vec::new(alloc);
-    for words in &VALUES {
-        values.push(Vec::from_slice(alloc, &words[..])?)?;
-    }
-    Ok(values)
+    Ok(vec![in alloc; vec![in alloc; 11, 12]?, vec![in alloc; 21, 22]?]?)
 }
 
-/// What the load found in a cell by this step.
-fn found_by(event: &Event) -> Option<u64> {
-    match event.access {
-        Access::Load(Word::Cell(_)) if event.party == 1 => Some(event.answer),
-        _ => None,
+/// Whether this is a load of a cell by party 1.
+fn is_load(event: &Event) -> bool {
+    event.party == 1
+        && match event.access {
+            Access::Load(Word::Cell(_)) => true,
+            Access::Load(Word::Write | Word::Read) => false,
+            Access::Store(_, _) | Access::Exchange(_, _, _) | Access::Local => false,
+        }
+}
+
+/// Whether the load found just these words in cells.
+fn are_found(events: &[Event], words: &[u64]) -> bool {
+    let mut place = 0usize;
+    for event in events {
+        if is_load(event) {
+            if words.get(place) != Some(&event.answer) {
+                return false;
+            }
+            place = place.saturating_add(1);
+        }
     }
+    place == words.len()
+}
+
+/// Whether a course goes so on a new value.
+fn go(value: &mut AtomicMachine, course: &Course) -> bool {
+    let _ = value.run(course.steps);
+    are_found(value.events(), course.found) && value.finished().len() == course.ended
 }
 
 fn is_found(alloc: Global, course: &Course) -> Result<bool, AllocError> {
-    let mut value = AtomicMachine::new(alloc, table(alloc)?, 2)?;
-    let _ = value.run(course.steps);
-    let mut found = Vec::new(alloc);
-    for event in value.events() {
-        if let Some(word) = found_by(event) {
-            found.push(word)?;
-        }
+    Ok(go(&mut AtomicMachine::new(alloc, table(alloc)?, 2)?, course))
+}
+
+/// Each course must go so.
+fn all_are_found(rt: &impl Abort, alloc: Global, courses: &[Course]) -> Result<(), AllocError> {
+    for (place, course) in courses.iter().enumerate() {
+        assert!(rt; is_found(alloc, course)?, "course {place}");
     }
-    Ok(found.as_slice() == course.found && value.finished().len() == course.ended)
+    Ok(())
 }
 
 #[test]
 fn a_load_finds_what_is_current_when_it_looks(rt: HostRuntime) -> Result<(), AllocError> {
-    for (place, course) in COURSES.iter().enumerate() {
-        assert!(rt; is_found(rt.alloc(), course)?, "course {place}");
-    }
-    Ok(())
+    all_are_found(&rt, rt.alloc(), &COURSES)
 }

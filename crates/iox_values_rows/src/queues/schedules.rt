@@ -66,11 +66,12 @@ fn behind(digits: u64, number: u64) -> u64 {
 fn digits_out(pushed: PushAnswer, pops: &[PopCall]) -> u64 {
     let mut digits = match pushed {
         PushAnswer::LeftOut(oldest) => oldest,
-        _ => 0,
+        PushAnswer::Kept | PushAnswer::Refused => 0,
     };
     for pop in pops {
-        if let PopAnswer::Got(Some(number)) = pop.answer {
-            digits = behind(digits, number);
+        match pop.answer {
+            PopAnswer::Got(Some(number)) => digits = behind(digits, number),
+            PopAnswer::Got(None) | PopAnswer::Saw(_) => {}
         }
     }
     digits

@@ -1,19 +1,15 @@
-//! Queues of values of 3, 16 and 17 words, shared: two that wait keep their order, a queue without room has none, and one of values that
-//! are too wide comes back.
+//! Queues of values of 3, 16 and 17 words, shared: two that wait keep their order, and one of values that are too wide is refused.
 use crate::answers::hold;
 use crate::queues::ends::ends;
-use iox_queues::{Queue, Share, Shared, Words};
+use iox_queues::{Consumer, Producer, Queue, Share, Shared, Words};
 use std::alloc::{AllocError, Global};
 
 /// Whether a queue of two in which these two wait refuses a third, gives the first, takes the third, and gives both.
 fn gives_in_order<T: Words + PartialEq>(
-    shared: &Shared<Queue<T, 2>>,
-    values: (&T, &T, &T),
+    producer: &mut Producer<'_, Queue<T, 2>>,
+    consumer: &mut Consumer<'_, Queue<T, 2>>,
+    [first, second, third]: &[T; 3],
 ) -> bool {
-    let (first, second, third) = values;
-    let Some((mut producer, mut consumer)) = ends(shared) else {
-        return false;
-    };
     let is_full = !producer.push(third);
     let before = consumer.pop() == Some(*first);
     let is_taken = producer.push(third);
@@ -25,40 +21,31 @@ fn gives_in_order<T: Words + PartialEq>(
         && consumer.pop() == None
 }
 
-/// Whether one that is shared while these two wait does.
-fn keeps_order<T: Words + PartialEq>(
-    alloc: Global,
-    values: (&T, &T, &T),
-) -> Result<bool, AllocError> {
+/// The same of both its ends.
+fn goes<T: Words + PartialEq>(shared: &Shared<Queue<T, 2>>, values: &[T; 3]) -> bool {
+    match ends(shared) {
+        Some((mut producer, mut consumer)) => {
+            gives_in_order(&mut producer, &mut consumer, values)
+        }
+        None => false,
+    }
+}
+
+/// Whether one that is shared while two wait does.
+fn keeps_order<T: Words + PartialEq>(alloc: Global, values: &[T; 3]) -> Result<bool, AllocError> {
     let mut queue = Queue::<T, 2>::new(alloc)?;
-    let are_in = queue.push(values.0) && queue.push(values.1);
+    let are_in = queue.push(&values[0]) && queue.push(&values[1]);
     match queue.share(alloc) {
-        Ok(shared) => Ok(are_in && gives_in_order(&shared, values)),
+        Ok(shared) => Ok(are_in && goes(&shared, values)),
         Err(_) => Err(AllocError),
     }
 }
 
-/// Whether a shared queue without room takes nothing and gives nothing.
-fn has_no_room<T: Words + PartialEq>(alloc: Global, value: &T) -> Result<bool, AllocError> {
-    let Ok(shared) = Queue::<T, 0>::new(alloc)?.share(alloc) else {
-        return Err(AllocError);
-    };
-    let Some((mut producer, mut consumer)) = ends(&shared) else {
-        return Ok(false);
-    };
-    Ok(!producer.push(value) && consumer.pop() == None && shared.capacity() == 0)
-}
-
-/// Whether a queue of values that are too wide comes back, with those that wait in their order.
-fn comes_back<T: Words + PartialEq>(alloc: Global, values: (&T, &T)) -> Result<bool, AllocError> {
-    let mut queue = Queue::<T, 2>::new(alloc)?;
-    let are_in = queue.push(values.0) && queue.push(values.1);
-    match queue.share(alloc) {
+/// Whether a queue of values that are too wide is refused.
+fn is_too_wide(alloc: Global) -> Result<bool, AllocError> {
+    match Queue::<[u64; 17], 2>::new(alloc)?.share(alloc) {
         Ok(_) => Ok(false),
-        Err(mut queue) => {
-            let got = queue.pop() == Some(*values.0) && queue.pop() == Some(*values.1);
-            Ok(are_in && got && queue.pop() == None)
-        }
+        Err(_) => Ok(true),
     }
 }
 
@@ -76,11 +63,9 @@ const SIXTEEN: [[u64; 16]; 3] = [
 fn wide_values_keep_their_order(rt: HostRuntime) -> Result<(), AllocError> {
     let alloc: Global = rt.alloc();
     let answers = [
-        keeps_order(alloc, (&THREE[0], &THREE[1], &THREE[2])),
-        keeps_order(alloc, (&SIXTEEN[0], &SIXTEEN[1], &SIXTEEN[2])),
-        has_no_room(alloc, &THREE[0]),
-        has_no_room(alloc, &SIXTEEN[0]),
-        comes_back(alloc, (&[1u64; 17], &[2u64; 17])),
+        keeps_order(alloc, &THREE),
+        keeps_order(alloc, &SIXTEEN),
+        is_too_wide(alloc),
     ];
     hold(&rt, &answers)
 }

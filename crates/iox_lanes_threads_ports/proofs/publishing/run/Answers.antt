@@ -58,5 +58,6 @@ returns-clause-runs g c =
     let past = c.loop-made-test.false in
     let all : c.loop-made.made ≡ c.args.most = omega (arith, below, past) in
     publisher_stays_inside c.args.most (port_of c.args.seat.now.me) c.args.lane.now (port_of c.loop-made.seat.me) c.loop-made.lane
+    c.requires.stands c.requires.begins.first
     (subst (λ (k : ℕ). Paced c.args.most k (port_of c.args.seat.now.me) c.args.lane.now (port_of c.loop-made.seat.me) c.loop-made.lane)
     all c.loop-made.invariant.3)

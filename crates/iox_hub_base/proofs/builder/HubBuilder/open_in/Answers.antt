@@ -13,7 +13,7 @@ returns-in_default g c = inr (tt, ap Err c.open_error.ensures, c.in_default.ensu
 pub returns : goal.returns
 returns g c =
     opens-in-hub _ _ (Unit {0}) (λ was_new. g.P.Negotiated.open_error unopened.OutOfMemory) _ c.args.steps.items
-    c.args.hub.now c.make_room.new.self c.lend_table-table.new.self _ _ _ _ _ _ c.in-Ok.ensures.lent c.in-Ok.ensures.rest
+    c.args.hub.now c.make_room.new.self c.lend_table-table.new.self _ _ _ _ _ _ _ c.in-Ok.ensures.lent c.in-Ok.ensures.rest
     c.lend_table-table.ensures.lent c.lend_table-table.ensures.rest
     (rw c.builder-builder.ensures at c.open-answer.ensures)
     (c.settle.ensures (λ was_new. g.P.Negotiated.open_error unopened.OutOfMemory)

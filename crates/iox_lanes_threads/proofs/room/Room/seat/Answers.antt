@@ -8,7 +8,7 @@ pub seat_publishers-publishers-requires-clause-lanes : goal.seat_publishers-publ
 seat_publishers-publishers-requires-clause-lanes c =
     let own = c.are_of_one_service.ensures in
     let sound : Sound c.args.lanes
-    = record { within = own.within; rows = own.rows; named = own.named; near = own.near; together = own.together } in
+    = record { within = own.within; rows = own.rows; named = own.named; near = own.near; together = own.together; rooms = own.rooms } in
     all_publishers_stand c.args.lanes c.args.self.of.value c.into_ports-publisher_lanes.result.0.items sound
     (λ who lane found. (c.finished.ensures.sends c.requires.may.few who lane found).connections.once) c.requires.may.between.publishers
     c.requires.room.of_is c.into_ports-publisher_lanes.ensures.0
@@ -17,7 +17,7 @@ pub seat_subscribers-subscribers-requires-clause-lanes : goal.seat_subscribers-s
 seat_subscribers-subscribers-requires-clause-lanes c =
     let own = c.are_of_one_service.ensures in
     let sound : Sound c.args.lanes
-    = record { within = own.within; rows = own.rows; named = own.named; near = own.near; together = own.together } in
+    = record { within = own.within; rows = own.rows; named = own.named; near = own.near; together = own.together; rooms = own.rooms } in
     all_subscribers_stand c.args.lanes c.args.self.of.value c.into_ports-publisher_lanes.result.1.items sound
     c.finished.ensures.reads.rooms c.requires.may.between.subscribers c.requires.room.of_is c.into_ports-publisher_lanes.ensures.1
 

@@ -1,7 +1,8 @@
-use Rattle.std.proofs.Common.{◌∙◌, None, inl, refl, sym}
+use Rattle.std.proofs.Common.{◌∙◌, None, refl, sym, ap}
 use Rattle.iox_hub_base.specs.DescribeBase.Detail.{detail}
 use Rattle.iox_hub_base.specs.DescribeBase.declared.type_detail.TypeVariant.TheVariants.{FixedSize}
 use Rattle.iox_hub_commands.specs.Asked.{types_of}
+use Rattle.iox_hub_commands.specs.Refusing.{create_told}
 use Rattle.iox_hub_commands.proofs.FirstLook.{none_told, uncreated_at_first_look}
 use Rattle.iox_hub_commands.proofs.services.factories.Factories.create_accepted.Goals as goal
 
@@ -16,8 +17,14 @@ returns-in-Some-clause-creates g c =
     (rw c.message_types-types.ensures at c.agreed_has_form.ensures) c.in-Some.ensures.told
 
 pub returns-in-None-clause-creates : goal.returns-in-None-clause-creates
-returns-in-None-clause-creates g c =
-    (None, inl c.requires.settings, rw c.in-None.ensures.same at c.create_looked.ensures)
+returns-in-None-clause-creates g c = (
+  None,
+  (
+    c.requires.settings,
+    λ stands. none_told c.in-None.ensures.told (sym (ap (λ found. create_told c.args.asked.now.options found) stands)),
+  ),
+  rw c.in-None.ensures.same at c.create_looked.ensures,
+)
 
 pub returns-in-Some-clause-told_first : goal.returns-in-Some-clause-told_first
 returns-in-Some-clause-told_first g c refusal is = (

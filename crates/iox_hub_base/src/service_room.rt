@@ -1,0 +1,115 @@
+//! What is lent to a call that opens a service, before it touches the table: services and counts of factories, with room for one more.
+ghost use Rattle.std.specs.Prelude.{◌≡◌, IfOk};
+ghost use Rattle.iox_domain.specs.DescribeBase.Detail.{detail};
+ghost use Rattle.iox_domain.specs.DescribeBase.declared.type_detail.TypeVariant.TheVariants.{FixedSize};
+ghost use Rattle.iox_domain.specs.Fitting.{Fits};
+ghost use Rattle.iox_hub_base.specs.ServicesOpening.{is_open, IsNewHere, OpensLent};
+
+use crate::by_number::RoomyByNumber;
+use crate::counts::RoomyCounts;
+use crate::presence::Presence;
+use crate::presences::Presences;
+use crate::services::Services;
+use iox_describe_base::ZeroCopySend;
+use iox_describe_settings::Description;
+use iox_domain::{Domain, DomainId};
+use iox_domain_values::DomainError;
+use iox_queues_base::Words;
+use std::alloc::Global;
+use std::marker::Model;
+
+/// The services of a hub and the counts of their factories, with room for one service more.
+#[derive(Drop)]
+pub(crate) struct ServiceRoom<T, U, B, D> {
+    pub(crate) counts: RoomyCounts,
+    pub(crate) services: RoomyServices<T, U, B, D>,
+}
+
+/// Services among which there is room for one more.
+///
+/// Contracts see them as `Services`.
+#[derive(Drop)]
+pub(crate) struct RoomyServices<T, U, B, D> {
+    pub(crate) hub: u64,
+    pub(crate) presences: RoomyByNumber<Presence<T, U, B, D>>,
+}
+
+impl<T, U, B, D> Model for RoomyServices<T, U, B, D> {
+    ghost use Rattle.iox_hub_base.specs.Open.{OpenServices, AreOwn};
+
+    ghost Value = { OpenServices T U B D };
+
+    ghost view = { λ s. record { hub = s.hub; domains = s.presences } };
+
+    ghost invariant = { λ s. AreOwn s.hub s.presences };
+}
+
+impl<T: Copy, U: Copy, B: Drop, D: Drop> RoomyServices<T, U, B, D> {
+    // Whether a service of this number is open.
+    fn is_open(&self, number: u64) -> bool
+        ensures { result ≡ is_open number self.now }
+    {
+        self.presences.get(number).is_some()
+    }
+
+    /// The services as they are.
+    pub(crate) fn into_services(self) -> Services<T, U, B, D>
+        ensures { result ≡ self }
+    {
+        Services {
+            hub: self.hub,
+            presences: Presences {
+                entries: self.presences.into_values(),
+            },
+        }
+    }
+}
+
+impl<T: Words + ZeroCopySend, U: Copy + ZeroCopySend, B: Drop, D: Drop> RoomyServices<T, U, B, D> {
+    /// The services with one that opens under a number, as `Services::open` opens it. There is room for its entry, so only memory of its
+    /// domain may lack; then the services are answered as they are.
+    pub(crate) fn open(
+        self,
+        alloc: Global,
+        description: &Description,
+        number: u64,
+        expired_connection_buffer: u32,
+    ) -> Result<Services<T, U, B, D>, Services<T, U, B, D>>
+        ensures { OpensLent (detail FixedSize T.name T.size T.alignment) (detail FixedSize U.name U.size U.alignment)
+            expired_connection_buffer number description.now.settings self result }
+    {
+        if self.is_open(number) || !Domain::<T, U, B, D>::fits(description) {
+            return Ok(self.into_services());
+        }
+        let id = DomainId {
+            hub: self.hub,
+            service: number,
+        };
+        match new_here(alloc, id, description, expired_connection_buffer) {
+            Ok(boxed) => Ok(Services {
+                hub: self.hub,
+                presences: Presences {
+                    entries: self.presences.insert(number, boxed),
+                },
+            }),
+            Err(_) => Err(self.into_services()),
+        }
+    }
+}
+
+// A new domain, which is here, in a box of its own.
+fn new_here<T: Words + ZeroCopySend, U: Copy + ZeroCopySend, B: Drop, D: Drop>(
+    alloc: Global,
+    id: DomainId,
+    description: &Description,
+    expired_connection_buffer: u32,
+) -> Result<Box<Presence<T, U, B, D>>, DomainError>
+    requires { Fits (detail FixedSize T.name T.size T.alignment) (detail FixedSize U.name U.size U.alignment) description.now.settings }
+    ensures { IfOk result (λ boxed. IsNewHere id expired_connection_buffer description.now.settings boxed.value) }
+{
+    let domain = Domain::new(alloc, id, description, expired_connection_buffer)?;
+    match Box::new(alloc, Presence::Here(domain)) {
+        Ok(boxed) => Ok(boxed),
+        Err(_) => Err(DomainError::OutOfMemory),
+    }
+}

@@ -1,0 +1,81 @@
+-- What no call of a domain leaves: messages for a place that lists nobody that go to a connection, of a publisher that followed the list.
+use Rattle.std.specs.Prelude.{ℕ, ◌≡◌, ◌≢◌, ◌<◌, ◌≤◌, ◌==◌, ◌&&◌, ◌⊎◌, true, false, List, get_or, Option, None, Some}
+use Rattle.std.specs.List.{All}
+use Rattle.iox_domain.specs.Calls.{PortCall, Happens}
+use Rattle.iox_domain.specs.Container.declared.container.Member.{Member}
+use Rattle.iox_domain.specs.DomainPorts.Publishers.{port_of}
+use Rattle.iox_domain.specs.DomainPorts.declared.publisher_entry.PublisherEntry.{PublisherEntry}
+use Rattle.iox_domain.specs.DomainPorts.declared.publisher_port.PublisherPort.{PublisherPort}
+use Rattle.iox_domain.specs.DomainPorts.declared.subscriber_entry.SubscriberEntry.{SubscriberEntry}
+use Rattle.iox_domain.specs.DomainPorts.declared.subscriber_port.SubscriberPort.{SubscriberPort}
+use Rattle.iox_domain.specs.DomainValues.declared.backpressure.BackpressureDecision.{BackpressureDecision}
+use Rattle.iox_domain.specs.DomainValues.declared.backpressure.BackpressureInfo.{BackpressureInfo}
+use Rattle.iox_domain.specs.DomainValues.declared.degradation.DegradationAction.{DegradationAction}
+use Rattle.iox_domain.specs.DomainValues.declared.degradation.DegradationInfo.{DegradationInfo}
+use Rattle.iox_domain.specs.DomainValues.declared.service_sizes.ServiceSizes.{ServiceSizes}
+use Rattle.iox_domain.specs.Order.{Happen}
+use Rattle.iox_domain.specs.Ports.{no_ports}
+use Rattle.iox_domain.specs.Rolls.{RollState, is_listed}
+use Rattle.iox_domain.specs.Subscribers.{subscriber_of}
+use Rattle.iox_domain.specs.declared.ports.service_ports.ServicePorts.{ServicePorts}
+use Rattle.iox_lanes_opening.specs.Listed.{of_each_listed}
+use Rattle.iox_lanes_opening.specs.UpToDate.{has_stray_tie, is_connected, is_current_port}
+
+-- A publisher has seen no more changes of the list of subscribers than there were. Where it has seen them all, each place whose messages
+-- go to a connection lists somebody.
+pub record IsWithoutStrays {T U : Type 0} (list : RollState SubscriberEntry) (port : PublisherPort T U) : Type 0 where
+  pub seen : port.seen ≤ list.changes
+  pub listed : port.seen ≡ list.changes → (place index : ℕ) → get_or port.ties.items place None ≡ Some index → is_listed place list ≡ true
+
+-- so it is with the publisher of a number
+abbrev pub IsEntryWithoutStrays : {T U : Type 0} → RollState SubscriberEntry → ℕ × PublisherPort T U → Type 0
+IsEntryWithoutStrays list (number, port) = IsWithoutStrays list port
+
+-- so it is with each publisher of a service, also with those that left
+abbrev pub AreWithoutStrays : {T U : Type 0} → ServicePorts T U → Type 0
+AreWithoutStrays ports = All (IsEntryWithoutStrays ports.subscriber_list) ports.publishers
+
+-- The publishers of a new service are without strays. Each call leaves them so, and so do any calls from a new service on. Then none that
+-- has seen all changes of the list of subscribers has a stray tie. So it is up to date just where it has seen them, and shares a connection
+-- with each listed subscriber.
+pub record LeaveNoStrays (T U : Type 0) (overrides : ℕ → ℕ → Type 0) (may : DegradationInfo → DegradationAction
+    → Type 0) (decide : BackpressureInfo → BackpressureDecision → Type 0) : Type 0 where
+  pub begins : (service : ℕ) (sizes : ServiceSizes) (ports : ServicePorts T U) → ports ≡ no_ports service sizes → AreWithoutStrays ports
+  pub goes_on : (call : PortCall T U) (old new : ServicePorts T U) → Happens overrides may decide call old new
+      → AreWithoutStrays old → AreWithoutStrays new
+  pub stays : (service : ℕ) (sizes : ServiceSizes) (calls : List (PortCall T U × ServicePorts T U)) (new : ServicePorts T U)
+      → Happen overrides may decide calls (no_ports service sizes) new → AreWithoutStrays new
+  pub tame : (ports : ServicePorts T U) (number : ℕ) (port : PublisherPort T U) → AreWithoutStrays ports
+      → port_of number ports.publishers ≡ Some port → port.seen ≡ ports.subscriber_list.changes
+      → has_stray_tie ports.subscriber_list port ≡ false
+  pub current : (ports : ServicePorts T U) (place number : ℕ) (port : PublisherPort T U) → AreWithoutStrays ports
+      → port_of number ports.publishers ≡ Some port
+      → is_current_port ports place number (Some port) ≡ (port.seen == ports.subscriber_list.changes)
+      && of_each_listed (is_connected place number port ports.subscribers) 0 ports.subscriber_list.places
+
+-- a publisher of a place shares no connection with somebody who is listed
+abbrev pub LacksSubscriber : {T U : Type 0} → ServicePorts T U → ℕ → ℕ → PublisherPort T U → Type 0
+LacksSubscriber ports place number port = (other : ℕ) × (member : Member SubscriberEntry)
+    × (get_or ports.subscriber_list.places other None ≡ Some member)
+    × (is_connected place number port ports.subscribers other member.value ≡ false)
+
+-- A publisher hasn't seen all changes of the list of subscribers, or shares no connection with somebody who is listed; or it isn't there.
+abbrev pub PublisherLags : {T U : Type 0} → ServicePorts T U → ℕ → ℕ → Option (PublisherPort T U) → Type 0
+PublisherLags ports place number None = Unit {0}
+PublisherLags ports place number (Some port)
+    = (port.seen < ports.subscriber_list.changes) ⊎ LacksSubscriber ports place number port
+
+-- so it is with a publisher that is listed
+abbrev pub SomePublisherLags : {T U : Type 0} → ServicePorts T U → Type 0
+SomePublisherLags ports = (place : ℕ) × (member : Member PublisherEntry) × (get_or ports.publisher_list.places place None ≡ Some member)
+    × PublisherLags ports place member.value.publisher (port_of member.value.publisher ports.publishers)
+
+-- A subscriber hasn't followed the list of publishers as it is, or has to follow it again; or it isn't there.
+abbrev pub SubscriberLags : {T U : Type 0} → ServicePorts T U → Option SubscriberPort → Type 0
+SubscriberLags ports None = Unit {0}
+SubscriberLags ports (Some port) = (port.seen ≢ ports.publisher_list.changes) ⊎ (port.again ≡ true)
+
+-- so it is with a subscriber that is listed
+abbrev pub SomeSubscriberLags : {T U : Type 0} → ServicePorts T U → Type 0
+SomeSubscriberLags ports = (place : ℕ) × (member : Member SubscriberEntry) × (get_or ports.subscriber_list.places place None ≡ Some member)
+    × SubscriberLags ports (subscriber_of member.value.subscriber ports.subscribers)
