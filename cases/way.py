@@ -5,10 +5,10 @@ import re
 from cases.kit import TOP, case, expect, expect_in
 
 CRATES = TOP / "crates"
-# What functions on the way call, too, where the line doesn't pass: to make the hub; at the end of the input, at a line that came in pieces,
-# of other commands; where a number is old, where another port was lent last, where slots came back or all are held, at a value that is longer
-# than the slots, where a send is refused, where values were written one by one, where the list changed, a history is kept, or a mailbox takes
-# nothing.
+# What functions on the way call, too, where the line doesn't pass: to make the hub; at the end of the input, at a line that came in
+# pieces, of other commands; where a number is old, where another port was lent last, where slots came back or all are held, at a value that
+# is longer than the slots, where a send is refused, where values were written one by one, where the list changed, a history is kept, or a
+# mailbox takes nothing.
 NOT_PASSED = {
     "main": "reached Input::new Output::new status",
     "script::serve": "runs_answer NumberedHub::new Scratch::new",
