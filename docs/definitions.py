@@ -1,13 +1,20 @@
 #!/usr/bin/env python3
 """Compares docs/DEFINITIONS.md with the definitions that the clauses of public functions reach.
 
-Usage: docs/definitions.py          says what the page lacks, and what it names that isn't reached or isn't there
-       docs/definitions.py --rows   prints a row for each definition that the page lacks, from its comment
+Usage: docs/definitions.py             says what the page lacks, and what it names that isn't reached or isn't there
+       docs/definitions.py --rows      prints a row for each definition that the page lacks, from its comment
+       docs/definitions.py --counted   prints the rows of the definitions that are counted, in reading order
 
 The clauses are those of `requires` and `ensures`, and the ghost members of traits and of their implementations. Views,
 invariants and functions that aren't public count only for what the page may name beyond that. A clause reaches what it names by
 its `ghost use` lines, and a definition what it names by its `use` lines. Both are read as text: a name counts as used wherever
-it occurs. How many the clauses of the headline reach is counted, too. The status is 1 where the page differs.
+it occurs.
+
+Counted is what a reader of the machine's promises must read: all that is reached by the clauses of the headline, of typed calls,
+and of lanes in turn. Of a typed call and of one of lanes each clause counts, `requires` too. Of `run` and `serve` those count
+that are in the machine's words (`HEADLINE`). Their further clauses speak of the code's own relation, numbers, room and places:
+they are the way of the proof, and promise what the machine doesn't know. The status is 1 where the page differs, where it
+doesn't begin with the counted ones, or where they are more than `MOST`.
 """
 
 import re
@@ -29,39 +36,22 @@ HANDED_ON = "handed on"
 OF_MODELS = {"view", "invariant"}
 # The clauses by which the program and a run of commands answer as the plain machine: of each crate's function, by their names.
 HEADLINE = {("iox_hub", "run"): ("answers",), ("iox_script", "serve"): ("answered", "begun")}
-# The clauses by which typed calls answer so: of each crate's type, its methods with theirs.
-TYPED = {
-    ("iox_hub", "RecordedHub"): {
-        "new": "begun",
-        "new_node": "node",
-        "open_or_create": "opened",
-        "publisher": "made",
-        "subscriber": "made",
-        "send_slice": "sent",
-        "retry": "sent",
-        "give_up": "given_up",
-        "receive": "received",
-        "payload": "reads",
-        "release": "released",
-        "end_subscriber": "left",
-        "end_publisher": "left",
-        "answers_as_machine": "answers",
-    }
-}
-# The clauses by which lanes in turn answer so.
-IN_TURN = {
-    ("iox_lanes_service", "LanesInTurn"): {
-        "new": "begun",
-        "answers_as_machine": "answers",
-        "loan": "lent",
-        "write": "written",
-        "send": "sent",
-        "drop_loan": "dropped",
-        "receive": "received",
-        "read": "read",
-        "release": "released",
-    },
-}
+# The types of typed calls, and of lanes in turn, each with its crate: all clauses of their public methods count.
+TYPED = [("iox_hub", "RecordedHub")]
+IN_TURN = [("iox_lanes_service", "LanesInTurn")]
+# How many definitions these clauses may reach in all.
+MOST = 220
+# The counted definitions in reading order: under each heading the crates that have them.
+READING = [
+    ("The machine", ["iox_machine"]),
+    ("Words of commands, settings and types that the machine names", ["iox_command", "iox_domain_values", "iox_describe_base", "iox_describe_settings"]),
+    ("What a script says, and is answered", ["iox_line", "iox_conversation", "iox_script"]),
+    ("On what the machine's answers stand", ["iox_negotiate_machine", "iox_hub_machine", "iox_hub_commands"]),
+    ("A hub's runs and typed calls", ["iox_container", "iox_domain", "iox_hub"]),
+    ("Lanes in turn", ["iox_queues_steps", "iox_lanes_machine", "iox_lanes_service"]),
+]
+COUNTED = "## The counted definitions"
+HEADER = "| Definition | In plain words | File |\n|---|---|---|"
 
 
 def without_comments(text, mark):
@@ -226,17 +216,17 @@ def of_headline(crate, function, names):
                 yield Uses(text), balanced(part, it.end() - 1)
 
 
-def of_methods(crate, owner, names):
-    """Gives these clauses of a type's methods, by their names, with what its file brings in."""
+def of_methods(crate, owner):
+    """Gives each clause of a type's public methods, with what its file brings in."""
     for text in sources(crate).values():
+        uses, text = Uses(text), without_comments(text, "//+!?")
         for trait, name, head, item in items(text):
             if name != owner or trait or not head.startswith("impl"):
                 continue
-            for part in re.split(r"(?m)^(?=    pub fn )", item):
-                method = re.match(r"    pub fn (\w+)", part)
-                if method and method[1] in names:
-                    for it in re.finditer(rf"\bensures {names[method[1]]} \{{", part):
-                        yield Uses(text), balanced(part, it.end() - 1)
+            for part in re.split(r"(?m)^(?=    (?:pub(?:\(crate\))? )?(?:final |const )*fn )", item):
+                if re.match(r"    pub (?:final |const )*fn ", part):
+                    for it in re.finditer(r"\b(?:requires|ensures)\b\*?(?:\s+\w+)?\s*\{", part):
+                        yield uses, balanced(part, it.end() - 1)
 
 
 def headline(known):
@@ -251,18 +241,41 @@ def headline(known):
 
 def methods_named(asked, types):
     """Returns the names of those of these types that there are, and what is asked for with what their methods' clauses name."""
-    methods = {it: list(of_methods(*it, names)) for it, names in types.items()}
+    methods = {it: list(of_methods(*it)) for it in types}
     more = {it for found in methods.values() for uses, text in found for it in uses.reached(text)}
     return ", ".join(f"`{owner}`" for (_, owner), found in methods.items() if found), asked | more
 
 
-def typed(known, asked):
-    """Returns the sentences that say how many definitions are reached with the clauses of typed calls, and with those of lanes in turn."""
+def counted(known):
+    """Returns the counted definitions, and the sentences that say how many there are."""
+    asked, sentence = headline(known)
     names, asked = methods_named(asked, TYPED)
-    sentence = names and f"With the clauses of typed calls, the methods of {names}, they reach {len(closure(known, asked))} definitions."
+    typed = names and f"With the clauses of typed calls, the methods of {names}, they reach {len(closure(known, asked))} definitions."
     names, asked = methods_named(asked, IN_TURN)
     turns = names and f"With those of lanes in turn, the methods of {names}, they reach {len(closure(known, asked))} definitions."
-    return [it for it in (sentence, turns) if it]
+    found = {it for it in closure(known, asked) if known[it][0] != HANDED_ON}
+    return found, [it for it in (sentence, typed, turns) if it]
+
+
+def modules(crate):
+    """Returns the spec files of a crate in the order in which it names them."""
+    return re.findall(r"(?m)^pub mod (\w+)", (CRATES / crate / "specs" / "Lib.antt").read_text())
+
+
+def row(known, it):
+    return f"| `{it[2]}` | {known[it][0]} | `{it[0]}/specs/{it[1]}.antt` |"
+
+
+def in_reading_order(known, found):
+    """Returns the section of the page that has these definitions."""
+    lines, named = [COUNTED], {crate for _, crates in READING for crate in crates}
+    for heading, crates in [*READING, ("Others", sorted({it[0] for it in found} - named))]:
+        order = {crate: modules(crate) for crate in crates if crate in {it[0] for it in found}}
+        here = [it for it in known if it in found and it[0] in order]
+        here.sort(key=lambda it: (crates.index(it[0]), order[it[0]].index(it[1])))
+        if here:
+            lines += ["", f"### {heading}", "", HEADER, *(row(known, it) for it in here)]
+    return "\n".join(lines) + "\n"
 
 
 def reached(known, all_of_them=False):
@@ -332,9 +345,14 @@ def listed(known):
 
 
 def main(words):
-    if words not in ([], ["--rows"]):
+    if words not in ([], ["--rows"], ["--counted"]):
         sys.exit(__doc__)
     known = definitions()
+    read, counts = counted(known)
+    first = in_reading_order(known, read)
+    if words == ["--counted"]:
+        print(first, end="")
+        return 0
     wanted = reached(known)
     allowed = wanted | reached(known, all_of_them=True)
     on_page, strange = listed(known)
@@ -342,7 +360,7 @@ def main(words):
     extra = [it for it in known if it in on_page - allowed]
     if words:
         for it in missing:
-            print(f"| `{it[2]}` | {known[it][0]} | `{it[0]}/specs/{it[1]}.antt` |")
+            print(row(known, it))
         return 0
     for it in missing:
         print(f"missing: {it[2]} of {it[0]}/specs/{it[1]}.antt")
@@ -350,13 +368,17 @@ def main(words):
         print(f"not reached: {it[2]} of {it[0]}/specs/{it[1]}.antt")
     for it in strange:
         print(it)
-    asked, counts = headline(known)
-    counted = [it for it in (counts, *typed(known, asked)) if it not in PAGE.read_text()]
-    for it in counted:
-        print(f"not on the page: {it}")
-    print(f"{len(wanted)} definitions reached, {len(missing)} of them not listed")
+    page = PAGE.read_text()
+    faults = [f"not on the page: {it}" for it in counts if it not in page]
+    if first not in page:
+        faults.append(f"the page's section `{COUNTED}` isn't what --counted prints")
+    if len(read) > MOST:
+        faults.append(f"{len(read)} definitions are counted, and may be {MOST} at most")
+    for it in faults:
+        print(it)
+    print(f"{len(wanted)} definitions reached, {len(missing)} of them not listed; {len(read)} counted")
     print(f"{len(extra)} listed and not reached, {len(strange)} unknown")
-    return 1 if missing or extra or strange or counted else 0
+    return 1 if missing or extra or strange or faults else 0
 
 
 if __name__ == "__main__":

@@ -21,6 +21,9 @@ const LAST: u64 = 1000;
 
 const LOOKS: u64 = 1 << 24;
 
+// What a sensor sends: a number, which sensor it is, and the number once more at the end.
+type Reading = [u64; 8];
+
 fn sizes() -> LaneSizes
     ensures { result.buffer ≡ 4 }
 {
@@ -45,8 +48,8 @@ fn measure(port: &mut LanePublisher, sensor: u64) -> u64 {
         let Some(LoanAnswer::Slot(loan)) = port.loan_uninit() else {
             return sent;
         };
-        let written = port.write(loan, &[number, sensor, 0, 0, 0, 0, 0, number], &[]);
-        if !written || port.send(loan).is_none() {
+        let reading: Reading = [number, sensor, 0, 0, 0, 0, 0, number];
+        if !port.write_values(loan, &reading, &()) || port.send(loan).is_none() {
             return sent;
         }
         sent = sent.saturating_add(1);
@@ -61,13 +64,12 @@ struct Shown {
     of_second: u64,
 }
 
-// What a display shows after the words of a message; None where its two numbers differ, or are below the one before.
-fn after(before: &Shown, words: &[u64]) -> Option<Shown>
+// What a display shows after a message; None where its two numbers differ, or are below the one before.
+fn after(before: &Shown, reading: &Reading) -> Option<Shown>
     ensures { IfSome result (λ next. (before.now.of_first ≤ next.of_first) × (before.now.of_second ≤ next.of_second)) }
 {
-    let number = *words.get(3)?;
-    let sensor = *words.get(4)?;
-    if *words.get(10)? != number {
+    let (number, sensor) = (reading[0], reading[1]);
+    if reading[7] != number {
         return None;
     }
     if sensor == 0 && number >= before.of_first {
@@ -85,6 +87,12 @@ fn after(before: &Shown, words: &[u64]) -> Option<Shown>
     None
 }
 
+// What a display shows after the message that its port read last.
+fn after_read(before: &Shown, port: &LaneSubscriber) -> Option<Shown> {
+    let (_, reading) = port.values::<Reading, ()>()?;
+    after(before, &reading)
+}
+
 // Shows what comes until the last number of both sensors did.
 fn display(rt: &impl Wait, port: &mut LaneSubscriber) -> Shown {
     let mut now = Shown {
@@ -100,7 +108,7 @@ fn display(rt: &impl Wait, port: &mut LaneSubscriber) -> Shown {
             continue;
         };
         if port.read(slot) {
-            if let Some(next) = after(&now, port.words()) {
+            if let Some(next) = after_read(&now, port) {
                 now = next;
             }
         }

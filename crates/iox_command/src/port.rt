@@ -6,7 +6,7 @@ use iox_domain_values::{
 /// Which port: the number of a publisher or of a subscriber, each kind counted from 1.
 ///
 /// This port's own.
-#[derive(Clone, Copy, Debug, PartialEq, Eq)]
+#[derive(Clone, Copy)]
 pub enum PortNumber {
     /// The number of a publisher.
     Publisher(u64),
@@ -17,7 +17,7 @@ pub enum PortNumber {
 /// What is named of a publisher. What isn't named has its default.
 ///
 /// Ported from `iceoryx2::service::port_factory::publisher::PortFactoryPublisher`, whose handlers are fixed actions here.
-#[derive(Clone, Copy, Debug, PartialEq, Eq)]
+#[derive(Clone, Copy)]
 pub struct PublisherOptions {
     /// How many loans may be out at once.
     pub max_loaned_samples: Option<u64>,
@@ -38,7 +38,7 @@ pub struct PublisherOptions {
 /// What is named of a subscriber. What isn't named has its default.
 ///
 /// Ported from `iceoryx2::service::port_factory::subscriber::PortFactorySubscriber`, whose handler is a fixed action here.
-#[derive(Clone, Copy, Debug, PartialEq, Eq)]
+#[derive(Clone, Copy)]
 pub struct SubscriberOptions {
     /// How many messages of one publisher may wait.
     pub buffer_size: Option<u64>,

@@ -7,7 +7,7 @@ use iox_describe_base::MessagingPattern;
 /// A number, or nothing.
 ///
 /// This port's own.
-#[derive(Clone, Copy, Debug, PartialEq, Eq)]
+#[derive(Clone, Copy)]
 pub enum NumberOrOff {
     /// This number.
     Number(u64),
@@ -18,7 +18,7 @@ pub enum NumberOrOff {
 /// What is named of a publish-subscribe service. What isn't named has its default.
 ///
 /// Ported from the setters of `iceoryx2::service::builder::publish_subscribe::Builder`.
-#[derive(Clone, Copy, Debug, PartialEq, Eq)]
+#[derive(Clone, Copy)]
 pub struct PublishSubscribeOptions {
     /// How many subscribers it may have.
     pub max_subscribers: Option<u64>,
@@ -41,7 +41,7 @@ pub struct PublishSubscribeOptions {
 /// What is named of an event service. What isn't named has its default.
 ///
 /// Ported from the setters of `iceoryx2::service::builder::event::Builder`.
-#[derive(Clone, Copy, Debug, PartialEq, Eq)]
+#[derive(Clone, Copy)]
 pub struct EventOptions {
     /// How many notifiers it may have.
     pub max_notifiers: Option<u64>,
@@ -64,7 +64,7 @@ pub struct EventOptions {
 /// What is named of a request-response service. What isn't named has its default.
 ///
 /// Ported from the setters of `iceoryx2::service::builder::request_response::Builder`.
-#[derive(Clone, Copy, Debug, PartialEq, Eq)]
+#[derive(Clone, Copy)]
 pub struct RequestResponseOptions {
     /// How many servers it may have.
     pub max_servers: Option<u64>,
@@ -91,7 +91,7 @@ pub struct RequestResponseOptions {
 /// What is named of a service, by its pattern.
 ///
 /// This port's own.
-#[derive(Clone, Copy, Debug, PartialEq, Eq)]
+#[derive(Clone, Copy)]
 pub enum ServiceOptions {
     /// Of a publish-subscribe service.
     PublishSubscribe(PublishSubscribeOptions),

@@ -4,7 +4,7 @@ use crate::service::ServiceOptions;
 /// One step of a foreign process, by the number of its node. It acts on the pattern and the name of its command.
 ///
 /// This port's own.
-#[derive(Clone, Copy, Debug, PartialEq, Eq)]
+#[derive(Clone, Copy)]
 pub enum ForeignStep {
     /// Where nothing lies, the node locks.
     Lock(u64),
@@ -25,7 +25,7 @@ pub enum ForeignStep {
 /// A foreign step, and the access of the command before which it is made, counted from 1.
 ///
 /// This port's own.
-#[derive(Clone, Copy, Debug, PartialEq, Eq)]
+#[derive(Clone, Copy)]
 pub struct StepBefore {
     /// The access.
     pub access: u64,

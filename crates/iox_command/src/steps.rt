@@ -8,7 +8,7 @@ use std::marker::Model;
 /// Contracts see them as their list.
 ///
 /// This port's own.
-#[derive(Debug, Drop)]
+#[derive(Drop)]
 pub struct Steps<T: Copy> {
     room: Option<Vec<T>>,
 }

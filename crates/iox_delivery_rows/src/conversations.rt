@@ -1,97 +1,104 @@
-//! Messages of single values go from node to node.
-use crate::services::{
-    CONFIG, Course, How, Messages, Service, come_new, go, is_delivered, publisher_leaves,
-    subscriber_leaves, wanted,
-};
+//! Messages of single values go from node to node, up to the last number.
+use crate::ports::{lent_to, publisher_leaves, sent_to, subscriber_leaves};
+use crate::services::{Course, How, Messages, Service, come_new, go};
 use iox_delivery::{Publisher, Sample, SampleMut, SampleMutUninit, Subscriber, UpdateConnections};
-use iox_domain_values::{LoanError, PublisherCreateError, ReceiveError, SubscriberCreateError};
-use iox_hub_base::Hub;
+use iox_delivery_factories::PortFactoryPublisher;
+use iox_domain_values::{
+    BackpressureAction, BackpressureHandler, LoanError, PublisherCreateError, ReceiveError,
+    SendError, SubscriberCreateError,
+};
 use std::alloc::Global;
 use std::process::Abort;
 use std::test::Fail;
 
-// One call, and what it answers.
+// What a publisher does.
 #[derive(Clone, Copy)]
-enum Call {
-    // The publisher follows the subscribers.
-    PublisherFollows,
-    // A value is lent, written and sent to one mailbox.
+enum Publishing {
+    // It follows the subscribers.
+    Follows,
+    // A value is lent, written and sent.
     Lends(u64),
     // A default is lent and sent.
     LendsDefault,
     // A copy is sent.
     Copies(u64),
-    // The subscriber follows the publishers.
-    SubscriberFollows,
-    // Whether the subscriber has samples.
+}
+
+// What a subscriber does, and what it is answered.
+#[derive(Clone, Copy)]
+enum Listening {
+    // It follows the publishers.
+    Follows,
+    // Whether it has samples.
     Has(bool),
-    // The subscriber receives this value, or none, and releases it.
-    Receives(Option<u64>),
+    // It receives this value and number, or none, and releases it.
+    Receives(Option<(u64, Option<u64>)>),
 }
 
-// Whether what was written is sent to one mailbox.
-fn is_sent(rt: &impl Abort, alloc: Global, hub: &mut Messages, sample: SampleMut<u64, u8>) -> bool {
-    assert!(rt; sample.holds(hub));
-    assert!(rt; !sample.is_blocked(hub));
-    let sent = sample.send(alloc, hub);
-    is_delivered(hub, sent)
+// One call. That of a publisher sends to so many mailboxes, or says why not.
+enum Call {
+    Publisher(Publishing, Result<usize, SendError>),
+    Subscriber(Listening),
 }
 
-// Whether a default that was lent is sent to one mailbox.
-fn default_is_sent(
-    rt: &impl Abort,
-    alloc: Global,
-    lent: Result<SampleMut<u64, u8>, LoanError>,
-    hub: &mut Messages,
-) -> bool {
-    match lent {
-        Ok(sample) => is_sent(rt, alloc, hub, sample),
-        Err(_) => false,
-    }
-}
+// The number of the first message: three follow.
+const FIRST: u64 = u64::MAX - 3;
 
-// Whether what was lent is written, and sent to one mailbox.
-fn is_written(
-    rt: &impl Abort,
-    alloc: Global,
+const USED_UP: Result<usize, SendError> = Err(SendError::InternalError);
+
+// Of four messages in a mailbox of three the oldest goes. Behind the last number nothing is sent, and the loan ends.
+const CALLS: [Call; 16] = [
+    Call::Publisher(Publishing::Follows, Ok(0)),
+    Call::Subscriber(Listening::Follows),
+    Call::Subscriber(Listening::Has(false)),
+    Call::Subscriber(Listening::Receives(None)),
+    Call::Publisher(Publishing::Copies(1), Ok(1)),
+    Call::Publisher(Publishing::Lends(2), Ok(1)),
+    Call::Publisher(Publishing::LendsDefault, Ok(1)),
+    Call::Publisher(Publishing::Copies(3), Ok(1)),
+    Call::Publisher(Publishing::Copies(4), USED_UP),
+    Call::Publisher(Publishing::Lends(5), USED_UP),
+    Call::Publisher(Publishing::LendsDefault, USED_UP),
+    Call::Subscriber(Listening::Has(true)),
+    Call::Subscriber(Listening::Receives(Some((2, Some(u64::MAX - 2))))),
+    Call::Subscriber(Listening::Receives(Some((0, Some(u64::MAX - 1))))),
+    Call::Subscriber(Listening::Receives(Some((3, Some(u64::MAX))))),
+    Call::Subscriber(Listening::Receives(None)),
+];
+
+// What was lent is written.
+fn written(
     lent: Result<SampleMutUninit<u64, u8>, LoanError>,
     hub: &mut Messages,
     value: u64,
-) -> bool {
+) -> Result<SampleMut<u64, u8>, LoanError> {
     match lent {
-        Ok(loan) => {
-            let sample = loan.write_payload(hub, value);
-            is_sent(rt, alloc, hub, sample)
-        }
-        Err(_) => false,
+        Ok(loan) => Ok(loan.write_payload(hub, value)),
+        Err(error) => Err(error),
     }
 }
 
-// Whether a call of the publisher goes so.
+// To how many mailboxes a publisher sends, or why to none.
 fn publishes(
     rt: &impl Abort,
     alloc: Global,
     hub: &mut Messages,
     publisher: &Publisher<u64, u8>,
-    call: Call,
-) -> bool {
+    publishing: Publishing,
+) -> Result<usize, SendError> {
     assert!(rt; publisher.holds(hub));
     assert!(rt; !publisher.is_blocked(hub));
-    match call {
-        Call::PublisherFollows => publisher.update_connections(alloc, hub) == Ok(()),
-        Call::Lends(value) => {
-            let lent = publisher.loan_uninit(alloc, hub);
-            is_written(rt, alloc, lent, hub, value)
+    match publishing {
+        Publishing::Follows => match publisher.update_connections(alloc, hub) {
+            Ok(()) => Ok(0),
+            Err(failure) => Err(SendError::ConnectionError(failure)),
+        },
+        Publishing::Lends(value) => {
+            let lent = written(publisher.loan_uninit(alloc, hub), hub, value);
+            lent_to(rt, alloc, lent, hub)
         }
-        Call::LendsDefault => {
-            let lent = publisher.loan(alloc, hub);
-            default_is_sent(rt, alloc, lent, hub)
-        }
-        Call::Copies(value) => {
-            let sent = publisher.send_copy(alloc, hub, value);
-            is_delivered(hub, sent)
-        }
-        _ => false,
+        Publishing::LendsDefault => lent_to(rt, alloc, publisher.loan(alloc, hub), hub),
+        Publishing::Copies(value) => sent_to(publisher.send_copy(alloc, hub, value), hub),
     }
 }
 
@@ -100,51 +107,34 @@ fn taken(
     rt: &impl Abort,
     received: Result<Option<Sample<u64, u8>>, ReceiveError>,
     hub: &mut Messages,
-) -> Option<u64> {
-    let Ok(Some(sample)) = received else {
-        return None;
-    };
-    assert!(rt; sample.holds(hub));
-    let came = *sample.payload(hub);
-    sample.release(hub);
-    Some(came)
+) -> Result<Option<(u64, Option<u64>)>, ReceiveError> {
+    match received {
+        Ok(Some(sample)) => {
+            assert!(rt; sample.holds(hub));
+            let came = (*sample.payload(hub), sample.header(hub).sequence());
+            sample.release(hub);
+            Ok(Some(came))
+        }
+        Ok(None) => Ok(None),
+        Err(error) => Err(error),
+    }
 }
 
-// Whether a call of the subscriber goes so.
+// Whether a subscriber is answered so.
 fn listens(
     rt: &impl Abort,
     alloc: Global,
     hub: &mut Messages,
     subscriber: &Subscriber<u64, u8>,
-    call: Call,
+    listening: Listening,
 ) -> bool {
     assert!(rt; subscriber.holds(hub));
-    match call {
-        Call::SubscriberFollows => subscriber.update_connections(alloc, hub) == Ok(()),
-        Call::Has(has) => subscriber.has_samples(alloc, hub) == Ok(has),
-        Call::Receives(value) => {
-            let received = subscriber.receive(alloc, hub);
-            taken(rt, received, hub) == value
-        }
-        _ => false,
+    match listening {
+        Listening::Follows => subscriber.update_connections(alloc, hub) == Ok(()),
+        Listening::Has(has) => subscriber.has_samples(alloc, hub) == Ok(has),
+        Listening::Receives(came) => taken(rt, subscriber.receive(alloc, hub), hub) == Ok(came),
     }
 }
-
-// Of four messages in a mailbox of three the oldest goes.
-const CALLS: [Call; 12] = [
-    Call::PublisherFollows,
-    Call::SubscriberFollows,
-    Call::Has(false),
-    Call::Receives(None),
-    Call::Copies(1),
-    Call::Lends(2),
-    Call::LendsDefault,
-    Call::Copies(3),
-    Call::Has(true),
-    Call::Receives(Some(2)),
-    Call::Receives(Some(0)),
-    Call::Receives(Some(3)),
-];
 
 // Whether a call goes so.
 fn goes(
@@ -153,13 +143,12 @@ fn goes(
     hub: &mut Messages,
     publisher: &Publisher<u64, u8>,
     subscriber: &Subscriber<u64, u8>,
-    call: Call,
+    call: &Call,
 ) -> bool {
-    match call {
-        Call::SubscriberFollows | Call::Has(_) | Call::Receives(_) => {
-            listens(rt, alloc, hub, subscriber, call)
-        }
-        _ => publishes(rt, alloc, hub, publisher, call),
+    match *call {
+        Call::Publisher(publishing, sent) => publishes(rt, alloc, hub, publisher, publishing)
+            == sent,
+        Call::Subscriber(listening) => listens(rt, alloc, hub, subscriber, listening),
     }
 }
 
@@ -173,42 +162,25 @@ fn go_on(
 ) {
     for (place, call) in CALLS.iter().enumerate() {
         assert!(rt;
-            goes(rt, alloc, hub, publisher, subscriber, *call),
+            goes(rt, alloc, hub, publisher, subscriber, call),
             "call {place}"
         );
     }
 }
 
-// Whether another hub gives the publisher back, and at its own it leaves.
-fn publisher_goes(
+// A publisher that a builder makes. Nobody asks its handler, since the service overflows.
+fn made(
     rt: &impl Abort,
+    alloc: Global,
     hub: &mut Messages,
-    other: &mut Messages,
-    publisher: Publisher<u64, u8>,
-) -> bool {
-    match publisher.drop_with(other) {
-        Ok(()) => false,
-        Err(publisher) => {
-            publisher_leaves(rt, hub, publisher);
-            true
-        }
-    }
-}
-
-// Whether another hub gives the subscriber back, and at its own it leaves.
-fn subscriber_goes(
-    rt: &impl Abort,
-    hub: &mut Messages,
-    other: &mut Messages,
-    subscriber: Subscriber<u64, u8>,
-) -> bool {
-    match subscriber.drop_with(other) {
-        Ok(()) => false,
-        Err(subscriber) => {
-            subscriber_leaves(rt, hub, subscriber);
-            true
-        }
-    }
+    builder: PortFactoryPublisher<u64, u8>,
+) -> Result<Publisher<u64, u8>, PublisherCreateError> {
+    let handler = BackpressureHandler::new_with(BackpressureAction::DiscardDataAndFail);
+    let builder = builder
+        .first_sequence(FIRST)
+        .set_backpressure_handler(handler);
+    assert!(rt; builder.holds(hub));
+    builder.create(alloc, hub)
 }
 
 // A publisher of a service.
@@ -219,11 +191,10 @@ fn publish(
     service: &Service,
 ) -> Result<Publisher<u64, u8>, PublisherCreateError> {
     assert!(rt; hub.holds(service));
-    let Some(builder) = hub.publisher_builder(service) else {
-        return Err(PublisherCreateError::ExceedsMaxSupportedPublishers);
-    };
-    assert!(rt; builder.holds(hub));
-    builder.create(alloc, hub)
+    match hub.publisher_builder(service) {
+        Some(builder) => made(rt, alloc, hub, builder),
+        None => Err(PublisherCreateError::ExceedsMaxSupportedPublishers),
+    }
 }
 
 // A subscriber of a service.
@@ -241,57 +212,29 @@ fn subscribe(
     builder.create(alloc, hub)
 }
 
-// Whether a publisher comes, is heard, and leaves.
-fn is_understood(
+// A publisher comes, each call goes so, and it leaves.
+fn publish_to(
     rt: &impl Abort,
     alloc: Global,
     hub: &mut Messages,
-    other: &mut Messages,
     service: &Service,
     subscriber: &Subscriber<u64, u8>,
-) -> bool {
-    match publish(rt, alloc, hub, service) {
-        Ok(publisher) => {
-            go_on(rt, alloc, hub, &publisher, subscriber);
-            publisher_goes(rt, hub, other, publisher)
-        }
-        Err(_) => false,
-    }
+) {
+    let Ok(publisher) = publish(rt, alloc, hub, service) else {
+        panic!(rt; "no publisher comes");
+    };
+    go_on(rt, alloc, hub, &publisher, subscriber);
+    publisher_leaves(rt, hub, publisher);
 }
 
-// Messages go from the node that created a service to one that opened it.
-fn converse(
-    rt: &impl Abort,
-    alloc: Global,
-    hub: &mut Messages,
-    other: &mut Messages,
-    made: &Service,
-    opened: &Service,
-) -> Result<(), Fail> {
-    let subscriber = subscribe(rt, alloc, hub, opened)?;
-    let understood = is_understood(rt, alloc, hub, other, made, &subscriber);
-    let gone = subscriber_goes(rt, hub, other, subscriber);
-    wanted(
-        understood && gone,
-        "both ports come, and leave their own hub alone",
-    )
-}
-
-// Two nodes agree on a service, and messages go.
-fn agree_beside(
-    rt: &impl Abort,
-    alloc: Global,
-    hub: &mut Messages,
-    other: &mut Messages,
-) -> Result<(), Fail> {
+/// Messages go from the node that created a service to one that opened it.
+pub(crate) fn agree(rt: &impl Abort, alloc: Global, hub: &mut Messages) -> Result<(), Fail> {
     let made = come_new::<u64>(rt, alloc, hub, How::Create)?;
     let opened = come_new::<u64>(rt, alloc, hub, How::Open)?;
-    converse(rt, alloc, hub, other, &made, &opened)
-}
-
-/// The same beside another hub.
-pub(crate) fn agree(rt: &impl Abort, alloc: Global, hub: &mut Messages) -> Result<(), Fail> {
-    agree_beside(rt, alloc, hub, &mut Hub::new(alloc, CONFIG))
+    let subscriber = subscribe(rt, alloc, hub, &opened)?;
+    publish_to(rt, alloc, hub, &made, &subscriber);
+    subscriber_leaves(rt, hub, subscriber);
+    Ok(())
 }
 
 #[test]

@@ -4,11 +4,11 @@
 //! sizes.
 //!
 //! - `services`: services of a hub, and their domains.
-//! - `conversations`: messages of single values go from node to node.
+//! - `conversations`: messages of single values go from node to node, up to the last number.
 //! - `slices`: messages of slices do.
 //! - `custom`: ports of a payload that only the description says.
-//! - `sequences`: sends number their messages, where the service does.
-//! - `texts`: how errors display.
+//! - `ports`: sends at any home, and ports that leave a hub.
+//! - `texts`: how errors display and hash.
 //! - `values`: the text form, and the objects that a caller hands in.
 #![tactic(auto)]
 
@@ -17,7 +17,7 @@ mod conversations;
 #[cfg(test)]
 mod custom;
 #[cfg(test)]
-mod sequences;
+mod ports;
 #[cfg(test)]
 mod services;
 #[cfg(test)]

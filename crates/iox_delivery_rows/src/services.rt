@@ -1,13 +1,11 @@
-//! Services of a hub, their domains, and what a send at one comes to.
+//! Services of a hub, and their domains.
 use crate::{conversations, slices};
-use iox_delivery::{Publisher, Sent, Subscriber};
 use iox_describe::ServiceName;
 use iox_describe::pattern::PublishSubscribe;
 use iox_domain::Domain;
-use iox_domain_values::SendError;
 use iox_hub_base::{Hub, HubBuilder, HubConfig, NodeHandle, PortFactory};
 use iox_negotiate::{Payload, ServiceBuilder};
-use std::alloc::Global;
+use std::alloc::{AllocError, Global};
 use std::process::Abort;
 use std::test::Fail;
 
@@ -22,11 +20,6 @@ pub(crate) const CONFIG: HubConfig = HubConfig {
     expired_connection_buffer: 5,
     id: 7,
 };
-
-/// What must be so.
-pub(crate) fn wanted(holds: bool, what: &'static str) -> Result<(), Fail> {
-    if holds { Ok(()) } else { Err(Fail::from(what)) }
-}
 
 // What is asked of a service of payload `P`: mailboxes of three messages, and numbers.
 fn asked<P: Payload>(
@@ -82,47 +75,10 @@ pub(crate) fn come_new<P: Payload>(
     come::<P>(rt, alloc, hub, &node, how, b"A")
 }
 
-/// Whether one mailbox took what was sent. A send that waits is let go.
-pub(crate) fn is_delivered(hub: &mut Messages, sent: Result<Sent<u64, u8>, SendError>) -> bool {
-    match sent {
-        Ok(Sent::Delivered(delivered)) => delivered == 1,
-        Ok(Sent::Blocked(blocked)) => {
-            blocked.drop_with(hub);
-            false
-        }
-        Err(_) => false,
-    }
-}
-
-/// A publisher of any kind leaves.
-pub(crate) fn publisher_leaves<K>(
-    rt: &impl Abort,
-    hub: &mut Messages,
-    publisher: Publisher<u64, u8, K>,
-) {
-    assert!(rt; publisher.holds(hub));
-    assert!(rt; !publisher.is_blocked(hub));
-    publisher.leave(hub);
-}
-
-/// A subscriber of any kind leaves.
-pub(crate) fn subscriber_leaves<K>(
-    rt: &impl Abort,
-    hub: &mut Messages,
-    subscriber: Subscriber<u64, u8, K>,
-) {
-    assert!(rt; subscriber.holds(hub));
-    subscriber.leave(hub);
-}
-
-// Whether a service's domain is here, a publisher may be made in it, and a subscriber.
-fn seen(rt: &impl Abort, hub: &Messages, service: &Service) -> [bool; 3] {
+// Whether a service's domain is here.
+fn has_domain(rt: &impl Abort, hub: &Messages, service: &Service) -> bool {
     assert!(rt; hub.holds(service));
-    [
-        hub.domain(service).is_some(),
-        hub.publisher_builder(service).is_some(),
-        hub.subscriber_builder(service).is_some(),
-    ]
+    hub.domain(service).is_some()
 }
 
 // Whether a domain is put back.
@@ -130,24 +86,14 @@ fn is_put(hub: &mut Messages, domain: Domain<u64, u8>) -> bool {
     hub.put_domain(domain).is_ok()
 }
 
-// Whether nothing of a service is here while its domain is out, and all once that is put back.
-fn is_put_back(
-    rt: &impl Abort,
-    hub: &mut Messages,
-    service: &Service,
-    domain: Domain<u64, u8>,
-) -> bool {
-    let before = seen(rt, hub, service);
-    let put = is_put(hub, domain);
-    let behind = seen(rt, hub, service);
-    put && [before, behind] == [[false; 3], [true; 3]]
-}
-
-// Whether a service's domain is taken, isn't here then, and is put back.
+// Whether a service's domain is taken, isn't here then, and is here once it is put back.
 fn comes_back(rt: &impl Abort, hub: &mut Messages, service: &Service) -> bool {
     assert!(rt; hub.holds(service));
     match hub.take_domain(service) {
-        Ok(domain) => is_put_back(rt, hub, service, domain),
+        Ok(domain) => {
+            let gone = !has_domain(rt, hub, service);
+            is_put(hub, domain) && gone && has_domain(rt, hub, service)
+        }
         Err(_) => false,
     }
 }
@@ -172,18 +118,10 @@ fn twice(
     node: &NodeHandle,
 ) -> Result<(), Fail> {
     let first = come::<u64>(rt, alloc, hub, node, How::OpenOrCreate, b"A")?;
-    let back = comes_back(rt, hub, &first);
+    assert!(rt; comes_back(rt, hub, &first));
     let second = come::<u64>(rt, alloc, hub, node, How::OpenOrCreate, b"A")?;
-    wanted(
-        both_close(rt, hub, first, second) && back,
-        "the domain comes back, and both are closed",
-    )
-}
-
-// Whether a service has no domain here, and is closed.
-fn closes_without(rt: &impl Abort, hub: &mut Messages, service: Service) -> bool {
-    let without = seen(rt, hub, &service);
-    is_closed(rt, hub, service) && without == [false; 3]
+    assert!(rt; both_close(rt, hub, first, second));
+    Ok(())
 }
 
 // A service of other messages has no domain.
@@ -194,14 +132,19 @@ fn of_others(
     node: &NodeHandle,
 ) -> Result<(), Fail> {
     let smaller = come::<u32>(rt, alloc, hub, node, How::Create, b"B")?;
-    wanted(
-        closes_without(rt, hub, smaller),
-        "others have no domain, and are closed",
-    )
+    assert!(rt; !has_domain(rt, hub, &smaller));
+    assert!(rt; is_closed(rt, hub, smaller));
+    Ok(())
+}
+
+// Whether the first node of the hub displays so.
+fn is_shown(alloc: Global, node: &NodeHandle) -> Result<bool, AllocError> {
+    Ok(format!(in alloc; "{node:?}")?.as_str() == "NodeHandle { hub: 7, number: 1 }")
 }
 
 fn come_and_go(rt: &impl Abort, alloc: Global, hub: &mut Messages) -> Result<(), Fail> {
     let node = hub.new_node()?;
+    assert!(rt; is_shown(alloc, &node)?);
     twice(rt, alloc, hub, &node)?;
     of_others(rt, alloc, hub, &node)
 }

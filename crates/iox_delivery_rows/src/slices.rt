@@ -1,15 +1,13 @@
 //! Messages of slices go from node to node.
 ghost use Rattle.std.specs.Prelude.{◌≤◌};
 
-use crate::services::{
-    Course, How, Messages, Service, come_new, go, is_delivered, publisher_leaves, subscriber_leaves,
-};
+use crate::ports::{lent_to, publisher_leaves, sent_to, subscriber_leaves};
+use crate::services::{Course, How, Messages, Service, come_new, go};
 use iox_delivery::slices::{Publisher, Sample, SampleMut, SampleMutUninit, Subscriber};
 use iox_delivery_factories::PortFactoryPublisher;
-use iox_describe::Header;
 use iox_domain_values::{
     LoanError, PreallocatedSamplesFn, PreallocatedSamplesOverride, PublisherCreateError,
-    ReceiveError, SubscriberCreateError,
+    ReceiveError, SendError, SubscriberCreateError,
 };
 use iox_negotiate::Slice;
 use std::alloc::Global;
@@ -115,88 +113,38 @@ fn subscribe(
     builder.create_slice(alloc, hub)
 }
 
-// Whether the header of what was lent names the node, the second one, and so many values.
-fn is_headed(rt: &impl Abort, hub: &Messages, sample: &SampleMut<u64, u8>, len: usize) -> bool {
-    assert!(rt; sample.holds(hub));
-    let header = sample.header(hub);
-    (header.node_id, header.number_of_elements) == (2, len as u64)
-}
-
-// Whether what was written is sent to one mailbox.
-fn is_sent(rt: &impl Abort, alloc: Global, hub: &mut Messages, sample: SampleMut<u64, u8>) -> bool {
-    assert!(rt; sample.holds(hub));
-    assert!(rt; !sample.is_blocked(hub));
-    let sent = sample.send(alloc, hub);
-    is_delivered(hub, sent)
-}
-
-// Whether what was written has its header, and is sent to one mailbox.
-fn is_headed_and_sent(
-    rt: &impl Abort,
-    alloc: Global,
-    hub: &mut Messages,
-    sample: SampleMut<u64, u8>,
-    len: usize,
-) -> bool {
-    let headed = is_headed(rt, hub, &sample, len);
-    is_sent(rt, alloc, hub, sample) && headed
-}
-
-// Whether defaults that were lent are sent.
-fn defaults_are_sent(
-    rt: &impl Abort,
-    alloc: Global,
-    lent: Result<SampleMut<u64, u8>, LoanError>,
-    hub: &mut Messages,
-    len: usize,
-) -> bool {
-    match lent {
-        Ok(sample) => is_headed_and_sent(rt, alloc, hub, sample, len),
-        Err(_) => false,
-    }
-}
-
 // The place of a value, as the value.
 fn place(place: usize) -> u64 {
     place as u64
 }
 
-// Values are written, of which each is its place.
+// What was lent is written: each value is its place. Its header must name the node, the second one, and so many values.
 fn written(
     rt: &impl Abort,
-    hub: &mut Messages,
-    loan: SampleMutUninit<u64, u8>,
-) -> SampleMut<u64, u8> {
-    assert!(rt; loan.holds(hub));
-    loan.write_from_fn(hub, &mut place)
-}
-
-// Whether what was lent is written, and sent.
-fn places_are_sent(
-    rt: &impl Abort,
-    alloc: Global,
     lent: Result<SampleMutUninit<u64, u8>, LoanError>,
     hub: &mut Messages,
     len: usize,
-) -> bool {
+) -> Result<SampleMut<u64, u8>, LoanError> {
     match lent {
         Ok(loan) => {
-            let sample = written(rt, hub, loan);
-            is_headed_and_sent(rt, alloc, hub, sample, len)
+            assert!(rt; loan.holds(hub));
+            let header = loan.header(hub);
+            assert!(rt; (header.node_id, header.number_of_elements) == (2, len as u64));
+            Ok(loan.write_from_fn(hub, &mut place))
         }
-        Err(_) => false,
+        Err(error) => Err(error),
     }
 }
 
 // What is sent.
-#[derive(Clone, Copy, Debug)]
+#[derive(Clone, Copy)]
 enum Values {
     Defaults,
     Places,
     Sevens,
 }
 
-// Whether a slice of so many values is sent to one mailbox.
+// To how many mailboxes a slice of so many values is sent, or why to none.
 fn sends(
     rt: &impl Abort,
     alloc: Global,
@@ -204,55 +152,23 @@ fn sends(
     publisher: &Publisher<u64, u8>,
     values: Values,
     len: usize,
-) -> bool {
+) -> Result<usize, SendError> {
     assert!(rt; publisher.holds(hub));
     assert!(rt; !publisher.is_blocked(hub));
     match values {
-        Values::Defaults => {
-            let lent = publisher.loan_slice(alloc, hub, len);
-            defaults_are_sent(rt, alloc, lent, hub, len)
-        }
+        Values::Defaults => lent_to(rt, alloc, publisher.loan_slice(alloc, hub, len), hub),
         Values::Places => {
-            let lent = publisher.loan_slice_uninit(alloc, hub, len);
-            places_are_sent(rt, alloc, lent, hub, len)
+            let lent = written(rt, publisher.loan_slice_uninit(alloc, hub, len), hub, len);
+            lent_to(rt, alloc, lent, hub)
         }
         Values::Sevens => {
-            let sent = publisher.send_slice(alloc, hub, SEVENS.get(..len).unwrap_or(&[]));
-            is_delivered(hub, sent)
+            let sevens = SEVENS.get(..len).unwrap_or(&[]);
+            sent_to(publisher.send_slice(alloc, hub, sevens), hub)
         }
     }
 }
 
-// How many values came, the last one of them, and their number; they are released again.
-fn taken(
-    rt: &impl Abort,
-    received: Result<Option<Sample<u64, u8>>, ReceiveError>,
-    hub: &mut Messages,
-) -> Option<(usize, Option<u64>, Option<u64>)> {
-    let Ok(Some(sample)) = received else {
-        return None;
-    };
-    assert!(rt; sample.holds(hub));
-    let values = sample.payload(hub);
-    let number = sample.header(hub).sequence();
-    let came = (values.len(), values.last().copied(), number);
-    sample.release(hub);
-    Some(came)
-}
-
-// How many values come next, the last one of them, and their number.
-fn receives(
-    rt: &impl Abort,
-    alloc: Global,
-    hub: &mut Messages,
-    subscriber: &Subscriber<u64, u8>,
-) -> Option<(usize, Option<u64>, Option<u64>)> {
-    assert!(rt; subscriber.holds(hub));
-    let received = subscriber.receive(alloc, hub);
-    taken(rt, received, hub)
-}
-
-// Three slices of so many values must be sent.
+// Three slices of so many values must be sent to one mailbox.
 fn are_sent(
     rt: &impl Abort,
     alloc: Global,
@@ -260,15 +176,49 @@ fn are_sent(
     publisher: &Publisher<u64, u8>,
     len: usize,
 ) {
-    for values in &[Values::Defaults, Values::Places, Values::Sevens] {
+    for values in [Values::Defaults, Values::Places, Values::Sevens] {
         assert!(rt;
-            sends(rt, alloc, hub, publisher, *values, len),
-            "{len} {values:?}"
+            sends(rt, alloc, hub, publisher, values, len) == Ok(1),
+            "{len}"
         );
     }
 }
 
-// The last of so many values, which is this one.
+// How many values came, the last one of them, and their number.
+type Came = (usize, Option<u64>, Option<u64>);
+
+// What came; it is released again.
+fn taken(
+    rt: &impl Abort,
+    received: Result<Option<Sample<u64, u8>>, ReceiveError>,
+    hub: &mut Messages,
+) -> Option<Came> {
+    match received {
+        Ok(Some(sample)) => {
+            assert!(rt; sample.holds(hub));
+            let values = sample.payload(hub);
+            let number = sample.header(hub).sequence();
+            let came = (values.len(), values.last().copied(), number);
+            sample.release(hub);
+            Some(came)
+        }
+        Ok(None) => None,
+        Err(_) => None,
+    }
+}
+
+// What comes next.
+fn receives(
+    rt: &impl Abort,
+    alloc: Global,
+    hub: &mut Messages,
+    subscriber: &Subscriber<u64, u8>,
+) -> Option<Came> {
+    assert!(rt; subscriber.holds(hub));
+    taken(rt, subscriber.receive(alloc, hub), hub)
+}
+
+// The last of so many values, if there is one.
 fn last(len: usize, value: usize) -> Option<u64> {
     if len == 0 { None } else { Some(value as u64) }
 }
@@ -282,13 +232,15 @@ fn are_received(
     len: usize,
 ) {
     for (number, value) in [(41, 0), (42, len.saturating_sub(1)), (43, 7)] {
-        let came = receives(rt, alloc, hub, subscriber);
         let wanted = Some((len, last(len, value), Some(number)));
-        assert!(rt; came == wanted, "{len}, {number}");
+        assert!(rt;
+            receives(rt, alloc, hub, subscriber) == wanted,
+            "{len}, {number}"
+        );
     }
 }
 
-// Whether a publisher of slices of so many values comes and is heard; it leaves again.
+// A publisher of slices of so many values must come and be heard; it leaves again.
 fn is_heard(
     rt: &impl Abort,
     alloc: Global,
@@ -296,35 +248,16 @@ fn is_heard(
     service: &Service,
     subscriber: &Subscriber<u64, u8>,
     len: usize,
-) -> bool {
-    match publish(rt, alloc, hub, service, len) {
-        Ok(publisher) => {
-            are_sent(rt, alloc, hub, &publisher, len);
-            are_received(rt, alloc, hub, subscriber, len);
-            publisher_leaves(rt, hub, publisher);
-            true
-        }
-        Err(_) => false,
-    }
-}
-
-// A publisher for each length must be heard.
-fn each_is_heard(
-    rt: &impl Abort,
-    alloc: Global,
-    hub: &mut Messages,
-    service: &Service,
-    subscriber: &Subscriber<u64, u8>,
 ) {
-    for len in &LENGTHS {
-        assert!(rt;
-            is_heard(rt, alloc, hub, service, subscriber, *len),
-            "{len}"
-        );
-    }
+    let Ok(publisher) = publish(rt, alloc, hub, service, len) else {
+        panic!(rt; "no publisher comes: {len}");
+    };
+    are_sent(rt, alloc, hub, &publisher, len);
+    are_received(rt, alloc, hub, subscriber, len);
+    publisher_leaves(rt, hub, publisher);
 }
 
-// One subscriber hears all.
+// A publisher for each length must be heard by one subscriber.
 fn all_are_heard(
     rt: &impl Abort,
     alloc: Global,
@@ -332,7 +265,9 @@ fn all_are_heard(
     service: &Service,
 ) -> Result<(), Fail> {
     let subscriber = subscribe(rt, alloc, hub, service)?;
-    each_is_heard(rt, alloc, hub, service, &subscriber);
+    for len in &LENGTHS {
+        is_heard(rt, alloc, hub, service, &subscriber, *len);
+    }
     subscriber_leaves(rt, hub, subscriber);
     Ok(())
 }

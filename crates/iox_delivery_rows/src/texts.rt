@@ -1,10 +1,11 @@
-//! How errors display.
+//! How errors display and hash.
 use iox_domain_values::{
     ConnectionFailure, DomainError, LoanError, PublisherCreateError, ReceiveError, SendError,
     SubscriberCreateError, ZeroCopyCreationError,
 };
 use std::alloc::{AllocError, Global};
 use std::fmt::Display;
+use std::hash::{DefaultHasher, Hash, Hasher};
 use std::process::Abort;
 
 // The first error that displays otherwise.
@@ -61,7 +62,15 @@ const FAILURES: [(ConnectionFailure, &str); 4] = [
 ];
 
 // Each refused loan is a failed send, too.
-const SENDS: [(SendError, &str); 9] = [
+const SENDS: [(SendError, &str); 12] = [
+    (
+        SendError::ConnectionBrokenSinceSenderNoLongerExists,
+        "SendError::ConnectionBrokenSinceSenderNoLongerExists",
+    ),
+    (
+        SendError::ConnectionCorrupted,
+        "SendError::ConnectionCorrupted",
+    ),
     (
         SendError::ConnectionError(NO_MEMORY),
         "SendError::ConnectionError(FailedToEstablishConnection(OutOfMemory))",
@@ -95,6 +104,7 @@ const SENDS: [(SendError, &str); 9] = [
         "SendError::LoanError(InternalFailure)",
     ),
     (SendError::UnableToDeliver, "SendError::UnableToDeliver"),
+    (SendError::InternalError, "SendError::InternalError"),
 ];
 
 const RECEIVES: [(ReceiveError, &str); 5] = [
@@ -141,21 +151,62 @@ const LOANS: [(LoanError, &str); 4] = [
     (LoanError::InternalFailure, "LoanError::InternalFailure"),
 ];
 
-// One variant of each other error.
-const CREATIONS: [(ZeroCopyCreationError, &str); 1] = [(
-    ZeroCopyCreationError::IncompatibleBufferSize,
-    "ZeroCopyCreationError::IncompatibleBufferSize",
-)];
+const CREATIONS: [(ZeroCopyCreationError, &str); 3] = [
+    (
+        ZeroCopyCreationError::OutOfMemory,
+        "ZeroCopyCreationError::OutOfMemory",
+    ),
+    (
+        ZeroCopyCreationError::ExpiredConnectionBufferFull,
+        "ZeroCopyCreationError::ExpiredConnectionBufferFull",
+    ),
+    (
+        ZeroCopyCreationError::IncompatibleBufferSize,
+        "ZeroCopyCreationError::IncompatibleBufferSize",
+    ),
+];
 
-const PUBLISHERS: [(PublisherCreateError, &str); 1] = [(
-    PublisherCreateError::UnableToCreateDataSegment,
-    "PublisherCreateError::UnableToCreateDataSegment",
-)];
+const PUBLISHERS: [(PublisherCreateError, &str); 4] = [
+    (
+        PublisherCreateError::ExceedsMaxSupportedPublishers,
+        "PublisherCreateError::ExceedsMaxSupportedPublishers",
+    ),
+    (
+        PublisherCreateError::UnableToCreateDataSegment,
+        "PublisherCreateError::UnableToCreateDataSegment",
+    ),
+    (
+        PublisherCreateError::FailedToDeployThreadsafetyPolicy,
+        "PublisherCreateError::FailedToDeployThreadsafetyPolicy",
+    ),
+    (
+        PublisherCreateError::UnableToCreatePortTag,
+        "PublisherCreateError::UnableToCreatePortTag",
+    ),
+];
 
-const SUBSCRIBERS: [(SubscriberCreateError, &str); 1] = [(
-    SubscriberCreateError::OutOfMemory,
-    "SubscriberCreateError::OutOfMemory",
-)];
+const SUBSCRIBERS: [(SubscriberCreateError, &str); 5] = [
+    (
+        SubscriberCreateError::ExceedsMaxSupportedSubscribers,
+        "SubscriberCreateError::ExceedsMaxSupportedSubscribers",
+    ),
+    (
+        SubscriberCreateError::BufferSizeExceedsMaxSupportedBufferSizeOfService,
+        "SubscriberCreateError::BufferSizeExceedsMaxSupportedBufferSizeOfService",
+    ),
+    (
+        SubscriberCreateError::FailedToDeployThreadsafetyPolicy,
+        "SubscriberCreateError::FailedToDeployThreadsafetyPolicy",
+    ),
+    (
+        SubscriberCreateError::UnableToCreatePortTag,
+        "SubscriberCreateError::UnableToCreatePortTag",
+    ),
+    (
+        SubscriberCreateError::OutOfMemory,
+        "SubscriberCreateError::OutOfMemory",
+    ),
+];
 
 const DOMAINS: [(DomainError, &str); 1] = [(DomainError::OutOfMemory, "DomainError::OutOfMemory")];
 
@@ -170,4 +221,36 @@ fn other_errors_display_as_type_and_variant(rt: HostRuntime) -> Result<(), Alloc
         first_other(alloc, &DOMAINS),
     ];
     all_display(&rt, &others)
+}
+
+fn hash_of<E: Hash>(error: &E) -> u64 {
+    let mut state = DefaultHasher::default();
+    error.hash(&mut state);
+    state.finish()
+}
+
+// How many errors hash as this one does.
+fn number_alike<E: Hash>(rows: &[(E, &str)], error: &E) -> usize {
+    let mut number: usize = 0;
+    for row in rows {
+        if hash_of(&row.0) == hash_of(error) {
+            number = number.saturating_add(1);
+        }
+    }
+    number
+}
+
+// Whether each hashes as itself alone.
+fn hash_apart<E: Hash>(rows: &[(E, &str)]) -> bool {
+    for row in rows {
+        if number_alike(rows, &row.0) != 1 {
+            return false;
+        }
+    }
+    true
+}
+
+#[test]
+fn errors_hash_as_themselves_alone(rt: HostRuntime) {
+    assert!(&rt; hash_apart(&LOANS) && hash_apart(&FAILURES));
 }

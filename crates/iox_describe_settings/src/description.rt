@@ -12,7 +12,7 @@ use std::marker::Model;
 /// A version of the one line that spells a description.
 ///
 /// This port's own.
-#[derive(Clone, Copy, Debug, PartialEq, Eq)]
+#[derive(Clone, Copy)]
 pub enum Version {
     /// The first, which has no `sequence_numbers`.
     One,

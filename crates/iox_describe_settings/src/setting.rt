@@ -8,7 +8,7 @@ ghost use Rattle.iox_describe_settings.specs.Setting.{same_value, IsAllowed, IsO
 use iox_describe_base::message_type::MessageTypeDetails;
 
 /// What a setting is set to.
-#[derive(Clone, Copy, Debug, PartialEq, Eq)]
+#[derive(Clone, Copy)]
 pub enum SettingValue {
     /// Whether something is done.
     Switch(bool),
@@ -21,7 +21,7 @@ pub enum SettingValue {
 }
 
 /// What a number is where nothing is asked, and between which ends it lies.
-#[derive(Clone, Copy, Debug, PartialEq, Eq)]
+#[derive(Clone, Copy)]
 pub struct NumberRule {
     /// What stands where nothing is asked.
     pub default: u64,
@@ -32,7 +32,7 @@ pub struct NumberRule {
 }
 
 /// What a setting may be set to, and what it is where nothing is asked.
-#[derive(Clone, Copy, Debug, PartialEq, Eq)]
+#[derive(Clone, Copy)]
 pub enum Rule {
     /// A switch, and its default.
     Switch(bool),

@@ -1,7 +1,7 @@
 //! Where a subscriber reads.
 
 /// A connection that a subscriber reads from.
-#[derive(Clone, Copy, Debug, PartialEq, Eq)]
+#[derive(Clone, Copy)]
 pub struct Attached {
     /// The number of the publisher.
     pub publisher: u64,
@@ -10,7 +10,7 @@ pub struct Attached {
 }
 
 /// A message that was received.
-#[derive(Clone, Copy, Debug, PartialEq, Eq)]
+#[derive(Clone, Copy)]
 pub struct Taken {
     /// The number of the subscriber that received it.
     pub subscriber: u64,
@@ -23,7 +23,7 @@ pub struct Taken {
 }
 
 /// What is seen of a connection.
-#[derive(Clone, Copy, Debug, PartialEq, Eq)]
+#[derive(Clone, Copy)]
 pub(crate) struct Seen {
     /// How many messages wait there.
     pub waiting: usize,
@@ -34,7 +34,7 @@ pub(crate) struct Seen {
 }
 
 /// What is asked of a connection where a subscriber receives.
-#[derive(Clone, Copy, Debug, PartialEq, Eq)]
+#[derive(Clone, Copy)]
 pub(crate) struct Asked {
     /// Whether it is below the limit of borrows, and has data.
     pub gives: bool,
@@ -45,7 +45,7 @@ pub(crate) struct Asked {
 }
 
 /// Which expired connections are met before one that gives.
-#[derive(Clone, Copy, Debug, PartialEq, Eq)]
+#[derive(Clone, Copy)]
 pub(crate) struct Met {
     /// How many.
     pub count: usize,
@@ -56,7 +56,7 @@ pub(crate) struct Met {
 }
 
 /// What is found where all connections are gone over.
-#[derive(Clone, Copy, Debug, PartialEq, Eq)]
+#[derive(Clone, Copy)]
 pub(crate) struct Found {
     /// The first key whose connection gives.
     pub giver: Option<usize>,

@@ -7,7 +7,7 @@ use std::alloc::Global;
 use std::collections::BTreeMap;
 
 /// Who a port belongs to, and how much of it lives.
-#[derive(Clone, Copy, Debug, PartialEq, Eq)]
+#[derive(Clone, Copy)]
 pub struct Share {
     /// The number of its owner.
     pub owner: u64,

@@ -7,7 +7,7 @@ use crate::publishers::Publishers;
 use crate::subscriber_port::SubscriberPort;
 
 /// Which expired connection is looked for.
-#[derive(Clone, Copy, Debug, PartialEq, Eq)]
+#[derive(Clone, Copy)]
 pub(crate) enum Sought {
     /// One at which nothing waits and nothing is borrowed.
     Idle,

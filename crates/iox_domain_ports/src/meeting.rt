@@ -1,7 +1,7 @@
 //! What comes of a message at a place, and of a send.
 
 /// What comes of a message at a place of the list of subscribers.
-#[derive(Clone, Copy, Debug, PartialEq, Eq)]
+#[derive(Clone, Copy)]
 pub enum Meeting {
     /// There is no such place.
     Over,
@@ -16,7 +16,7 @@ pub enum Meeting {
 /// What a send came to.
 ///
 /// Ported from what `iceoryx2::port::publisher::Publisher::send` answers, which waits itself.
-#[derive(Clone, Copy, Debug, PartialEq, Eq)]
+#[derive(Clone, Copy, PartialEq, Eq)]
 pub enum Sent {
     /// So many connections took the message.
     Delivered(usize),

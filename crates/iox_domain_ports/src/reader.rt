@@ -4,7 +4,7 @@ ghost use Rattle.std.specs.List.{position};
 ghost use Rattle.iox_domain_ports.specs.Places.{leads_to};
 
 /// Who a connection leads to.
-#[derive(Clone, Copy, Debug, PartialEq, Eq)]
+#[derive(Clone, Copy)]
 pub struct Reader {
     /// The number of the subscriber.
     pub subscriber: u64,

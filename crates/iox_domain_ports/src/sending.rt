@@ -1,7 +1,7 @@
 //! A publisher sends.
 ghost use Rattle.std.specs.Prelude.{◌≡◌, ◌≢◌, ℕ, ◌+◌, ◌-◌, ◌<◌, ◌≤◌, ◌^◌, Ok, Err, length, get_or, is_some, true, false, None, Some};
 ghost use Rattle.std.specs.Prelude.{if◌then◌else◌};
-ghost use Rattle.iox_domain_values.specs.Sequences.{is_used_up};
+ghost use Rattle.iox_domain_values.specs.Sequences.{next_sequence, is_used_up};
 ghost use Rattle.iox_domain_values.specs.declared.degradation.DegradationCause.TheVariants as cause;
 ghost use Rattle.iox_domain_ports.specs.MessagesSending.{has_loan, is_written_loan, loan_at, place_in};
 ghost use Rattle.iox_domain_ports.specs.declared.meeting.Meeting.TheVariants as meeting;
@@ -20,10 +20,26 @@ use crate::messages::Member;
 use crate::progress::Progress;
 use crate::publisher_port::PublisherPort;
 use crate::subscriber_entry::SubscriberEntry;
-use iox_domain_values::{
-    BackpressureDecision, BackpressureInfo, Decides, Degrades, SendError, is_used_up, next_sequence,
-};
+use iox_domain_values::{BackpressureDecision, BackpressureInfo, Decides, Degrades, SendError};
 use std::alloc::Global;
+
+// The number behind the last one; None where messages have no numbers.
+fn next_sequence(last: Option<u64>) -> Option<u64>
+    requires { is_used_up last ≡ false }
+    ensures { result ≡ next_sequence last }
+{
+    match last {
+        Some(number) => Some(number + 1),
+        None => None,
+    }
+}
+
+// Whether no number is left behind the last one, which is 2^64 - 1.
+fn is_used_up(last: Option<u64>) -> bool
+    ensures { result ≡ is_used_up last }
+{
+    last == Some(u64::MAX)
+}
 
 impl<T: Copy, U: Copy> PublisherPort<T, U> {
     // Puts the message that is being sent into the mailbox that the next place is tied to.

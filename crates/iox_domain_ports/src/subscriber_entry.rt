@@ -1,7 +1,7 @@
 //! What the list of subscribers says of one.
 
 /// What the list of subscribers says of one.
-#[derive(Clone, Copy, Debug, PartialEq, Eq)]
+#[derive(Clone, Copy)]
 pub struct SubscriberEntry {
     /// The number of its port.
     pub subscriber: u64,

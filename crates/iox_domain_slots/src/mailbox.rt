@@ -6,7 +6,7 @@ use iox_container::queue::Queue;
 use std::alloc::{AllocError, Global};
 
 /// What became of a message that was put into a mailbox.
-#[derive(Clone, Copy, Debug, PartialEq, Eq)]
+#[derive(Clone, Copy, PartialEq, Eq)]
 pub enum Put {
     /// It waits.
     Taken,

@@ -1,7 +1,7 @@
 //! How far a connection is.
 
 /// Whether there is a connection, and whether its subscriber is still there.
-#[derive(Clone, Copy, Debug, PartialEq, Eq)]
+#[derive(Clone, Copy)]
 pub enum Stage {
     /// There is no connection at this place.
     Vacant,

@@ -8,7 +8,7 @@
 //! | `degradation` | what a handler is told of a failed connection, and what it may answer |
 //! | `data_segment` | how the room of a publisher grows |
 //! | `port_owner` | whose port it is, and which one |
-//! | `sequences` | the numbers that messages have where their service numbers them |
+//! | `sequences` | the number before the first, where a service numbers its messages |
 //! | `service_sizes` | how much a service allows to its ports, and how many slots a publisher needs there |
 //! | `connection_failure`, `port_error`, `create_error` | why a connection fails, a call of a port is refused, a port or a domain isn't made |
 //! | `laws` | what the definitions come to, in other words |
@@ -58,5 +58,5 @@ pub use port_owner::{PortIdentity, PortOwner};
 pub use samples_override::{
     Overrides, PreallocatedSamplesFn, PreallocatedSamplesOverride, number_of_places,
 };
-pub use sequences::{before_first, is_used_up, next_sequence};
+pub use sequences::before_first;
 pub use service_sizes::ServiceSizes;

@@ -5,7 +5,7 @@ ghost use Rattle.iox_domain_values.specs.Sizes.{worst_case, within, buffer_of};
 use crate::create_error::SubscriberCreateError;
 
 /// How much a service allows to its ports. All ports of a service go by the same numbers.
-#[derive(Clone, Copy, Debug, PartialEq, Eq)]
+#[derive(Clone, Copy)]
 pub struct ServiceSizes {
     /// How many publishers there may be at once.
     pub max_publishers: u32,

@@ -24,7 +24,9 @@ use Rattle.iox_negotiate_base.specs.Runs.{Does}
 use Rattle.iox_negotiate_base.specs.declared.failure.CreateFailure.{CreateFailure}
 use Rattle.iox_negotiate_base.specs.declared.failure.OpenOrCreateFailure.{OpenOrCreateFailure}
 use Rattle.iox_negotiate_base.specs.declared.request.Opened.{Opened}
+use Rattle.iox_hub.proofs.AskedWords.{as_asked}
 use Rattle.iox_hub.specs.RecordedCalls.{IsAsAsked}
+use Rattle.iox_hub.specs.RecordedLaws.{IsMetOrMade}
 use Rattle.iox_hub.specs.RecordedNames.{named_by}
 use Rattle.iox_hub.specs.Recording.{OpensOrCreates}
 use Rattle.iox_hub.specs.declared.recorded.named.Number.{Number}
@@ -71,10 +73,11 @@ module _ {V E : Type 0} (hash : ServiceHash) (node : ℕ) (verdict : Agreement �
   judged_met payload user_header result old new (inr (can, is, same)) =
       subst (λ (one : Result Entered E). IfOk one (λ made. Met made.0.service)) (sym is) tt
 
-of_parts : {F E : Type 0} (parts : F → Entered) (P : Opened → Type 0) (answer : Result F E)
-    → IfOk (result_map_both parts (λ error. error) answer) (λ made. P made.0.service) → IfOk answer (λ factory. P (parts factory).0.service)
-of_parts parts P (Ok factory) so = so
-of_parts parts P (Err why) so = tt
+of_parts : {F E : Type 0} (parts : F → Entered) (P Q : Opened → Type 0) → ((service : Opened) → P service → Q service)
+    → (answer : Result F E) → IfOk (result_map_both parts (λ error. error) answer) (λ made. P made.0.service)
+    → IfOk answer (λ factory. Q (parts factory).0.service)
+of_parts parts P Q on (Ok factory) so = on (parts factory).0.service so
+of_parts parts P Q on (Err why) so = tt
 
 -- the factory that a node is answered
 pub opens_as_asked : {F T U B D : Type 0} (parts : F → Entered) (payload user_header : Detail) (types : MessageTypeDetails) (node : ℕ)
@@ -83,7 +86,8 @@ pub opens_as_asked : {F T U B D : Type 0} (parts : F → Entered) (payload user_
     → OpensOrCreates payload user_header types node name named required old (result_map_both parts (λ error. error) answer) new
     → IfOk answer (λ factory. IsAsAsked types name named required (parts factory).0.service)
 opens_as_asked parts payload user_header types node name named required old new answer opens =
-    of_parts parts (IsAsAsked types name named required) answer
+    of_parts parts (IsMetOrMade types name named required) (IsAsAsked types name named required)
+    (λ service met. as_asked types name named required service met) answer
     (judged_met _ node _ _ _ payload user_header (result_map_both parts (λ error. error) answer) old new opens)
 
 -- what is so of what was made is so of it with its number

@@ -2,7 +2,7 @@
 use Rattle.std.proofs.Common.{◌≡◌, ◌∙◌, ℕ, ◌+◌, ◌-◌, ◌^◌, ◌<◌, ◌≤◌, min, Bool, false, List, ◌∷◌, Option, None, Some}
 use Rattle.std.proofs.Common.{refl, sym, ap, subst, arith}
 use Rattle.std.proofs.lemmas.Bool.{eq-eqb, eqb-true, false_from_ne_true}
-use Rattle.std.specs.Option.{unwrap_or}
+use Rattle.std.specs.Option.{option_and_then, unwrap_or}
 use Rattle.std.specs.Prelude.{MatchOption, ◌==◌, if◌then◌else◌}
 use Rattle.iox_hub_commands.specs.Command.declared.command.Command.TheVariants as command
 use Rattle.iox_hub_commands.specs.Command.declared.port.PublisherOptions.{PublisherOptions}
@@ -27,8 +27,8 @@ use Rattle.iox_hub_machine.specs.ArrivalLaws.{AnswersAsChosen, AnswersAsFixed, D
 use Rattle.iox_hub_machine.specs.GoingOnLaws.{ComesAsChosen}
 use Rattle.iox_hub_machine.specs.Standing.{AreAsMany}
 use Rattle.iox_hub.proofs.HandledTurns.{fixed_by, reader_by}
-use Rattle.iox_hub.specs.Places.{lies_at, degradation_of}
-use Rattle.iox_hub.specs.Turns.{Turn, handed_in, publisher_by, subscriber_by, without_places}
+use Rattle.iox_hub.specs.Places.{backpressure_of, degradation_of, lies_at}
+use Rattle.iox_hub.specs.Turns.{Turn, handed_in, without_places}
 use Rattle.iox_hub.specs.declared.given.GivenHandler.{GivenHandler}
 use Rattle.iox_hub.specs.declared.handled_command.HandledCommand.{HandledCommand}
 use Rattle.iox_hub.specs.declared.handled_command.HandledCommand.TheVariants as asked
@@ -53,6 +53,27 @@ not_told told last number next above = false_from_ne_true (told == number) (λ s
   where
     differ : told ≡ number → ⊥
     differ same = omega (arith, next, above, same)
+
+module _ {T D P : Type 0} where
+  -- who is handed in by a command for a subscriber: the handler at its place
+  abbrev subscriber_by : HandledCommand T → List (Option (GivenHandler P D)) → Option D
+  subscriber_by one given = elim one [
+    | asked.Subscriber factory options at_failure ↦ degradation_of (lies_at at_failure given)
+    | other ↦ None
+  ]
+
+module _ {T B D P : Type 0}
+    (handled : BackpressureStrategy → Option BackpressureAction → DegradationAction → Option P → Option D → B) where
+  -- who is handed in by a command for a publisher
+  abbrev publisher_by : HandledCommand T → List (Option (GivenHandler P D)) → Option B
+  publisher_by one given = elim one [
+    | asked.Publisher factory options at_full at_failure ↦ Some (handled
+        (unwrap_or options.backpressure_strategy RetryUntilDelivered) options.backpressure_handler
+        (unwrap_or options.degradation_handler Warn)
+        (option_and_then (λ place. backpressure_of (lies_at place given)) at_full)
+        (option_and_then (λ place. degradation_of (lies_at place given)) at_failure))
+    | other ↦ None
+  ]
 
 module _ {T B D P : Type 0}
     (handled : BackpressureStrategy → Option BackpressureAction → DegradationAction → Option P → Option D → B) where

@@ -39,9 +39,10 @@ use Rattle.iox_hub_machine.specs.Ran.{StandsAfter}
 use Rattle.iox_hub_machine.specs.RunLaws.{AsksAmong, all_asked, steps_named}
 use Rattle.iox_hub_machine.specs.Standing.{AreAsMany}
 use Rattle.iox_hub.proofs.HandledChoices.{AreKnown, comes_chosen, known_later}
-use Rattle.iox_hub.proofs.HandledTurns.{PortsAreHere, fixed_by, handled_did, left_by_skipped, never_some, never_true, reader_by, same_some}
+use Rattle.iox_hub.proofs.HandledTurns.{PortsAreHere, fixed_by, handled_did, left_by_skipped, left_by_turn, never_some, never_true}
+use Rattle.iox_hub.proofs.HandledTurns.{reader_by, same_some}
 use Rattle.iox_hub.specs.Steps.{HandledStep}
-use Rattle.iox_hub.specs.Turns.{Turn, answered_in, asked_in, finds_handlers, left_by_turn, turns, without_places}
+use Rattle.iox_hub.specs.Turns.{Turn, answered_in, asked_in, finds_handlers, turns, without_places}
 use Rattle.iox_hub.specs.declared.given.GivenHandler.{GivenHandler}
 use Rattle.iox_hub.specs.declared.handled_command.HandledCommand.{HandledCommand}
 use Rattle.iox_machine.proofs.Counted.{Passes, step-passes}

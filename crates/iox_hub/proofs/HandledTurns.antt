@@ -2,7 +2,7 @@
 use Rattle.std.proofs.Common.{◌≡◌, ◌∙◌, ◌⊎◌, ◌++◌, ℕ, Bool, true, false, List, Option, None, Some, Ok, refl, sym, ap}
 use Rattle.std.proofs.Common.{subst, inl, inr}
 use Rattle.std.specs.Option.{option_and_then, option_flatten, option_map, option_map_or, unwrap_or}
-use Rattle.std.specs.Prelude.{fold, is_some, option_to_list, ◌&&◌}
+use Rattle.std.specs.Prelude.{◌-◌, fold, is_some, option_to_list, slice_set, ◌&&◌}
 use Rattle.iox_hub_commands.specs.Command.declared.command.Command.{Command}
 use Rattle.iox_hub_commands.specs.Command.declared.port.PublisherOptions.{PublisherOptions}
 use Rattle.iox_hub_commands.specs.Command.declared.port.SubscriberOptions.{SubscriberOptions}
@@ -29,7 +29,7 @@ use Rattle.iox_hub.proofs.TakenRuns.{publisher_replied, subscriber_replied}
 use Rattle.iox_hub.specs.Places.{named, lies_at, backpressure_of, degradation_of, emptied, emptied_if}
 use Rattle.iox_hub.specs.Steps.{HandledStep, PublisherTakes, SubscriberTakes, ports_of_factory}
 use Rattle.iox_hub.specs.Taking.{is_skipped, places_of}
-use Rattle.iox_hub.specs.Turns.{finds_handlers, left_by_turn, without_places}
+use Rattle.iox_hub.specs.Turns.{finds_handlers, without_places}
 use Rattle.iox_hub.specs.declared.given.GivenHandler.{GivenHandler}
 use Rattle.iox_hub.specs.declared.handled_command.HandledCommand.{HandledCommand}
 use Rattle.iox_hub.specs.declared.handled_command.HandledCommand.TheVariants as asked
@@ -80,6 +80,13 @@ module _ {X H : Type 0} (kind : Option X → Option H) where
 -- ---- what is left of handlers
 
 module _ {T P D : Type 0} where
+  -- the handlers that are left by a command
+  abbrev pub left_by_turn : HandledCommand T → Reply T → List (Option (GivenHandler P D)) → List (Option (GivenHandler P D))
+  left_by_turn command answer given = elim answer [
+    | reply.Skipped ↦ given
+    | other ↦ fold (λ left place. slice_set left (place - 1) None) given (places_of command)
+  ]
+
   left_by_plain : (command : Command T) (answer : Reply T) (given : List (Option (GivenHandler P D)))
       → given ≡ left_by_turn (asked.Plain command) answer given
   left_by_plain command reply.Skipped given = refl

@@ -14,11 +14,13 @@ pub mod GhostSteps
 pub mod Recording
 pub mod RecordedSkips
 pub mod RecordedIds
+pub mod RecordedCame
 pub mod RecordedRuns
 pub mod RecordedReading
 pub mod RecordedSent
 pub mod RecordedTold
 pub mod AskedNames
 pub mod RecordedOpening
+pub mod AskedWords
 pub mod AskedServices
 pub mod KeptNumbers

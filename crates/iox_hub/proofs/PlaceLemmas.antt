@@ -1,20 +1,20 @@
 -- What lies at places of which one is emptied.
 use Rattle.std.proofs.Common.{arith, ◌≡◌, ◌∙◌, ◌<◌, ◌-◌, ℕ, zero, suc, Bool, true, false, List, [], ◌∷◌, Option, None, Some, refl, sym, ap}
 use Rattle.std.proofs.lemmas.Bool.{ltb-true, eqb-true, eq-eqb}
-use Rattle.std.specs.Option.{option_map}
+use Rattle.std.specs.Option.{option_flatten, option_map}
 use Rattle.std.specs.Prelude.{if◌then◌else◌, IsSome, is_some, nat_eq, nat_lt, slice_get, slice_set}
-use Rattle.iox_hub.specs.Places.{within, lies_at, emptied, emptied_if, named, backpressure_of, degradation_of}
+use Rattle.iox_hub.specs.Places.{lies_at, emptied, emptied_if, named, backpressure_of, degradation_of}
 use Rattle.iox_hub.specs.declared.given.GivenHandler.{GivenHandler}
 use Rattle.iox_hub.specs.declared.given.GivenHandler.TheVariants.{Backpressure, Degradation}
 
 module _ {X : Type 0} where
-  within_same : (given : List (Option X)) (i : ℕ) → within (slice_get (slice_set given i None) i) ≡ None
+  within_same : (given : List (Option X)) (i : ℕ) → option_flatten (slice_get (slice_set given i None) i) ≡ None
   within_same [] i = refl
   within_same (x ∷ xs) zero = refl
   within_same (x ∷ xs) (suc i) = within_same xs i
 
   within_other : (given : List (Option X)) (i j : ℕ) → (j ≡ i → ⊥)
-      → within (slice_get (slice_set given i None) j) ≡ within (slice_get given j)
+      → option_flatten (slice_get (slice_set given i None) j) ≡ option_flatten (slice_get given j)
   within_other [] i j apart = refl
   within_other (x ∷ xs) zero zero apart = absurd (apart refl)
   within_other (x ∷ xs) zero (suc j) apart = refl
@@ -35,11 +35,11 @@ module _ {X : Type 0} where
 
   -- nothing lies at place 0
   pub above_none : (place : ℕ) (given : List (Option X)) → IsSome (lies_at place given) → 0 < place
-  above_none place given lies = ltb-true 0 place (some_chosen (nat_lt 0 place) (within (slice_get given (place - 1))) lies)
+  above_none place given lies = ltb-true 0 place (some_chosen (nat_lt 0 place) (option_flatten (slice_get given (place - 1))) lies)
 
   -- nothing lies at a place that was emptied
   pub gone_there : (place : ℕ) (given : List (Option X)) → lies_at place (emptied place given) ≡ None
-  gone_there place given = none_chosen (nat_lt 0 place) (within (slice_get (emptied place given) (place - 1)))
+  gone_there place given = none_chosen (nat_lt 0 place) (option_flatten (slice_get (emptied place given) (place - 1)))
       (within_same given (place - 1))
 
   -- at others lies what lay there
@@ -47,7 +47,8 @@ module _ {X : Type 0} where
       → lies_at other (emptied place given) ≡ lies_at other given
   stays_elsewhere place other given lies apart =
       let above = above_none place given lies in
-      same_chosen (nat_lt 0 other) (within (slice_get (emptied place given) (other - 1))) (within (slice_get given (other - 1)))
+      same_chosen (nat_lt 0 other) (option_flatten (slice_get (emptied place given) (other - 1)))
+      (option_flatten (slice_get given (other - 1)))
       (λ is. let positive = ltb-true 0 other is in within_other given (place - 1) (other - 1)
       (λ same. apart (omega (arith, above, positive, same))))
 

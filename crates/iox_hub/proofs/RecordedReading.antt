@@ -73,7 +73,7 @@ module _ {T : Type 0} (choices : Choices T) (types : MessageTypeDetails) (buffer
   long_so (one ∷ asked) old new answers (its, mid, rest, did, runs, is) =
       let longer = long_so asked mid new rest runs in ap length is ∙ omega (arith, longer)
 
-  read_so : SamplesReadTheSame choices → (before meanwhile : List (Command T)) (first told : List (Reply T)) (subscriber sample : ℕ)
+  pub read_so : SamplesReadTheSame choices → (before meanwhile : List (Command T)) (first told : List (Reply T)) (subscriber sample : ℕ)
       (values read : Vec T) (new : State T) → length first ≡ length before
       → Goes ((before ++ command.Receive subscriber ∷ []) ++ meanwhile ++ command.Read sample ∷ []) new_state
       ((first ++ reply.Received sample values ∷ []) ++ told ++ reply.Values read ∷ []) new

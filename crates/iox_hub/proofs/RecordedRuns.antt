@@ -99,7 +99,8 @@ use Rattle.iox_hub_machine.specs.TypedSteps.{IsStepBy, payload_there, told_sent}
 use Rattle.iox_machine.specs.Choices.{as_named}
 use Rattle.iox_machine.specs.Run.{Answers, Runs}
 use Rattle.iox_machine.specs.State.{State, new_state}
-use Rattle.iox_hub.proofs.AskedNames.{all_among, both_all, both_asked, loanless_too}
+use Rattle.iox_hub.proofs.AskedNames.{all_among, both_all, both_asked}
+use Rattle.iox_hub.proofs.RecordedCame.{told_left, told_none, told_received, told_released, told_too}
 use Rattle.iox_hub.proofs.Recording.{below, calls_publisher, calls_received, calls_subscriber, vector, vector_if}
 use Rattle.iox_hub.proofs.RecordedSkips.{drops_held, never_so, none_ready, not_waiting, tries_none}
 use Rattle.iox_hub.specs.Recorded.{AreFollowed, Calls, asked_too}
@@ -267,7 +268,7 @@ module _ {T U B D : Type 0} (payload user_header : Detail) (is_default : T → T
     rise = was.rise;
     id = kept ∙ was.id;
     all_fit = was.all_fit;
-    loanless = loanless_too old.asked asked was.loanless so;
+    told = told_too asked reply.Skipped was.told so;
     run = run_on goes_on old hub after asked reply.Skipped old.made old.factories
         (by_step payload user_header Dynamic is_default is_default_header fixed degrades decides fixed_reader reader_degrades
         asked (numbered old hub) (numbered old after) reply.Skipped skips) was.run;
@@ -294,7 +295,7 @@ module _ {T U B D : Type 0} (payload user_header : Detail) (is_default : T → T
         rise = new_rises config (numbered (no_calls config) hub) is_new;
         id = ap (λ table. table.id) is.table;
         all_fit = λ is. tt;
-        loanless = tt;
+        told = told_none;
         run = λ names decides_so answers_so own all few fit. (
           begins names config (numbered (no_calls config) hub) is_new,
           is.expired_connection_buffer,
@@ -338,7 +339,7 @@ module _ {T U B D : Type 0} (payload user_header : Detail) (is_default : T → T
     rise = was.rise;
     id = ap (λ hub. hub.table.id) same ∙ was.id;
     all_fit = was.all_fit;
-    loanless = loanless_too old.asked command.Node was.loanless tt;
+    told = told_too command.Node (told_node answer) was.told tt;
     run = run_on goes_on old hub after command.Node (told_node answer) old.made old.factories
         (steps (numbered old hub) after answer is same) was.run;
   }
@@ -368,7 +369,7 @@ module _ {T U B D : Type 0} (payload user_header : Detail) (is_default : T → T
     rise = was.rise;
     id = slice_keeps degrades decides lender values hub after answer sends ∙ was.id;
     all_fit = was.all_fit;
-    loanless = loanless_too old.asked (command.Put number values) was.loanless tt;
+    told = told_too (command.Put number values) (told_sent answer) was.told tt;
     run = run_on goes_on old hub after (command.Put number values) (told_sent answer) old.made old.factories
         (steps number lender values (numbered old hub) after answer there
         (not_waiting (publisher_stands lender.number (hub_ports lender.domain hub))
@@ -402,7 +403,7 @@ module _ {T U B D : Type 0} (payload user_header : Detail) (is_default : T → T
     rise = was.rise;
     id = retry_keeps decides sender nanoseconds hub after answer tries ∙ was.id;
     all_fit = was.all_fit;
-    loanless = loanless_too old.asked (command.Retry number nanoseconds) was.loanless tt;
+    told = told_too (command.Retry number nanoseconds) (told_sent answer) was.told tt;
     run = run_on goes_on old hub after (command.Retry number nanoseconds) (told_sent answer) old.made old.factories
         (steps number nanoseconds sender (numbered old hub) after answer there tries) was.run;
   }
@@ -418,7 +419,7 @@ module _ {T U B D : Type 0} (payload user_header : Detail) (is_default : T → T
     rise = was.rise;
     id = at_keeps sender.domain (GivesUpBy sender.number) (hub_ports sender.domain hub) hub after answer ends ∙ was.id;
     all_fit = was.all_fit;
-    loanless = loanless_too old.asked (command.GiveUp number) was.loanless tt;
+    told = told_too (command.GiveUp number) (given_up_reply answer) was.told tt;
     run = run_on goes_on old hub after (command.GiveUp number) (given_up_reply answer) old.made old.factories
         (steps number sender (numbered old hub) after answer there ends) was.run;
   }
@@ -449,7 +450,7 @@ module _ {T U B D : Type 0} (payload user_header : Detail) (is_default : T → T
         id = receive_keeps reader_degrades receiver hub after (Ok (Some sample)) receives ∙ was.id;
         all_fit = λ is. let (before, newest) = both_so fit (held && short) is in
             one_fits old.received values (was.all_fit before) (below (length values) (2 ^ 63) (both_so held short newest).1);
-        loanless = loanless_too old.asked (command.Receive number) was.loanless tt;
+        told = told_received number (vector values) it was.told;
         run = run_to fit (fit && (held && short)) goes_on old hub after (command.Receive number)
             (reply.Received old.made.samples.next (vector values))
             (with_sample sample.port sample.taken old.made) old.factories (old.received ++ values ∷ [])
@@ -472,7 +473,7 @@ module _ {T U B D : Type 0} (payload user_header : Detail) (is_default : T → T
         rise = was.rise;
         id = receive_keeps reader_degrades receiver hub after (Ok None) receives ∙ was.id;
         all_fit = was.all_fit;
-        loanless = loanless_too old.asked (command.Receive number) was.loanless tt;
+        told = told_too (command.Receive number) reply.NothingWaits was.told tt;
         run = run_on goes_on old hub after (command.Receive number) reply.NothingWaits old.made old.factories
             (steps number receiver (numbered old hub) after (Ok None) reply.NothingWaits there receives refl) was.run;
       })
@@ -482,7 +483,7 @@ module _ {T U B D : Type 0} (payload user_header : Detail) (is_default : T → T
         rise = was.rise;
         id = receive_keeps reader_degrades receiver hub after (Err why) receives ∙ was.id;
         all_fit = was.all_fit;
-        loanless = loanless_too old.asked (command.Receive number) was.loanless tt;
+        told = told_too (command.Receive number) (reply.Refused (refusal.Receive why)) was.told tt;
         run = run_on goes_on old hub after (command.Receive number) (reply.Refused (refusal.Receive why)) old.made old.factories
             (steps number receiver (numbered old hub) after (Err why) (reply.Refused (refusal.Receive why)) there receives refl) was.run;
       })
@@ -540,7 +541,7 @@ module _ {T U B D : Type 0} (payload user_header : Detail) (is_default : T → T
         );
         id = drops_keeps made.port.domain made.port.number made.taken (hub_ports made.port.domain hub) hub after released drops ∙ was.id;
         all_fit = was.all_fit;
-        loanless = loanless_too old.asked (command.Release number) was.loanless tt;
+        told = told_released number (done_reply true) samples was.told;
         run = run_on goes_on old hub after (command.Release number) (done_reply true)
             (without_sample number old.made) old.factories (steps number made (numbered old hub) after released there drops) was.run;
       }
@@ -572,7 +573,8 @@ module _ {T U B D : Type 0} (payload user_header : Detail) (is_default : T → T
     id = leaves_keeps leaver.domain (without_hub_subscriber leaver.domain leaver.number) (λ hub. refl)
         (SubscriberLeaves leaver.number) (hub_ports leaver.domain hub) hub after left ends ∙ was.id;
     all_fit = was.all_fit;
-    loanless = loanless_too old.asked (command.Leave (port.Subscriber number)) was.loanless tt;
+    told = told_left left (without_subscriber number) old.made (λ it. refl)
+        (command.Leave (port.Subscriber number)) (done_reply left) was.told tt;
     run = run_on goes_on old hub after (command.Leave (port.Subscriber number)) (done_reply left)
         (removed_if left (without_subscriber number) old.made) old.factories
         (steps number leaver (numbered old hub) after left there ends) was.run;
@@ -605,7 +607,8 @@ module _ {T U B D : Type 0} (payload user_header : Detail) (is_default : T → T
     id = leaves_keeps leaver.domain (without_hub_publisher leaver.domain leaver.number) (λ hub. refl)
         (PublisherLeaves leaver.number) (hub_ports leaver.domain hub) hub after left ends ∙ was.id;
     all_fit = was.all_fit;
-    loanless = loanless_too old.asked (command.Leave (port.Publisher number)) was.loanless tt;
+    told = told_left left (without_publisher number) old.made (λ it. refl)
+        (command.Leave (port.Publisher number)) (done_reply left) was.told tt;
     run = run_on goes_on old hub after (command.Leave (port.Publisher number)) (done_reply left)
         (removed_if left (without_publisher number) old.made) old.factories
         (steps number leaver (numbered old hub) after left there ends) was.run;
@@ -674,7 +677,7 @@ module _ {T U B D : Type 0} (payload user_header : Detail) (is_default : T → T
           );
           id = publisher_keeps named header (Some (Ok number)) makes ∙ was.id;
           all_fit = was.all_fit;
-          loanless = loanless_too old.asked (command.Publisher factory named) was.loanless tt;
+          told = told_too (command.Publisher factory named) (reply.PublisherMade old.made.publishers.next) was.told tt;
           run = run_on goes_on old hub after (command.Publisher factory named) (reply.PublisherMade old.made.publishers.next)
               (with_publisher (domain_of_factory parts) true number old.made) old.factories (steps factory parts named header
               (numbered old hub) after (Ok number) there (λ worst_case slots is. is) default makes) was.run;
@@ -683,7 +686,7 @@ module _ {T U B D : Type 0} (payload user_header : Detail) (is_default : T → T
       rise = was.rise;
       id = publisher_keeps named header (Some (Err why)) makes ∙ was.id;
       all_fit = was.all_fit;
-      loanless = loanless_too old.asked (command.Publisher factory named) was.loanless tt;
+      told = told_too (command.Publisher factory named) (reply.Refused (refusal.Publisher why)) was.told tt;
       run = run_on goes_on old hub after (command.Publisher factory named) (reply.Refused (refusal.Publisher why)) old.made old.factories
           (steps factory parts named header
           (numbered old hub) after (Err why) there (λ worst_case slots is. is) default makes) was.run;
@@ -732,7 +735,7 @@ module _ {T U B D : Type 0} (payload user_header : Detail) (is_default : T → T
           );
           id = subscriber_keeps named (Some (Ok number)) makes ∙ was.id;
           all_fit = was.all_fit;
-          loanless = loanless_too old.asked (command.Subscriber factory named) was.loanless tt;
+          told = told_too (command.Subscriber factory named) (reply.SubscriberMade old.made.subscribers.next) was.told tt;
           run = run_on goes_on old hub after (command.Subscriber factory named) (reply.SubscriberMade old.made.subscribers.next)
               (with_subscriber (domain_of_factory parts) number old.made) old.factories
               (steps factory parts named (numbered old hub) after (Ok number) there makes) was.run;
@@ -741,7 +744,7 @@ module _ {T U B D : Type 0} (payload user_header : Detail) (is_default : T → T
       rise = was.rise;
       id = subscriber_keeps named (Some (Err why)) makes ∙ was.id;
       all_fit = was.all_fit;
-      loanless = loanless_too old.asked (command.Subscriber factory named) was.loanless tt;
+      told = told_too (command.Subscriber factory named) (reply.Refused (refusal.Subscriber why)) was.told tt;
       run = run_on goes_on old hub after (command.Subscriber factory named) (reply.Refused (refusal.Subscriber why)) old.made old.factories
           (steps factory parts named (numbered old hub) after (Err why) there makes) was.run;
     }
@@ -776,7 +779,8 @@ module _ {T U B D : Type 0} (payload user_header : Detail) (is_default : T → T
         id = either_keeps payload user_header types node name named required old.factories (inserted old.factories factory) hub after
             (Ok old.factories.next) either ∙ was.id;
         all_fit = was.all_fit;
-        loanless = loanless_too old.asked (command.OpenOrCreate node name (options.PublishSubscribe named) required []) was.loanless tt;
+        told = told_too (command.OpenOrCreate node name (options.PublishSubscribe named) required [])
+            (reply.FactoryMade old.factories.next) was.told tt;
         run = run_on goes_on old hub after (command.OpenOrCreate node name (options.PublishSubscribe named) required [])
             (reply.FactoryMade old.factories.next) old.made (inserted old.factories factory)
             (steps node name (options.PublishSubscribe named) required [] (numbered old hub) after (Ok old.factories.next)
@@ -787,7 +791,8 @@ module _ {T U B D : Type 0} (payload user_header : Detail) (is_default : T → T
     id = either_keeps payload user_header types node name named required old.factories old.factories hub after
         (Err (refusal.PublishSubscribeOpenOrCreate why)) either ∙ was.id;
     all_fit = was.all_fit;
-    loanless = loanless_too old.asked (command.OpenOrCreate node name (options.PublishSubscribe named) required []) was.loanless tt;
+    told = told_too (command.OpenOrCreate node name (options.PublishSubscribe named) required [])
+        (reply.Refused (refusal.PublishSubscribeOpenOrCreate why)) was.told tt;
     run = run_on goes_on old hub after (command.OpenOrCreate node name (options.PublishSubscribe named) required [])
         (reply.Refused (refusal.PublishSubscribeOpenOrCreate why)) old.made old.factories
         (steps node name (options.PublishSubscribe named) required [] (numbered old hub) after

@@ -1,144 +1,192 @@
--- What is read of a sample was put before.
-use Rattle.std.proofs.Common.{◌≡◌, ◌∙◌, ℕ, Bool, true, false, List, [], ◌∷◌, ◌++◌, length, Option, None, Some, MatchOption, inl, inr}
-use Rattle.std.proofs.Common.{⊎_elim, refl, sym, ap, subst}
-use Rattle.std.proofs.Common.{◌==◌, if◌then◌else◌, is_some, find, option_map, arith, append-nil, length-append}
+-- What is read of a sample was put before, by a publisher of the subscriber's own service.
+use Rattle.std.proofs.Common.{◌≡◌, ◌∙◌, ◌<◌, ◌⊎◌, ℕ, zero, suc, true, false, List, [], ◌∷◌, ◌++◌, length, take, Some, refl, sym, ap, subst}
+use Rattle.std.proofs.Common.{append-nil, append_assoc, arith, inl, inr, ⊎_elim}
 use Rattle.std.specs.Global.{Vec}
 use Rattle.std.specs.List.{AllByRecursion}
+use Rattle.std.specs.Prelude.{slice_get}
 use Rattle.std.specs.Vec.{vec_items}
+use Rattle.iox_command.specs.NegotiateBase.DescribeSettings.declared.static_config.publish_subscribe.StaticConfig.{StaticConfig}
 use Rattle.iox_command.specs.declared.command.Command.{Command}
 use Rattle.iox_command.specs.declared.command.Command.TheVariants as command
+use Rattle.iox_command.specs.declared.refusal.Refusal.TheVariants as refusal
 use Rattle.iox_command.specs.declared.reply.Reply.{Reply}
 use Rattle.iox_command.specs.declared.reply.Reply.TheVariants as reply
 use Rattle.iox_hub_commands.specs.DescribeBase.declared.message_type.MessageTypeDetails.{MessageTypeDetails}
+use Rattle.iox_hub_commands.specs.DomainValues.declared.port_error.SendError.TheVariants.{UnableToDeliver}
 use Rattle.iox_machine.specs.Choices.{Choices}
-use Rattle.iox_machine.specs.Message.{Sample}
-use Rattle.iox_machine.specs.Run.{Answers, Runs}
-use Rattle.iox_machine.specs.RunLaws.{AllMessages, Began, BeginsToSend, MessagesWereSent}
-use Rattle.iox_machine.specs.Service.{Service}
-use Rattle.iox_machine.specs.State.{State, counted, new_state, replaced}
-use Rattle.iox_machine.specs.Table.{at}
-use Rattle.iox_hub.proofs.RecordedReading.{cancel, cut, long_so, one_step}
+use Rattle.iox_machine.specs.MessageLaws.{BeganIn, ReceivedWasSent}
+use Rattle.iox_machine.specs.Run.{Answers, Runs, Step}
+use Rattle.iox_machine.specs.RunLaws.{BeginsToSend, SamplesReadTheSame, has_begun}
+use Rattle.iox_machine.specs.State.{State, new_state}
+use Rattle.iox_hub.proofs.AskedNames.{both_all}
+use Rattle.iox_hub.proofs.RecordedReading.{cancel, cut, read_so}
 use Rattle.iox_hub.specs.RecordedLaws.{WasPut}
-use Rattle.iox_hub.specs.Recording.{SendsNoLoan}
+use Rattle.iox_hub.specs.Recording.{HasCome, SendsNoLoan}
 
--- what is so of all is so of the one that is found
-module _ {X : Type 0} (P : X → Type 0) where
-  choose : (b : Bool) (one other : X) (rest : Option X) → (if b then Some one else rest) ≡ Some other → P one
-      → (rest ≡ Some other → P other) → P other
-  choose true one other rest is so later = let same : one ≡ other = cc in subst P same so
-  choose false one other rest is so later = later is
+-- by which answers a send began
+begun_so : {T : Type 0} (answer : Reply T) → has_begun answer ≡ true
+    → (answer ≡ reply.Blocked) ⊎ (answer ≡ reply.Refused (refusal.Send UnableToDeliver))
+    ⊎ ((count : ℕ) × (answer ≡ reply.Delivered count))
+begun_so reply.Blocked is = inl refl
+begun_so (reply.Refused (refusal.Send UnableToDeliver)) is = inr (inl refl)
+begun_so (reply.Delivered count) is = inr (inr (count, refl))
+begun_so other is = cc
 
-  found_of : (test : X → Bool) (xs : List X) (one : X) → find test xs ≡ Some one → AllByRecursion P xs → P one
-  found_of test [] one is all = cc
-  found_of test (x ∷ xs) one is all = choose (test x) x one (find test xs) is all.0 (λ later. found_of test xs one later all.1)
+-- ---- places
 
-module _ {V : Type 0} (P : V → Type 0) (number : ℕ) where
-  entry_of : (found : Option (ℕ × V)) (table : List (ℕ × V)) (one : V) → find (λ entry. entry.0 == number) table ≡ found
-      → option_map (λ entry. entry.1) found ≡ Some one → AllByRecursion (λ entry. P entry.1) table → P one
-  entry_of None table one is there all = cc
-  entry_of (Some entry) table one is there all =
-      let same : entry.1 ≡ one = cc in
-      subst P same (found_of (λ entry. P entry.1) (λ entry. entry.0 == number) table entry is all)
+module _ {X : Type 0} where
+  found_ahead : (xs ys : List X) (place : ℕ) (x : X) → slice_get xs place ≡ Some x → slice_get (xs ++ ys) place ≡ Some x
+  found_ahead [] ys place x is = cc
+  found_ahead (first ∷ xs) ys zero x is = is
+  found_ahead (first ∷ xs) ys (suc place) x is = found_ahead xs ys place x is
 
-module _ {T : Type 0} (choices : Choices T) (types : MessageTypeDetails) (buffer : ℕ) (Is : ℕ → List T → Type 0) (sample : ℕ) (read : Vec T)
-  where
-    values_in : Reply T → Vec T
-    values_in (reply.Values values) = values
-    values_in other = read
+  found_behind : (xs ys : List X) (x : X) → slice_get (xs ++ x ∷ ys) (length xs) ≡ Some x
+  found_behind [] ys x = refl
+  found_behind (first ∷ xs) ys x = found_behind xs ys x
 
-    tells : Reply T → Bool
-    tells (reply.Values values) = true
-    tells other = false
+  taken_ahead : (xs ys : List X) → take (length xs) (xs ++ ys) ≡ xs
+  taken_ahead [] ys = refl
+  taken_ahead (first ∷ xs) ys = ap (λ (rest : List X). first ∷ rest) (taken_ahead xs ys)
 
-    never : {A : Type 0} → reply.Values read ≡ reply.Skipped → A
-    unfolding tells
-    never is = let wrong : true ≡ false = ap tells is in cc
-
-    in_service : (found : Option (Sample T)) (service after : Service T) → at sample service.samples ≡ found
-        → AllMessages (λ publisher message. Is publisher message.values) service
-        → MatchOption found ⊥ (λ one. (values : Vec T) × (vec_items values ≡ one.message.values) × (reply.Values read ≡ reply.Values values)
-        × (after ≡ service))
-        → (publisher : ℕ) × Is publisher (vec_items read)
-    unfolding values_in
-    in_service None service after is all reads = absurd reads
-    in_service (Some one) service after is all (values, same, told, stays) = (
-      one.publisher,
-      subst (Is one.publisher) (sym (ap (λ it. vec_items (values_in it)) told ∙ same))
-          (entry_of (λ it. Is it.publisher it.message.values) sample (find (λ entry. entry.0 == sample) service.samples) service.samples one
-          refl is all.2),
-    )
-
-    -- each message that is anywhere is so, and so is what is read
-    read_of : (services : List (Service T)) (found : Option (Service T)) (old new : State T)
-        → find (λ (service : Service T). is_some (at sample service.samples)) services ≡ found
-        → AllByRecursion (AllMessages (λ publisher message. Is publisher message.values)) services
-        → MatchOption found ((reply.Values read ≡ reply.Skipped) × (new ≡ old)) (λ service. (after : Service T)
-        × MatchOption (at sample service.samples) ⊥ (λ one. (values : Vec T) × (vec_items values ≡ one.message.values)
-        × (reply.Values read ≡ reply.Values values) × (after ≡ service))
-        × (new ≡ record old {
-          made = counted (reply.Values read) old.made;
-          services = replaced (λ (it : Service T). is_some (at sample it.samples)) after old.services;
-        }))
-        → (publisher : ℕ) × Is publisher (vec_items read)
-    read_of services None old new is all (skipped, same) = never skipped
-    read_of services (Some service) old new is all (after, reads, same) =
-        in_service (at sample service.samples) service after refl
-        (found_of (AllMessages (λ publisher message. Is publisher message.values)) (λ it. is_some (at sample it.samples))
-        services service is
-        all) reads
+  regrouped : (xs ys zs : List X) (x : X) → (xs ++ x ∷ ys) ++ zs ≡ (xs ++ x ∷ []) ++ ys ++ zs
+  regrouped xs ys zs x = ap (λ (all : List X). all ++ zs) (sym (append_assoc xs (x ∷ []) ys))
 
 module _ {T : Type 0} (choices : Choices T) (types : MessageTypeDetails) (buffer : ℕ) where
-  -- what began the send was a put of these values
+  -- A publisher put values by a command, and that send began.
+  record PutAt (publisher : ℕ) (values : List T) (asked : List (Command T)) (answers : List (Reply T)) : Type 0 where
+    put : ℕ
+    within : put < length asked
+    answer : Reply T
+    is_put : slice_get asked put ≡ Some (command.Put publisher values)
+    is_answered : slice_get answers put ≡ Some answer
+    begun : has_begun answer ≡ true
+
   put_so : (publisher : ℕ) (values : List T) (one : Command T) (more : List (Command T)) (answer : Reply T) (answers : List (Reply T))
-      (old : State T) → SendsNoLoan one → BeginsToSend publisher values one old answer → WasPut values (one ∷ more) (answer ∷ answers)
-  put_so publisher values (command.Put number given) more answer answers old loanless (same, are, begun) = inl (are, begun)
+      (old : State T) → SendsNoLoan one → BeginsToSend publisher values one old answer
+      → PutAt publisher values (one ∷ more) (answer ∷ answers)
+  put_so publisher values (command.Put number given) more answer answers old loanless (same, are, begun) = record {
+    put = 0;
+    within = omega arith;
+    answer = answer;
+    is_put = cc;
+    is_answered = refl;
+    begun = begun;
+  }
   put_so publisher values (command.Send loan) more answer answers old loanless began = absurd loanless
   put_so publisher values other more answer answers old loanless began = absurd began
 
-  put_later : (values : List T) (one : Command T) (more : List (Command T)) (answer : Reply T) (answers : List (Reply T))
-      → WasPut values more answers → WasPut values (one ∷ more) (answer ∷ answers)
-  put_later values (command.Put number given) more answer answers was = inr was
-  put_later values other more answer answers was = was
+  put_later : (publisher : ℕ) (values : List T) (one : Command T) (more : List (Command T)) (answer : Reply T) (answers : List (Reply T))
+      → PutAt publisher values more answers → PutAt publisher values (one ∷ more) (answer ∷ answers)
+  put_later publisher values one more answer answers was = record {
+    put = suc was.put;
+    within = omega (arith, was.within);
+    answer = was.answer;
+    is_put = was.is_put;
+    is_answered = was.is_answered;
+    begun = was.begun;
+  }
 
-  began_so : (publisher : ℕ) (values : List T) (asked : List (Command T)) (old new : State T) (answers : List (Reply T))
-      (run : Runs types choices buffer asked old answers new)
-      → AllByRecursion (λ it. SendsNoLoan it) asked → Began types choices buffer publisher values asked old answers new run
-      → WasPut values asked answers
-  began_so publisher values [] old new answers run loanless began = absurd began
-  began_so publisher values (one ∷ more) old new answers (answer, mid, rest, did, runs, is) loanless began =
-      subst (λ (all : List (Reply T)). WasPut values (one ∷ more) all) (sym is)
-      (⊎_elim (λ now. put_so publisher values one more answer rest old loanless.0 now)
-      (λ later. put_later values one more answer rest (began_so publisher values more mid new rest runs loanless.1 later)) began)
-
-  put_before : MessagesWereSent choices → (asked : List (Command T)) (answers : List (Reply T)) (sample : ℕ) (read : Vec T) (new : State T)
+  began_so : (publisher : ℕ) (name : List ℕ) (settings : StaticConfig) (values : List T) (asked : List (Command T)) (old new : State T)
+      (answers : List (Reply T)) (run : Runs types choices buffer asked old answers new)
       → AllByRecursion (λ it. SendsNoLoan it) asked
-      → Runs types choices buffer (asked ++ command.Read sample ∷ []) new_state (answers ++ reply.Values read ∷ []) new
-      → WasPut (vec_items read) asked answers
-  put_before sent asked answers sample read new loanless runs =
-      let last = cut choices types buffer asked (command.Read sample ∷ []) new_state new (answers ++ reply.Values read ∷ []) runs in
-      let one = long_so choices types buffer (command.Read sample ∷ []) last.mid new last.late last.goes in
-      let (first, ends) = cancel answers last.early (reply.Values read ∷ []) last.late
-      (omega (
-        arith,
-        ap length last.are,
-        one,
-        length-append answers (reply.Values read ∷ []),
-        length-append last.early last.late,
-      )) last.are in
-      let (publisher, began) = read_of choices types buffer
-      (λ publisher values. Began types choices buffer publisher values asked new_state last.early last.mid last.went) sample read
-      last.mid.services (find (λ (service : Service T). is_some (at sample service.samples)) last.mid.services) last.mid new refl
-      (sent types buffer asked last.early last.mid last.went)
-      (one_step choices types buffer (command.Read sample) last.mid new last.late (reply.Values read) last.goes (sym ends)) in
-      subst (λ (all : List (Reply T)). WasPut (vec_items read) asked all) (sym first)
-      (began_so publisher (vec_items read) asked new_state last.mid last.early last.went loanless began)
+      → BeganIn types choices buffer publisher name settings values asked old answers new run → PutAt publisher values asked answers
+  began_so publisher name settings values [] old new answers run loanless began = absurd began
+  began_so publisher name settings values (one ∷ more) old new answers (answer, mid, rest, did, runs, is) loanless began =
+      subst (λ (all : List (Reply T)). PutAt publisher values (one ∷ more) all) (sym is)
+      (⊎_elim (λ now. put_so publisher values one more answer rest old loanless.0 now.0)
+      (λ later. put_later publisher values one more answer rest
+      (began_so publisher name settings values more mid new rest runs loanless.1 later)) began)
 
--- where the machine may answer so to commands, and to the read of a sample after them, what is read was put by one of them
-pub reads_as_put : {T : Type 0} (choices : Choices T) → MessagesWereSent choices → (types : MessageTypeDetails) (buffer : ℕ)
-    (asked : List (Command T)) (answers : List (Reply T)) (sample : ℕ) (read : Vec T) → AllByRecursion (λ it. SendsNoLoan it) asked
+  module _ (received : ReceivedWasSent choices) (the_same : SamplesReadTheSame choices) (asked : List (Command T))
+      (answers : List (Reply T)) (sample : ℕ) (read : Vec T) (loanless : AllByRecursion (λ it. SendsNoLoan it) asked)
+      (came : HasCome sample asked answers) where
+    -- the first step after what was asked before the sample came
+    first_step : (mid new : State T) (late more : List (Reply T)) (commands : List (Command T))
+        → reply.Received sample came.values ∷ more ≡ late
+        → Runs types choices buffer (command.Receive came.subscriber ∷ commands) mid late new
+        → (after : State T)
+        × Step types choices buffer (command.Receive came.subscriber) mid (reply.Received sample came.values) after
+    first_step mid new late more commands are (its, after, rest, did, runs, is) =
+        let told : its ≡ reply.Received sample came.values = cc in
+        (after, subst (λ (it : Reply T). Step types choices buffer (command.Receive came.subscriber) mid it after) told did)
+
+    put_before : (new : State T)
+        → Runs types choices buffer (asked ++ command.Read sample ∷ []) new_state (answers ++ reply.Values read ∷ []) new
+        → WasPut types choices buffer sample (vec_items read) asked answers
+    put_before new runs =
+        let behind : List (Command T) = came.later ++ command.Read sample ∷ [] in
+        let told_behind : List (Reply T) = came.told ++ reply.Values read ∷ [] in
+        let are : asked ++ command.Read sample ∷ [] ≡ came.before ++ command.Receive came.subscriber ∷ behind =
+        ap (λ (all : List (Command T)). all ++ command.Read sample ∷ []) came.are
+        ∙ append_assoc came.before (command.Receive came.subscriber ∷ came.later) (command.Read sample ∷ []) in
+        let told : answers ++ reply.Values read ∷ [] ≡ came.first ++ reply.Received sample came.values ∷ told_behind =
+        ap (λ (all : List (Reply T)). all ++ reply.Values read ∷ []) came.answered
+        ∙ append_assoc came.first (reply.Received sample came.values ∷ came.told) (reply.Values read ∷ []) in
+        let whole = subst (λ all. Runs types choices buffer all new_state
+        (came.first ++ reply.Received sample came.values ∷ told_behind) new) are
+        (subst (λ all. Runs types choices buffer (asked ++ command.Read sample ∷ []) new_state all new) told runs) in
+        let parts = cut choices types buffer came.before (command.Receive came.subscriber ∷ behind) new_state new
+        (came.first ++ reply.Received sample came.values ∷ told_behind) whole in
+        let (first, ends) = cancel came.first parts.early (reply.Received sample came.values ∷ told_behind) parts.late
+        (omega (arith, came.long, parts.long)) parts.are in
+        let (after, step) = first_step parts.mid new parts.late told_behind behind ends parts.goes in
+        let (publisher, service, message, of_subscriber, of_publisher, taken, given, began) =
+        received types buffer came.before parts.early parts.mid parts.went came.subscriber sample came.values after step in
+        let put = began_so publisher service.name service.settings message.values came.before new_state parts.mid parts.early parts.went
+        (both_all (λ it. SendsNoLoan it) came.before (command.Receive came.subscriber ∷ came.later)
+        (subst (λ all. AllByRecursion (λ it. SendsNoLoan it) all) came.are loanless)).0 began in
+        let reads : vec_items read ≡ vec_items came.values =
+        read_so choices types buffer the_same came.before came.later came.first came.told came.subscriber sample came.values read new
+        came.long
+        (subst (λ all. Runs types choices buffer all new_state
+        ((came.first ++ reply.Received sample came.values ∷ []) ++ came.told ++ reply.Values read ∷ []) new)
+        (ap (λ (all : List (Command T)). all ++ command.Read sample ∷ []) came.are
+        ∙ regrouped came.before came.later (command.Read sample ∷ []) (command.Receive came.subscriber))
+        (subst (λ all. Runs types choices buffer (asked ++ command.Read sample ∷ []) new_state all new)
+        (ap (λ (all : List (Reply T)). all ++ reply.Values read ∷ []) came.answered
+        ∙ regrouped came.first came.told (reply.Values read ∷ []) (reply.Received sample came.values)) runs)) in
+        let values : message.values ≡ vec_items read = sym given ∙ sym reads in
+        subst (λ (all : List (Command T)). WasPut types choices buffer sample (vec_items read) all answers) (sym came.are)
+        (subst (λ (all : List (Reply T)). WasPut types choices buffer sample (vec_items read)
+        (came.before ++ command.Receive came.subscriber ∷ came.later) all) (sym came.answered) (record {
+          received = length came.before;
+          subscriber = came.subscriber;
+          told = came.values;
+          is_received = found_behind came.before came.later (command.Receive came.subscriber);
+          is_told = subst (λ (n : ℕ). slice_get (came.first ++ reply.Received sample came.values ∷ came.told) n
+              ≡ Some (reply.Received sample came.values)) came.long
+              (found_behind came.first came.told (reply.Received sample came.values));
+          same = sym reads;
+          put = put.put;
+          publisher = publisher;
+          answer = put.answer;
+          before = put.within;
+          is_put = subst (λ (it : List T). slice_get (came.before ++ command.Receive came.subscriber ∷ came.later) put.put
+              ≡ Some (command.Put publisher it)) values
+              (found_ahead came.before (command.Receive came.subscriber ∷ came.later) put.put (command.Put publisher message.values)
+              put.is_put);
+          is_answered = found_ahead came.first (reply.Received sample came.values ∷ came.told) put.put put.answer
+              (subst (λ (all : List (Reply T)). slice_get all put.put ≡ Some put.answer) (sym first) put.is_answered);
+          begun = begun_so put.answer put.begun;
+          state = parts.mid;
+          ran = subst (λ (all : List (Command T)). Runs types choices buffer all new_state
+              (take (length came.before) (came.first ++ reply.Received sample came.values ∷ came.told)) parts.mid)
+              (sym (taken_ahead came.before (command.Receive came.subscriber ∷ came.later)))
+              (subst (λ (all : List (Reply T)). Runs types choices buffer came.before new_state all parts.mid)
+              (sym (ap (λ (n : ℕ). take n (came.first ++ reply.Received sample came.values ∷ came.told)) (sym came.long)
+              ∙ (taken_ahead came.first (reply.Received sample came.values ∷ came.told) ∙ first))) parts.went);
+          service = service;
+          of_subscriber = of_subscriber;
+          of_publisher = of_publisher;
+        }))
+
+-- where the machine may answer so to commands, and to the read of a sample that came by one of them, what is read was put before
+pub reads_as_put : {T : Type 0} (choices : Choices T) → ReceivedWasSent choices → SamplesReadTheSame choices → (types : MessageTypeDetails)
+    (buffer : ℕ) (asked : List (Command T)) (answers : List (Reply T)) (sample : ℕ) (read : Vec T)
+    → AllByRecursion (λ it. SendsNoLoan it) asked → HasCome sample asked answers
     → Answers types choices buffer (asked ++ command.Read sample ∷ []) false (answers ++ reply.Values read ∷ [])
-    → WasPut (vec_items read) asked answers
-reads_as_put choices sent types buffer asked answers sample read loanless (some, rest, new, are, none, runs) =
-    put_before choices types buffer sent asked answers sample read new loanless
+    → WasPut types choices buffer sample (vec_items read) asked answers
+reads_as_put choices received the_same types buffer asked answers sample read loanless came (some, rest, new, are, none, runs) =
+    put_before choices types buffer received the_same asked answers sample read loanless came new
     (subst (λ all. Runs types choices buffer all new_state (answers ++ reply.Values read ∷ []) new)
     (sym (are ∙ (ap (λ more. some ++ more) none ∙ append-nil some))) runs)

@@ -3,7 +3,7 @@ use Rattle.std.proofs.Common.{◌≡◌, ◌∙◌, ℕ, ◌+◌, ◌-◌, ◌^�
 use Rattle.std.proofs.Common.{IfErr, IfOk, IfSome, MatchResult, Result, Ok, Err}
 use Rattle.std.proofs.Common.{refl, sym, ap, subst, is_ok, arith}
 use Rattle.std.specs.Vec.{vec_items}
-use Rattle.std.specs.Option.{unwrap_or}
+use Rattle.std.specs.Option.{option_map_or, unwrap_or}
 use Rattle.iox_command.specs.declared.command.Command.{Command}
 use Rattle.iox_command.specs.declared.command.Command.TheVariants as command
 use Rattle.iox_command.specs.declared.port.PublisherOptions.{PublisherOptions}
@@ -40,7 +40,7 @@ use Rattle.iox_hub_commands.specs.DomainValues.declared.port_error.ReceiveError.
 use Rattle.iox_hub_commands.specs.DomainValues.declared.port_error.SendError.{SendError}
 use Rattle.iox_hub_commands.specs.NegotiateBase.declared.errors.publish_subscribe.PublishSubscribeOpenOrCreateError.{PublishSubscribeOpenOrCreateError}
 use Rattle.iox_hub_commands.specs.Numbering.{removed_if}
-use Rattle.iox_hub_commands.specs.Replies.{done_reply}
+use Rattle.iox_hub_commands.specs.Replies.{done_reply, given_up_reply}
 use Rattle.iox_hub_commands.specs.Reading.{values_under}
 use Rattle.iox_hub_commands.specs.declared.ports.made.Made.{Made}
 use Rattle.iox_hub_commands.specs.declared.ports.made.MadeSample.{MadeSample}
@@ -49,9 +49,21 @@ use Rattle.iox_hub.proofs.Recording.{calls_publisher, calls_received, calls_subs
 use Rattle.iox_hub.proofs.RecordedRuns.{vector_is}
 use Rattle.iox_hub.specs.Recorded.{Calls, asked_too}
 use Rattle.iox_hub.specs.RecordedCalls.{IsReceived, answered_as, told_send}
-use Rattle.iox_hub.specs.RecordedNames.{WaitsAt, as_made, back_by, named_by, port_made, received_by}
+use Rattle.iox_hub.specs.RecordedNames.{as_made, back_by, named_by, port_made, received_by}
 use Rattle.iox_hub.specs.Recording.{IsDoneIf, IsDoneOrBack, asked_with, calls_opened, newest_there, told_sent_if, values_there}
 use Rattle.iox_hub.specs.declared.recorded.named.Number.{Number}
+
+-- A send that waits is one of this port.
+abbrev pub WaitsAt : {T U : Type 0} → PortId → Sent T U → Type 0
+WaitsAt port (sent.Delivered count) = Unit {0}
+WaitsAt port (sent.Blocked blocked) = blocked.port ≡ port
+
+-- how a send that is given up is told
+pub given_up_so : {T : Type 0} (asked : Command T) (calls : Calls T) (answer : Option ℕ)
+    → asked_too asked (given_up_reply answer) calls
+    ≡ asked_too asked (option_map_or (λ count. reply.Delivered count) answer reply.Skipped) calls
+given_up_so asked calls None = refl
+given_up_so asked calls (Some count) = refl
 
 -- the values that a payload gives are those that are found
 pub gives_found : {T : Type 0} (values : List T) (found : Option (List T)) → Some values ≡ found → values ≡ unwrap_or found []

@@ -20,6 +20,7 @@ pub use Rattle.iox_hub_commands.specs.Domain as Domain
 pub use Rattle.iox_hub_commands.specs.DomainPorts as DomainPorts
 pub use Rattle.iox_hub_commands.specs.DomainValues as DomainValues
 pub use Rattle.iox_hub_commands.specs.HubBase as HubBase
+pub use Rattle.iox_machine.specs as Machine
 pub use Rattle.iox_negotiate.specs as Negotiate
 pub use Rattle.iox_hub_commands.specs.NegotiateBase as NegotiateBase
 pub use Rattle.iox_queues_base.specs as QueuesBase

@@ -1,17 +1,12 @@
 -- Handlers that are handed in, by their places.
 use Rattle.std.specs.Prelude.{ℕ, ◌-◌, List, Option, None, Some, if◌then◌else◌, nat_lt, slice_get, slice_set}
-use Rattle.std.specs.Option.{option_map}
+use Rattle.std.specs.Option.{option_flatten, option_map}
 use Rattle.iox_hub.specs.declared.given.GivenHandler.{GivenHandler}
 use Rattle.iox_hub.specs.declared.given.GivenHandler.TheVariants.{Backpressure, Degradation}
 
--- what lies in a place, if there is such a place and it isn't empty
-abbrev pub within : {X : Type 0} → Option (Option X) → Option X
-within None = None
-within (Some place) = place
-
--- what lies at a place, counted from 1
+-- what lies at a place, counted from 1, if there is such a place and it isn't empty
 abbrev pub lies_at : {X : Type 0} → ℕ → List (Option X) → Option X
-lies_at place given = if nat_lt 0 place then within (slice_get given (place - 1)) else None
+lies_at place given = if nat_lt 0 place then option_flatten (slice_get given (place - 1)) else None
 
 -- the same places, of which one is empty, counted from 1
 abbrev pub emptied : {X : Type 0} → ℕ → List (Option X) → List (Option X)

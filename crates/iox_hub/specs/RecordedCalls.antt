@@ -1,5 +1,5 @@
 -- What the calls of a recorded hub are told as: commands, and answers to them.
-use Rattle.std.specs.Prelude.{ℕ, ◌≡◌, ◌⊎◌, ◌^◌, ◌<◌, List, [], ◌∷◌, ◌++◌, length, Option, None, Some, Result, Ok, Err}
+use Rattle.std.specs.Prelude.{ℕ, ◌≡◌, ◌⊎◌, ◌^◌, ◌<◌, true, List, [], ◌∷◌, ◌++◌, length, Option, None, Some, Result, Ok, Err}
 use Rattle.std.specs.Global.{Vec}
 use Rattle.std.specs.Vec.{vec_items}
 use Rattle.iox_command.specs.declared.command.Command.{Command}
@@ -17,13 +17,13 @@ use Rattle.iox_hub_commands.specs.DomainValues.declared.port_error.ReceiveError.
 use Rattle.iox_hub_commands.specs.DomainValues.declared.port_error.SendError.{SendError}
 use Rattle.iox_command.specs.declared.service.PublishSubscribeOptions.{PublishSubscribeOptions}
 use Rattle.iox_command.specs.declared.service.ServiceOptions.TheVariants as options
-use Rattle.iox_hub_commands.specs.Asking.{hash_of, required_agreement, required_publish_subscribe}
 use Rattle.iox_hub_commands.specs.DescribeBase.Attributes.{Required}
+use Rattle.iox_hub_commands.specs.DescribeBase.Hash.{service_hash_of}
 use Rattle.iox_hub_commands.specs.DescribeBase.declared.message_type.MessageTypeDetails.{MessageTypeDetails}
-use Rattle.iox_negotiate.specs.Laws.{IsMet}
+use Rattle.iox_hub_commands.specs.DescribeBase.declared.pattern.MessagingPattern.TheVariants as pattern
+use Rattle.iox_machine.specs.Agreement.{are_within_limits, verdict}
+use Rattle.iox_machine.specs.Asked.{settings_of}
 use Rattle.iox_negotiate_base.specs.declared.request.Opened.{Opened}
-use Rattle.iox_negotiate_table.specs.DescribeVerdict.PublishSubscribeClauses as publish_subscribe_clauses
-use Rattle.iox_negotiate_table.specs.DescribeVerdict.Verdict.{first_unmet}
 use Rattle.iox_hub.specs.Recorded.{Calls, asked_too}
 use Rattle.iox_hub.specs.declared.recorded.named.Named.{Named}
 
@@ -31,13 +31,18 @@ use Rattle.iox_hub.specs.declared.recorded.named.Named.{Named}
 abbrev pub KeepNumbers : {V : Type 0} → NumberTable V → NumberTable V → Type 0
 KeepNumbers {V} old new = (number : ℕ) (held : V) → value_at old number ≡ Some held → value_at new number ≡ Some held
 
--- A service is as a node asked for it: it is the one of the hash of this name, and what is agreed of it meets these options and attributes,
--- and is within the limits of a description; or it has what is agreed of a service that is created with them.
+-- A service is as a node asked for it. It is the one of the hash of this name. What is agreed of it meets these options and attributes, and
+-- its settings are some that can be asked for, within the limits; or it has just what a service of this name is created with for them.
 abbrev pub IsAsAsked : MessageTypeDetails → List ℕ → PublishSubscribeOptions → Required → Opened → Type 0
 IsAsAsked types name named required service =
-    IsMet (hash_of name (options.PublishSubscribe named))
-    (λ given. first_unmet (publish_subscribe_clauses.clauses (required_publish_subscribe named types required) given)) service
-    ⊎ (service.description ≡ required_agreement name (options.PublishSubscribe named) types required)
+    (service.description.service_hash ≡ service_hash_of pattern.PublishSubscribe name)
+    × (((verdict types (options.PublishSubscribe named) required
+    (record { settings = service.description.settings; attributes = service.description.attributes }) ≡ Ok tt)
+    × (are_within_limits service.description.settings ≡ true)
+    × ((given : MessageTypeDetails) × (others : PublishSubscribeOptions)
+    × (service.description.settings ≡ settings_of given (options.PublishSubscribe others))))
+    ⊎ ((service.description.name ≡ name) × (service.description.settings ≡ settings_of types (options.PublishSubscribe named))
+    × (service.description.attributes ≡ required.pairs)))
 
 -- A subscriber received, or none stands. A sample that came goes by the next number, and is told with these values, if they fit in a
 -- vector.

@@ -1,12 +1,17 @@
 -- What a program reads of a sample is what it received, and what was put.
-use Rattle.std.specs.Prelude.{ℕ, ◌≡◌, ◌⊎◌, ◌+◌, ◌<◌, ◌^◌, ◌++◌, ◌∷◌, [], List, length, Option, false, true}
+use Rattle.std.specs.Prelude.{ℕ, ◌≡◌, ◌⊎◌, ◌+◌, ◌<◌, ◌^◌, ◌++◌, ◌∷◌, [], List, length, take, find, slice_get, Option, Some, is_some, false}
 use Rattle.std.specs.Global.{Vec}
 use Rattle.std.specs.List.{AllByRecursion}
 use Rattle.std.specs.Vec.{vec_items}
 use Rattle.iox_command.specs.declared.command.Command.{Command}
 use Rattle.iox_command.specs.declared.command.Command.TheVariants as command
+use Rattle.iox_command.specs.declared.refusal.Refusal.TheVariants as refusal
 use Rattle.iox_command.specs.declared.reply.Reply.{Reply}
 use Rattle.iox_command.specs.declared.reply.Reply.TheVariants as reply
+use Rattle.iox_command.specs.declared.service.PublishSubscribeOptions.{PublishSubscribeOptions}
+use Rattle.iox_command.specs.declared.service.ServiceOptions.TheVariants as options
+use Rattle.iox_hub_commands.specs.Asking.{hash_of, required_agreement, required_publish_subscribe}
+use Rattle.iox_hub_commands.specs.DescribeBase.Attributes.{Required}
 use Rattle.iox_hub_commands.specs.DescribeBase.declared.message_type.MessageTypeDetails.{MessageTypeDetails}
 use Rattle.iox_hub_commands.specs.DomainValues.declared.backpressure.BackpressureAction.{BackpressureAction}
 use Rattle.iox_hub_commands.specs.DomainValues.declared.backpressure.BackpressureDecision.{BackpressureDecision}
@@ -15,12 +20,22 @@ use Rattle.iox_hub_commands.specs.DomainValues.declared.backpressure_strategy.Ba
 use Rattle.iox_hub_commands.specs.DomainValues.declared.degradation.DegradationAction.{DegradationAction}
 use Rattle.iox_hub_commands.specs.DomainValues.declared.degradation.DegradationCause.{DegradationCause}
 use Rattle.iox_hub_commands.specs.DomainValues.declared.degradation.DegradationInfo.{DegradationInfo}
+use Rattle.iox_hub_commands.specs.DomainValues.declared.port_error.SendError.TheVariants.{UnableToDeliver}
 use Rattle.iox_hub.specs.Recorded.{AreFollowed, Calls}
+use Rattle.iox_hub.specs.RecordedCalls.{IsAsAsked}
 use Rattle.iox_hub_machine.specs.RunLaws.{all_asked, names_in}
+use Rattle.iox_negotiate.specs.Laws.{IsMet}
+use Rattle.iox_negotiate_base.specs.declared.request.Opened.{Opened}
 use Rattle.iox_negotiate_machine.specs.Laws.{HaveOwnHashes}
 use Rattle.iox_machine.specs.Choices.{Choices}
-use Rattle.iox_machine.specs.Run.{Answers}
-use Rattle.iox_machine.specs.RunLaws.{has_begun}
+use Rattle.iox_machine.specs.Ports.{subscriber_in}
+use Rattle.iox_machine.specs.Run.{Answers, Runs}
+use Rattle.iox_machine.specs.Service.{Service}
+use Rattle.iox_machine.specs.State.{State, new_state}
+use Rattle.iox_machine.specs.Table.{at}
+use Rattle.iox_negotiate_table.specs.Describe.Within.{HasForm}
+use Rattle.iox_negotiate_table.specs.DescribeVerdict.PublishSubscribeClauses as publish_subscribe_clauses
+use Rattle.iox_negotiate_table.specs.DescribeVerdict.Verdict.{first_unmet}
 
 -- A subscriber received a sample, and after other calls that sample is read. Where the machine may answer so to all of them from the first
 -- one on, the values that are read are those that were received.
@@ -52,9 +67,41 @@ abbrev pub DecidesForCalls : (T : Type 0) → {B D : Type 0} → (BackpressureSt
 DecidesForCalls T fixed degrades decides fixed_reader reader_degrades = (calls : Calls T) → StandUndecided calls
     → AreFollowed fixed degrades decides fixed_reader reader_degrades calls
 
--- These values were put: a put of them began to send.
-abbrev pub WasPut : {T : Type 0} → List T → List (Command T) → List (Reply T) → Type 0
-WasPut values (command.Put publisher given ∷ asked) (answer ∷ answers) =
-    ((given ≡ values) × (has_begun answer ≡ true)) ⊎ WasPut values asked answers
-WasPut values (other ∷ asked) (answer ∷ answers) = WasPut values asked answers
-WasPut values asked answers = ⊥
+-- What was read under the hash of this name meets each clause of these options and attributes, and is within the limits of a description;
+-- or it is just what is required.
+abbrev pub IsMetOrMade : MessageTypeDetails → List ℕ → PublishSubscribeOptions → Required → Opened → Type 0
+IsMetOrMade types name named required service =
+    IsMet (hash_of name (options.PublishSubscribe named))
+    (λ given. first_unmet (publish_subscribe_clauses.clauses (required_publish_subscribe named types required) given)) service
+    ⊎ (service.description ≡ required_agreement name (options.PublishSubscribe named) types required)
+
+-- A service that is as a node asked for it, in the machine's words, is so in those of the code, if its description has the form of one:
+-- that of every factory has.
+abbrev pub AsAskedIsMet : Type 0
+AsAskedIsMet = (types : MessageTypeDetails) (name : List ℕ) (named : PublishSubscribeOptions) (required : Required) (service : Opened)
+    → HasForm service.description → IsAsAsked types name named required service → IsMetOrMade types name named required service
+
+-- A sample has values that were put. Among the commands, by their places, is one to receive that was answered with the sample, with these
+-- values; and before that a put of them. That send began: it waited, went to so many, or didn't reach all. In the machine's state before
+-- the sample was received, the publisher that put them is one of the subscriber's own service.
+pub record WasPut {T : Type 0} (types : MessageTypeDetails) (choices : Choices T) (buffer sample : ℕ) (values : List T)
+    (asked : List (Command T)) (answers : List (Reply T)) : Type 0 where
+  pub received : ℕ
+  pub subscriber : ℕ
+  pub told : Vec T
+  pub is_received : slice_get asked received ≡ Some (command.Receive subscriber)
+  pub is_told : slice_get answers received ≡ Some (reply.Received sample told)
+  pub same : vec_items told ≡ values
+  pub put : ℕ
+  pub publisher : ℕ
+  pub answer : Reply T
+  pub before : put < received
+  pub is_put : slice_get asked put ≡ Some (command.Put publisher values)
+  pub is_answered : slice_get answers put ≡ Some answer
+  pub begun : (answer ≡ reply.Blocked) ⊎ (answer ≡ reply.Refused (refusal.Send UnableToDeliver))
+      ⊎ ((count : ℕ) × (answer ≡ reply.Delivered count))
+  pub state : State T
+  pub ran : Runs types choices buffer (take received asked) new_state (take received answers) state
+  pub service : Service T
+  pub of_subscriber : find (λ other. is_some (subscriber_in subscriber other)) state.services ≡ Some service
+  pub of_publisher : find (λ other. is_some (at publisher other.publishers)) state.services ≡ Some service

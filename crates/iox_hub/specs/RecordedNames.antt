@@ -1,14 +1,11 @@
 -- What goes by numbers in a recorded hub.
-use Rattle.std.specs.Prelude.{ℕ, ◌≡◌, Option, None, Some, Result, Ok, Err}
+use Rattle.std.specs.Prelude.{ℕ, Option, None, Some, Result, Ok, Err}
 use Rattle.std.specs.Option.{unwrap_or}
 use Rattle.iox_command.specs.declared.port.PublisherOptions.{PublisherOptions}
 use Rattle.iox_command.specs.declared.port.SubscriberOptions.{SubscriberOptions}
 use Rattle.iox_delivery.specs.Domain.PortSettings.{publisher_defaults}
 use Rattle.iox_delivery.specs.declared.port.Port.{Port}
-use Rattle.iox_delivery.specs.declared.port_id.PortId.{PortId}
 use Rattle.iox_delivery.specs.declared.publisher.PublisherSide.{PublisherSide}
-use Rattle.iox_delivery.specs.declared.sent.Sent.{Sent}
-use Rattle.iox_delivery.specs.declared.sent.Sent.TheVariants as sent
 use Rattle.iox_delivery.specs.declared.subscriber.SubscriberSide.{SubscriberSide}
 use Rattle.iox_domain.specs.declared.domain_id.DomainId.{DomainId}
 use Rattle.iox_hub_commands.specs.declared.services.made.MadeFactory.{MadeFactory}
@@ -56,8 +53,3 @@ port_made domain side None = None
 port_made domain side (Some (Ok number)) =
     Some (Ok (record { port = record { domain = domain; number = number }; side = side; of = record {} }))
 port_made domain side (Some (Err why)) = Some (Err why)
-
--- A send that waits is one of this port.
-abbrev pub WaitsAt : {T U : Type 0} → PortId → Sent T U → Type 0
-WaitsAt port (sent.Delivered count) = Unit {0}
-WaitsAt port (sent.Blocked blocked) = blocked.port ≡ port

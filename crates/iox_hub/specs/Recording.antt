@@ -1,7 +1,9 @@
 -- What ties a hub to what was asked of it, and what calls make of that. No clause that a caller reads cites this.
-use Rattle.std.specs.Prelude.{ℕ, ◌≡◌, ◌-◌, ◌^◌, ◌<◌, ◌&&◌, Bool, true, false, List, [], length, nat_lt, Option, None, Some, Result, Ok, Err}
+use Rattle.std.specs.Prelude.{ℕ, ◌≡◌, ◌-◌, ◌^◌, ◌<◌, ◌&&◌, Bool, true, false, List, [], ◌∷◌, ◌++◌, length, nat_lt, Option, None, Some}
+use Rattle.std.specs.Prelude.{Result, Ok, Err}
 use Rattle.iox_delivery.specs.Holding.{holds_message}
 use Rattle.iox_hub_base.specs.AsHome.{hub_ports}
+use Rattle.std.specs.Global.{Vec}
 use Rattle.std.specs.List.{AllByRecursion}
 use Rattle.std.specs.Option.{unwrap_or}
 use Rattle.iox_delivery.specs.declared.kind.Slice.{Slice}
@@ -42,13 +44,14 @@ use Rattle.iox_command.specs.declared.reply.Reply.{Reply}
 use Rattle.iox_command.specs.declared.reply.Reply.TheVariants as reply
 use Rattle.iox_command.specs.declared.service.PublishSubscribeOptions.{PublishSubscribeOptions}
 use Rattle.iox_command.specs.declared.service.ServiceOptions.TheVariants as options
-use Rattle.iox_container.specs.NumberTable.{inserted, value_at}
+use Rattle.iox_container.specs.NumberTable.{NumberTable, inserted, value_at}
 use Rattle.iox_hub_commands.specs.Reading.{values_under}
 use Rattle.iox_hub_commands.specs.DescribeBase.Attributes.{Required}
 use Rattle.iox_hub_commands.specs.NegotiateBase.declared.errors.publish_subscribe.PublishSubscribeOpenOrCreateError.{PublishSubscribeOpenOrCreateError}
 use Rattle.iox_hub_commands.specs.ServicesTables.{FactoryTable, no_factories}
 use Rattle.iox_hub_commands.specs.Tables.{no_numbers}
 use Rattle.iox_hub_commands.specs.declared.ports.made.Made.{Made}
+use Rattle.iox_hub_commands.specs.declared.ports.made.MadeSample.{MadeSample}
 use Rattle.iox_hub_commands.specs.declared.services.made.MadeFactory.{MadeFactory}
 use Rattle.iox_hub.specs.Recorded.{Calls, asked_too}
 
@@ -71,6 +74,24 @@ asked_with made asked answer calls = record (asked_too asked answer calls) { mad
 abbrev pub SendsNoLoan : {T : Type 0} → Command T → Type 0
 SendsNoLoan (command.Send loan) = ⊥
 SendsNoLoan other = Unit {0}
+
+-- A sample of this number came: a command to receive was answered with it.
+pub record HasCome {T : Type 0} (sample : ℕ) (asked : List (Command T)) (answers : List (Reply T)) : Type 0 where
+  pub before : List (Command T)
+  pub first : List (Reply T)
+  pub subscriber : ℕ
+  pub values : Vec T
+  pub later : List (Command T)
+  pub told : List (Reply T)
+  pub long : length first ≡ length before
+  pub are : asked ≡ before ++ command.Receive subscriber ∷ later
+  pub answered : answers ≡ first ++ reply.Received sample values ∷ told
+
+-- Each command was answered, none is the send of a loan, and each sample that the program holds came.
+pub record HaveTold {T : Type 0} (samples : NumberTable MadeSample) (asked : List (Command T)) (answers : List (Reply T)) : Type 0 where
+  pub long : length answers ≡ length asked
+  pub loanless : AllByRecursion (λ one. SendsNoLoan one) asked
+  pub came : (number : ℕ) (held : MadeSample) → value_at samples number ≡ Some held → HasCome number asked answers
 
 -- Each message that was received fits in a vector.
 abbrev pub AllFit : {T : Type 0} → List (List T) → Type 0
@@ -185,10 +206,10 @@ module _ {T U B D : Type 0} (payload user_header : Detail) (types : MessageTypeD
       × (fit ≡ true)
 
   -- That, and the numbers of what the program holds rise; the hub is told apart as it was made; if this is true, each message that was
-  -- received fits in a vector; and no loan was sent.
+  -- received fits in a vector; and no loan was sent, and what the program holds came.
   pub record IsRecorded (fit : Bool) (calls : Calls T) (hub : Hub T U B D) : Type 0 where
     pub rise : NumbersRise (numbered calls hub)
     pub id : hub.table.id ≡ calls.config.id
     pub all_fit : fit ≡ true → AllFit calls.received
-    pub loanless : AllByRecursion (λ one. SendsNoLoan one) calls.asked
+    pub told : HaveTold calls.made.samples calls.asked calls.answers
     pub run : IsRun fit calls hub

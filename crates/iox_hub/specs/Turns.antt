@@ -39,17 +39,16 @@ module _ {T P D : Type 0} where
       && option_map_or (λ place. is_some (degradation_of (lies_at place given))) at_failure true
   finds_handlers (asked.Subscriber factory options at_failure) given = is_some (degradation_of (lies_at at_failure given))
 
-  -- the handlers that are left by a command: those at its places, counted from 1, are taken, unless it was skipped
-  abbrev pub left_by_turn : HandledCommand T → Reply T → List (Option (GivenHandler P D)) → List (Option (GivenHandler P D))
-  left_by_turn command reply.Skipped given = given
-  left_by_turn command answer given = fold (λ left place. slice_set left (place - 1) None) given (places_of command)
-
-  -- the turns of a run, where these handlers lay at their places at first
+  -- The turns of a run, where these handlers lay at their places at first. A command that isn't skipped takes those at its places, which
+  -- are counted from 1.
   abbrev pub turns : List (HandledCommand T) → List (Reply T) → List (Option (GivenHandler P D)) → List (Turn T P D)
   turns [] replies given = []
   turns (command ∷ commands) [] given = []
   turns (command ∷ commands) (answer ∷ replies) given =
-      record { command = command; answer = answer; given = given } ∷ turns commands replies (left_by_turn command answer given)
+      record { command = command; answer = answer; given = given } ∷ turns commands replies (elim answer [
+        | reply.Skipped ↦ given
+        | other ↦ fold (λ left place. slice_set left (place - 1) None) given (places_of command)
+      ])
 
   -- what the machine is asked in turns: of each whose command finds the handlers that it names, the command without places
   abbrev pub asked_in : List (Turn T P D) → List (Command T)
@@ -59,32 +58,29 @@ module _ {T P D : Type 0} where
   abbrev pub answered_in : List (Turn T P D) → List (Reply T)
   answered_in all = map (λ turn. turn.answer) (filter (λ turn. finds_handlers turn.command turn.given) all)
 
-  -- who is handed in by a command for a subscriber: the handler at its place
-  abbrev pub subscriber_by : HandledCommand T → List (Option (GivenHandler P D)) → Option D
-  subscriber_by (asked.Subscriber factory options at_failure) given = degradation_of (lies_at at_failure given)
-  subscriber_by other given = None
-
 module _ {T B D P : Type 0}
     (handled : BackpressureStrategy → Option BackpressureAction → DegradationAction → Option P → Option D → B) where
-  -- Who is handed in by a command for a publisher: made of the handlers at its places, and of what it names besides. Without a strategy a
-  -- send waits, and without an action a failed connection is passed over with a warning.
-  abbrev pub publisher_by : HandledCommand T → List (Option (GivenHandler P D)) → Option B
-  publisher_by (asked.Publisher factory options at_full at_failure) given =
-      Some (handled (unwrap_or options.backpressure_strategy RetryUntilDelivered) options.backpressure_handler
-      (unwrap_or options.degradation_handler Warn)
-      (option_and_then (λ place. backpressure_of (lies_at place given)) at_full)
-      (option_and_then (λ place. degradation_of (lies_at place given)) at_failure))
-  publisher_by other given = None
-
-  -- Who was handed in for ports, by their numbers: each by the command of the turn where its number was told.
+  -- Who was handed in for ports, by their numbers: each by the command of the turn where its number was told. A publisher's is made of the
+  -- handlers at its places, and of what the command names besides: without a strategy a send waits, and without an action a failed
+  -- connection is passed over with a warning. A subscriber's is the handler at its place.
   abbrev pub handed_in : List (Turn T P D) → Handed B D
   handed_in [] = record { publishers = λ number. None; subscribers = λ number. None }
   handed_in (turn ∷ later) = elim turn.answer [
     | reply.PublisherMade told ↦ record (handed_in later) {
-      publishers = λ number. if told == number then publisher_by turn.command turn.given else (handed_in later).publishers number;
+      publishers = λ number. if told == number then elim turn.command [
+        | asked.Publisher factory options at_full at_failure ↦ Some (handled
+            (unwrap_or options.backpressure_strategy RetryUntilDelivered) options.backpressure_handler
+            (unwrap_or options.degradation_handler Warn)
+            (option_and_then (λ place. backpressure_of (lies_at place turn.given)) at_full)
+            (option_and_then (λ place. degradation_of (lies_at place turn.given)) at_failure))
+        | other ↦ None
+      ] else (handed_in later).publishers number;
     }
     | reply.SubscriberMade told ↦ record (handed_in later) {
-      subscribers = λ number. if told == number then subscriber_by turn.command turn.given else (handed_in later).subscribers number;
+      subscribers = λ number. if told == number then elim turn.command [
+        | asked.Subscriber factory options at_failure ↦ degradation_of (lies_at at_failure turn.given)
+        | other ↦ None
+      ] else (handed_in later).subscribers number;
     }
     | other ↦ handed_in later
   ]

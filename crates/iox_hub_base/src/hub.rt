@@ -41,7 +41,7 @@ impl Default for HubConfig {
 }
 
 /// What lies under the hash of a service.
-#[derive(Clone, Copy, Debug, PartialEq, Eq)]
+#[derive(Clone, Copy)]
 pub enum HashState {
     /// Nothing: no service of it stands, and nobody is about to create one.
     Absent,

@@ -78,7 +78,7 @@ impl SubscriberHandler for DegradationHandler {
 /// Who decides for a publisher by fixed actions alone. A hub whose ports only commands make needs no other, and no boxes.
 ///
 /// This port's own.
-#[derive(Clone, Copy, Debug, PartialEq, Eq)]
+#[derive(Clone, Copy)]
 pub struct FixedHandlers {
     /// What is done at a full mailbox where no action says otherwise.
     pub strategy: BackpressureStrategy,
@@ -123,7 +123,7 @@ impl PublisherHandlers for FixedHandlers {
 /// Who answers one action where a connection of a subscriber failed.
 ///
 /// This port's own.
-#[derive(Clone, Copy, Debug, PartialEq, Eq)]
+#[derive(Clone, Copy)]
 pub struct FixedDegradation {
     /// The answer.
     pub action: DegradationAction,
@@ -150,7 +150,7 @@ impl SubscriberHandler for FixedDegradation {
 /// How many slots a publisher gets, where a command named that; else as many as it needs in the worst case.
 ///
 /// This port's own.
-#[derive(Clone, Copy, Debug, PartialEq, Eq)]
+#[derive(Clone, Copy)]
 pub struct NamedSlots {
     /// How many are named.
     pub slots: Option<u64>,

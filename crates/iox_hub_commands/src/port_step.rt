@@ -76,7 +76,7 @@ impl<
                 Ok(messages::set(&self.made, &mut self.hub, loan, place, value))
             }
             PortCommand::Fill { loan, values } => {
-                Ok(messages::fill(&self.made, &mut self.hub, loan, values.as_slice()))
+                Ok(messages::fill(&self.made, &mut self.hub, loan, values.items))
             }
             PortCommand::Drop { loan } => {
                 Ok(messages::drop_loan(&mut self.made, &mut self.hub, loan))
@@ -89,7 +89,7 @@ impl<
                 &self.made,
                 &mut self.hub,
                 publisher,
-                values.as_slice(),
+                values.items,
             )),
             PortCommand::Retry {
                 publisher,

@@ -17,7 +17,7 @@ use std::alloc::AllocError;
 /// A port pledges what it may want when it comes; what one that left had pledged may be pledged still.
 ///
 /// This port's own.
-#[derive(Clone, Copy, Debug, PartialEq, Eq)]
+#[derive(Clone, Copy)]
 pub struct Pledged {
     /// Of loans.
     pub loans: u64,

@@ -134,7 +134,7 @@ impl<
                 Ok(messages::set(&self.made, &mut self.hub, loan, place, value))
             }
             Command::Fill { loan, values } => {
-                Ok(messages::fill(&self.made, &mut self.hub, loan, values.as_slice()))
+                Ok(messages::fill(&self.made, &mut self.hub, loan, values.items))
             }
             Command::Drop { loan } => {
                 Ok(messages::drop_loan(&mut self.made, &mut self.hub, loan))
@@ -147,7 +147,7 @@ impl<
                 &self.made,
                 &mut self.hub,
                 publisher,
-                values.as_slice(),
+                values.items,
             )),
             Command::Retry {
                 publisher,

@@ -1,9 +1,11 @@
 //! A recorded hub, called as a program calls it: its answers, and that what it received is known to fit.
-ghost use Rattle.std.specs.Prelude.{◌≡◌, ◌++◌, ◌∷◌, [], Some, IfSome};
+ghost use Rattle.std.specs.Prelude.{◌≡◌, ◌++◌, ◌∷◌, [], Some, IfSome, codes};
+ghost use Rattle.std.specs.Option.{option_map};
 ghost use Rattle.iox_command.specs.declared.command.Command.TheVariants as command;
 ghost use Rattle.iox_hub_commands.specs.Container.NumberTable.{value_at};
-ghost use Rattle.iox_hub_commands.specs.Tables.{port_under};
+ghost use Rattle.iox_hub_commands.specs.Asked.{types_of};
 ghost use Rattle.iox_hub_commands.specs.declared.services.made.MadeFactory.TheVariants as made_factory;
+ghost use Rattle.iox_hub.specs.Machine.Choices.{as_named};
 ghost use Rattle.iox_hub.specs.Recorded.{AreFollowed};
 ghost use Rattle.iox_hub.specs.RecordedLaws.{WasPut};
 
@@ -60,7 +62,8 @@ fn is_sent(
     values: &[u64],
     count: usize,
 ) -> bool
-    requires { port_under (value_at hub.old.calls.made.publishers publisher.now.number.value) ≡ Some publisher.now.it.port }
+    requires { option_map (λ made. made.port) (value_at hub.old.calls.made.publishers publisher.now.number.value)
+        ≡ Some publisher.now.it.port }
     ensures publishers { hub.new.calls.made.publishers ≡ hub.old.calls.made.publishers }
     ensures subscribers { hub.new.calls.made.subscribers ≡ hub.old.calls.made.subscribers }
 {
@@ -86,7 +89,8 @@ fn put_values<'a, B: PublisherHandlers, D: SubscriberHandler>(
     ensures put { IfSome result (λ values. AreFollowed B.fixed (λ handlers. B.degrades handlers) (λ handlers. B.decides handlers)
         D.fixed (λ handler. D.degrades handler)
         (record hub.now.calls { asked = hub.now.calls.asked ++ command.Read sample.now.number.value ∷ [] })
-        → WasPut values.now hub.now.calls.asked hub.now.calls.answers) }
+        → WasPut (types_of (codes "u64") 8 8 (codes "()") 0 1) (as_named (λ value. value ≡ 0))
+        hub.now.calls.config.expired_connection_buffer sample.now.number.value values.now hub.now.calls.asked hub.now.calls.answers) }
 {
     let values = hub.payload(sample)?;
     if values.len() < 9_223_372_036_854_775_808 {
@@ -128,7 +132,8 @@ fn is_waiting(
     publisher: &Named<slice::Publisher<u64, ()>>,
     values: &[u64],
 ) -> bool
-    requires { port_under (value_at hub.old.calls.made.publishers publisher.now.number.value) ≡ Some publisher.now.it.port }
+    requires { option_map (λ made. made.port) (value_at hub.old.calls.made.publishers publisher.now.number.value)
+        ≡ Some publisher.now.it.port }
     ensures publishers { hub.new.calls.made.publishers ≡ hub.old.calls.made.publishers }
     ensures subscribers { hub.new.calls.made.subscribers ≡ hub.old.calls.made.subscribers }
 {
@@ -156,7 +161,8 @@ fn exchange(
     subscriber: &Named<slice::Subscriber<u64, ()>>,
     values: &[u64],
 ) -> bool
-    requires publisher { port_under (value_at hub.old.calls.made.publishers publisher.now.number.value) ≡ Some publisher.now.it.port }
+    requires publisher { option_map (λ made. made.port) (value_at hub.old.calls.made.publishers publisher.now.number.value)
+        ≡ Some publisher.now.it.port }
     requires subscriber { value_at hub.old.calls.made.subscribers subscriber.now.number.value ≡ Some subscriber.now.it.port }
     ensures publishers { hub.new.calls.made.publishers ≡ hub.old.calls.made.publishers }
     ensures subscribers { hub.new.calls.made.subscribers ≡ hub.old.calls.made.subscribers }
@@ -178,7 +184,7 @@ fn exchange(
 
 // Whether a publisher leaves.
 fn publisher_leaves(hub: &mut Recorded, publisher: Named<slice::Publisher<u64, ()>>) -> bool
-    requires { port_under (value_at hub.old.calls.made.publishers publisher.number.value) ≡ Some publisher.it.port }
+    requires { option_map (λ made. made.port) (value_at hub.old.calls.made.publishers publisher.number.value) ≡ Some publisher.it.port }
     ensures { hub.new.calls.made.subscribers ≡ hub.old.calls.made.subscribers }
 {
     match hub.end_publisher(publisher) {

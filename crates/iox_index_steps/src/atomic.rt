@@ -12,14 +12,14 @@ use std::alloc::{AllocError, Global};
 use std::marker::Model;
 
 /// One step: a party begins a call, or goes on inside one.
-#[derive(Clone, Copy, Debug, PartialEq, Eq)]
+#[derive(Clone, Copy)]
 pub enum Move {
     Begin(usize, Call),
     GoOn(usize),
 }
 
 /// A call that ended: its first and its last step, by their number among the steps made.
-#[derive(Clone, Copy, Debug, PartialEq, Eq)]
+#[derive(Clone, Copy)]
 pub struct Finished {
     pub party: usize,
     pub call: Call,
@@ -34,7 +34,7 @@ pub struct Finished {
 /// that a load found between its last two looks at the counter are those that were current at the last one, and the current words
 /// are those of the store that moved the counter last, or the first ones. Each step is one of one call. A store that ended moved
 /// the counter on once, and a load never.
-#[derive(Debug, Drop)]
+#[derive(Drop)]
 pub struct AtomicMachine {
     state: State,
 }

@@ -11,7 +11,7 @@ use iox_queues_steps::{Access, Word};
 const LOCK_MARK: u32 = (1 << 24) - 1;
 
 /// A call that a party may begin.
-#[derive(Clone, Copy, Debug, PartialEq, Eq)]
+#[derive(Clone, Copy)]
 pub enum Call {
     /// Takes the next free index.
     Acquire,
@@ -20,7 +20,7 @@ pub enum Call {
 }
 
 /// What a call answered.
-#[derive(Clone, Copy, Debug, PartialEq, Eq)]
+#[derive(Clone, Copy, PartialEq, Eq)]
 pub enum Answer {
     /// An acquire took this index, or was refused.
     Acquired(Result<u32, UniqueIndexSetAcquireFailure>),
@@ -29,7 +29,7 @@ pub enum Answer {
 }
 
 /// Where a call stands. Between its begin and `Done` each stage is one access.
-#[derive(Clone, Copy, Debug, PartialEq, Eq)]
+#[derive(Clone, Copy)]
 pub enum IndexCall {
     Idle,
     /// An acquire looks at the head.

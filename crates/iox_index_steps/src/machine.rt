@@ -9,14 +9,14 @@ use std::alloc::{AllocError, Global};
 use std::marker::Model;
 
 /// One step: a party begins a call, or goes on inside one.
-#[derive(Clone, Copy, Debug, PartialEq, Eq)]
+#[derive(Clone, Copy)]
 pub enum Move {
     Begin(usize, Call),
     GoOn(usize),
 }
 
 /// A call that ended: its first and its last step, by their number among the steps made.
-#[derive(Clone, Copy, Debug, PartialEq, Eq)]
+#[derive(Clone, Copy)]
 pub struct Finished {
     pub party: usize,
     pub call: Call,
@@ -32,7 +32,7 @@ pub struct Finished {
 /// a locked set no index is out, only a release that was to lock it locked it, and it stays locked; by its own steps an acquire took
 /// just the index that it answers, a release gave back just its own, and what was refused moved none. Each step is one of one call:
 /// two local steps bound a call that ended.
-#[derive(Debug, Drop)]
+#[derive(Drop)]
 pub struct IndexSetMachine {
     state: State,
 }

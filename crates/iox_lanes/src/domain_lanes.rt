@@ -85,7 +85,7 @@ struct Recorded<T> {
 /// Where the service agreed on `sequence_numbers`, a slot has a fourth word of header, directly behind the three: the number of its
 /// message. Each send stores the number behind its publisher's last one there. So what a write names between header and payload has one
 /// word more than a user header, in front, as what a read gives there. It is no matter what a write names in that word.
-/// `Call::write_numbered` and `numbered_values_in` are the typed forms.
+/// As values the user header is a [`WithSequence`](iox_lanes_parties::WithSequence).
 ///
 /// Refused with the first reason of `refusal` that applies, before anything is built; else with `OutOfMemory`, only where an allocation
 /// fails, as it would for the numbers of 2^61 subscribers. Then the domain is handed back as it was. Of what is built nothing is tested:

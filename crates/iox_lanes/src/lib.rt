@@ -11,7 +11,7 @@
 //!
 //! Named again is what a program on lanes needs: [`Lanes`], [`RecordedLanes`], [`Message`], [`Party`], [`Call`], [`Move`], what a step
 //! answers ([`Stepped`]) and a send ([`Delivery`]), what stands in an order ([`Placed`], [`Act`]), [`Positions`], [`Words`],
-//! [`values_in`] and [`numbered_values_in`], and for threads [`open_threads`], [`LanePublisher`], [`LaneSubscriber`].
+//! [`FewWords`], [`values_in`], [`WithSequence`], and for threads [`open_threads`], [`LanePublisher`], [`LaneSubscriber`].
 //!
 //! First calls:
 //!
@@ -44,7 +44,7 @@ pub use iox_lanes_machine::{LaneSizes, Lanes, Link, Positions, Unrest};
 pub use iox_lanes_opening::refusals::IntoLanesError;
 pub use iox_lanes_parties::publisher::LoanAnswer;
 pub use iox_lanes_parties::{
-    Answer, Call, CallName, Entry, FinishedCall, Move, Party, SendAnswer, numbered_values_in,
+    Answer, Call, CallName, Entry, FewWords, FinishedCall, Move, Party, SendAnswer, WithSequence,
     values_in,
 };
 pub use iox_lanes_threads::{

@@ -100,6 +100,18 @@ waiting_cell m place slot lane route link w fits here there =
     let own = w.links route.connection link there in
     (own.connection_is, omega (arith, cell_below link.kind link.limit (length link.found) room, own.cells))
 
+-- the cell for a sample more that was given back
+pub back_cell : (m : World) (place slot : ℕ) (lane : PublisherLaneState) (route : Route) → IsWithin m
+    → back_of m place slot (Some lane) ≡ true → slice_get lane.port.routes place ≡ Some route
+    → (route.connection < m.table.sizes.connections) × (back_found m.table route.connection < m.table.sizes.completion_cells)
+back_cell m place slot lane route w fits here =
+    let is = may_be_back_is m place slot lane fits in
+    let same : is.route ≡ route = some_is is.route route (sym is.at ∙ here) in
+    let few : back_found m.table is.route.connection < m.table.sizes.completion_cells = omega (arith, is.few) in
+    subst (λ (r : Route). (r.connection < m.table.sizes.connections)
+    × (back_found m.table r.connection < m.table.sizes.completion_cells)) same
+    (link_there m is.route.connection is.link w is.found, few)
+
 -- what a list has at a place
 pub get_is : {X : Type 0} (xs : List X) (at : ℕ) (x : X) → at < length xs → x ≡ get_or xs at x → slice_get xs at ≡ Some x
 get_is {X} xs at x below e = slice_get-get_or xs at x below ∙ ap (λ (y : X). Some y) (sym e)

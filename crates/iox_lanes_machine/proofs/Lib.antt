@@ -2,6 +2,7 @@
 pub mod Runs
 pub mod InTable
 pub mod Within
+pub mod StandsWithin
 pub mod Ends
 pub mod Kept
 pub mod Steps
@@ -42,6 +43,7 @@ pub mod BuffersTaken
 pub mod SwapsTaken
 pub mod TakenIn
 pub mod TakenInPlaces
+pub mod StartParts
 pub mod StartRooms
 pub mod StartUses
 pub mod Alone

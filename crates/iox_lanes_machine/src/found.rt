@@ -19,12 +19,13 @@ use iox_lanes_base::calls::Route;
 use iox_lanes_base::words::{
     ConnectionRing, SharedAccess, SharedWord, SlotWord, TableSizes, WordTable,
 };
+use iox_lanes_parties::PublisherLane;
 use iox_queues_steps::Word;
 use iox_queues_steps::rings::RingKind;
 use std::alloc::AllocError;
 
 /// What lanes find before their first step. A connection goes by its publisher and its place there, a slot by its number in the service.
-#[derive(Clone, Copy, Debug, PartialEq, Eq)]
+#[derive(Clone, Copy)]
 pub enum Found {
     /// A message waits at a connection, behind those found there before.
     Waiting {
@@ -143,11 +144,19 @@ impl State {
         requires { IsWithin (world_of self.now) }
         ensures { result ≡ back_of (world_of self.now) place slot (slice_get self.now.publishers.items publisher) }
     {
-        match self.publishers.get(publisher) {
-            Some(lane) => match lane.route(place) {
-                Some(route) => lane.may_have(place, slot) && self.may_be_back(route.connection),
-                None => false,
-            },
+        match self.publisher(publisher) {
+            Some(lane) => self.back_at(lane, place, slot),
+            None => false,
+        }
+    }
+
+    // Whether a slot may be found given back at a place of the publisher.
+    fn back_at(&self, lane: &PublisherLane, place: u64, slot: u64) -> bool
+        requires { IsWithin (world_of self.now) }
+        ensures { result ≡ back_at (world_of self.now) place slot lane.now (slice_get lane.now.port.routes place) }
+    {
+        match lane.route(place) {
+            Some(route) => lane.may_have(place, slot) && self.may_be_back(route.connection),
             None => false,
         }
     }

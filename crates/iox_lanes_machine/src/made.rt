@@ -1,5 +1,7 @@
 //! The parts of lanes, as they are made.
 ghost use Rattle.std.specs.Prelude.{◌≡◌, ◌+◌, ◌*◌, [], replicate, IfOk};
+ghost use Rattle.iox_lanes_machine.specs.LanesParties.PublisherKeeping.{new_book};
+ghost use Rattle.iox_lanes_machine.specs.LanesParties.Publishers.{new_publisher};
 ghost use Rattle.iox_lanes_machine.specs.Made.{listed, link_at, publisher_at, subscriber_at, sending_routes, receiving_routes};
 ghost use Rattle.iox_lanes_machine.specs.Made.{first_head, route_to, table_sizes};
 
@@ -14,8 +16,36 @@ use iox_lanes_parties::subscriber::LaneSubscriber;
 use iox_lanes_parties::{Head, PublisherLane, SubscriberLane};
 use std::alloc::{AllocError, Global};
 
-/// The links that the first connections are.
-pub(crate) fn links(alloc: Global, sizes: &LaneSizes, count: u64) -> Result<Vec<Link>, AllocError>
+/// The links that the first connections are, and their orders.
+pub(crate) fn connections(
+    alloc: Global,
+    sizes: &LaneSizes,
+    count: u64,
+) -> Result<(Vec<Link>, Vec<Order>), AllocError>
+    ensures { IfOk result (λ made. (made.0.items ≡ listed (link_at sizes.now) count) × (made.1.items ≡ listed (λ connection. []) count)) }
+{
+    let links = links(alloc, sizes, count)?;
+    let orders = orders(alloc, count)?;
+    Ok((links, orders))
+}
+
+/// The publishers and the subscribers.
+pub(crate) fn parties(
+    alloc: Global,
+    sizes: &LaneSizes,
+    table: &TableSizes,
+) -> Result<(Vec<PublisherLane>, Vec<SubscriberLane>), AllocError>
+    requires { table.now ≡ table_sizes sizes.now }
+    ensures { IfOk result (λ made. (made.0.items ≡ listed (publisher_at sizes.now) sizes.now.publishers)
+        × (made.1.items ≡ listed (subscriber_at sizes.now) sizes.now.subscribers)) }
+{
+    let publishers = publishers(alloc, sizes, table)?;
+    let subscribers = subscribers(alloc, sizes, table)?;
+    Ok((publishers, subscribers))
+}
+
+// The links that the first connections are.
+fn links(alloc: Global, sizes: &LaneSizes, count: u64) -> Result<Vec<Link>, AllocError>
     ensures { IfOk result (λ made. made.items ≡ listed (link_at sizes.now) count) }
 {
     let mut list = Vec::new(alloc);
@@ -29,8 +59,8 @@ pub(crate) fn links(alloc: Global, sizes: &LaneSizes, count: u64) -> Result<Vec<
     Ok(list)
 }
 
-/// The orders of so many connections.
-pub(crate) fn orders(alloc: Global, count: u64) -> Result<Vec<Order>, AllocError>
+// The orders of so many connections.
+fn orders(alloc: Global, count: u64) -> Result<Vec<Order>, AllocError>
     ensures { IfOk result (λ made. made.items ≡ listed (λ connection. []) count) }
 {
     let mut list = Vec::new(alloc);
@@ -41,8 +71,8 @@ pub(crate) fn orders(alloc: Global, count: u64) -> Result<Vec<Order>, AllocError
     Ok(list)
 }
 
-/// The publishers.
-pub(crate) fn publishers(
+// The publishers.
+fn publishers(
     alloc: Global,
     sizes: &LaneSizes,
     table: &TableSizes,
@@ -59,8 +89,8 @@ pub(crate) fn publishers(
     Ok(list)
 }
 
-/// The subscribers.
-pub(crate) fn subscribers(
+// The subscribers.
+fn subscribers(
     alloc: Global,
     sizes: &LaneSizes,
     table: &TableSizes,
@@ -88,28 +118,48 @@ fn publisher(
 {
     let routes = sending_routes(alloc, sizes, table, place)?;
     let heads = heads(alloc, sizes, place)?;
+    let book = slot_book(alloc, sizes, place)?;
+    let port = publisher_port(alloc, sizes, &routes, book)?;
+    Ok(PublisherLane::new(port, heads))
+}
+
+// The records of a publisher's slots.
+fn slot_book(alloc: Global, sizes: &LaneSizes, place: u64) -> Result<SlotBook, AllocError>
+    ensures { IfOk result (λ made. made ≡ new_book (place * sizes.now.slots) sizes.now.slots sizes.now.subscribers
+        sizes.now.most_loans sizes.now.history) }
+{
     let Some(first) = place.checked_mul(sizes.slots) else {
         return Err(AllocError);
     };
-    let Some(head_words) = sizes.user_header_words.checked_add(3) else {
-        return Err(AllocError);
-    };
-    let book = SlotBook::new(
+    SlotBook::new(
         alloc,
         first,
         sizes.slots as usize,
         sizes.subscribers as usize,
         sizes.most_loans,
         sizes.history as usize,
-    )?;
-    let port = LanePublisher::new(
+    )
+}
+
+// A publisher's port.
+fn publisher_port(
+    alloc: Global,
+    sizes: &LaneSizes,
+    routes: &[Route],
+    book: SlotBook,
+) -> Result<LanePublisher, AllocError>
+    ensures { IfOk result (λ made. made ≡ new_publisher routes.now book sizes.now.payload_words (3 + sizes.now.user_header_words)) }
+{
+    let Some(head_words) = sizes.user_header_words.checked_add(3) else {
+        return Err(AllocError);
+    };
+    LanePublisher::new(
         alloc,
-        &routes,
+        routes,
         book,
         sizes.payload_words as usize,
         head_words as usize,
-    )?;
-    Ok(PublisherLane::new(port, heads))
+    )
 }
 
 // The headers of a publisher's slots.

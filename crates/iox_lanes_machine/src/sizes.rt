@@ -1,7 +1,7 @@
 //! How many ports lanes have, and their sizes.
-ghost use Rattle.std.specs.Prelude.{◌≡◌, IfSome};
+ghost use Rattle.std.specs.Prelude.{◌≡◌, ◌*◌, IfSome};
 ghost use Rattle.iox_lanes_machine.specs.QueuesSteps.Ends.{cells_of};
-ghost use Rattle.iox_lanes_machine.specs.Made.{table_sizes, link_at};
+ghost use Rattle.iox_lanes_machine.specs.Made.{table_sizes, link_at, cells_back};
 
 use crate::link::Link;
 use iox_lanes_base::calls::Route;
@@ -40,14 +40,42 @@ impl LaneSizes {
     pub(crate) fn table(&self) -> Option<TableSizes>
         ensures { IfSome result (λ table. table ≡ table_sizes self.now) }
     {
+        let (connections, slots) = self.table_counts()?;
+        let (submission_cells, completion_cells) = self.table_cells()?;
         Some(TableSizes {
-            connections: self.publishers.checked_mul(self.subscribers)?,
-            submission_cells: cells_of(self.kind, self.buffer)?,
-            completion_cells: self.buffer.checked_add(self.most_borrowed)?.checked_add(1)?,
-            slots: self.publishers.checked_mul(self.slots)?,
+            connections,
+            submission_cells,
+            completion_cells,
+            slots,
             user_header_words: self.user_header_words,
             payload_words: self.payload_words,
         })
+    }
+
+    // How many connections and how many slots there are.
+    fn table_counts(&self) -> Option<(u64, u64)>
+        ensures { IfSome result (λ counts. (counts.0 ≡ self.now.publishers * self.now.subscribers)
+            × (counts.1 ≡ self.now.publishers * self.now.slots)) }
+    {
+        let connections = self.publishers.checked_mul(self.subscribers)?;
+        let slots = self.publishers.checked_mul(self.slots)?;
+        Some((connections, slots))
+    }
+
+    // How many cells the two rings of a connection have.
+    fn table_cells(&self) -> Option<(u64, u64)>
+        ensures { IfSome result (λ cells. (cells.0 ≡ cells_of self.now.kind self.now.buffer) × (cells.1 ≡ cells_back self.now)) }
+    {
+        let sent = cells_of(self.kind, self.buffer)?;
+        let back = self.completion_cells()?;
+        Some((sent, back))
+    }
+
+    // How many cells a ring of samples given back has.
+    fn completion_cells(&self) -> Option<u64>
+        ensures { IfSome result (λ cells. cells ≡ cells_back self.now) }
+    {
+        self.buffer.checked_add(self.most_borrowed)?.checked_add(1)
     }
 
     /// The link that a connection is, if there are subscribers.

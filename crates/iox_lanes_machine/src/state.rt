@@ -1,6 +1,6 @@
 //! The state of lanes, and their steps.
 ghost use Rattle.std.specs.Prelude.{[], IfOk, get_or, ◌≡◌, ◌+◌, ◌≤◌, ◌<◌, ◌++◌, Some, OnOk, OnErr, true, false, length, slice_get};
-ghost use Rattle.std.specs.Prelude.{is_some, vec_len, vec_capacity};
+ghost use Rattle.std.specs.Prelude.{is_some, option_copied, vec_len, vec_capacity};
 ghost use Rattle.std.specs.Option.{option_to_list};
 ghost use Rattle.iox_lanes_machine.specs.LanesBase.Numbers.{IsWord};
 ghost use Rattle.iox_lanes_machine.specs.LanesBase.Table.{held_by, shared_answer, after_shared, IsOfTable};
@@ -9,8 +9,8 @@ ghost use Rattle.iox_lanes_machine.specs.LanesBase.Subscribing.{subscriber_next,
 ghost use Rattle.iox_lanes_machine.specs.LanesParties.Parties.{publisher_after, subscriber_after, subscriber_answer};
 ghost use Rattle.iox_lanes_machine.specs.World.{StepsTo, added, acts_at, connection_at, ended, ends, party_ends, fits, goes_on, happens};
 ghost use Rattle.iox_lanes_machine.specs.World.{placed, pop_acts, pops_from, push_acts, push_at, pushes_to, sender_stage};
-ghost use Rattle.iox_lanes_machine.specs.World.{publisher_begins, publisher_given, publisher_ending, publisher_goes_on};
-ghost use Rattle.iox_lanes_machine.specs.World.{subscriber_begins, subscriber_given, subscriber_goes_on, words_ending};
+ghost use Rattle.iox_lanes_machine.specs.World.{publisher_begins, publisher_given, publisher_ending, publisher_goes_on, publisher_stage};
+ghost use Rattle.iox_lanes_machine.specs.World.{subscriber_begins, subscriber_given, subscriber_goes_on, subscriber_stage, words_ending};
 
 use crate::link::{Link, Positions};
 use crate::made;
@@ -53,16 +53,42 @@ impl State {
         requires { table.now ≡ table_sizes sizes.now }
         ensures { IfOk result (λ made. world_of made ≡ start sizes.now) }
     {
-        Ok(State {
-            table: WordTable::new(alloc, *table)?,
-            links: made::links(alloc, sizes, table.connections)?,
-            publishers: made::publishers(alloc, sizes, table)?,
-            subscribers: made::subscribers(alloc, sizes, table)?,
-            orders: made::orders(alloc, table.connections)?,
+        let words = WordTable::new(alloc, *table)?;
+        let connections = made::connections(alloc, sizes, table.connections)?;
+        let parties = made::parties(alloc, sizes, table)?;
+        Ok(State::from_parts(alloc, words, connections, parties))
+    }
+
+    // These parts, and nothing done yet.
+    fn from_parts(
+        alloc: Global,
+        words: WordTable,
+        connections: (Vec<Link>, Vec<Order>),
+        parties: (Vec<PublisherLane>, Vec<SubscriberLane>),
+    ) -> State
+        ensures { world_of result ≡ record {
+          table = words;
+          links = connections.0.items;
+          publishers = parties.0.items;
+          subscribers = parties.1.items;
+          orders = connections.1.items;
+          moments = 0;
+          finished = [];
+          read = [];
+        } }
+    {
+        let (links, orders) = connections;
+        let (publishers, subscribers) = parties;
+        State {
+            table: words,
+            links,
+            publishers,
+            subscribers,
+            orders,
             moments: 0,
             finished: Vec::new(alloc),
             read: Vec::new(alloc),
-        })
+        }
     }
 
     /// The order of a connection; nothing of one that isn't there.
@@ -98,6 +124,20 @@ impl State {
             ring: ConnectionRing::Completion,
             word,
         })
+    }
+
+    // The publisher at a place, if there is one.
+    pub(crate) fn publisher(&self, place: usize) -> Option<&PublisherLane>
+        ensures { option_copied result ≡ slice_get self.now.publishers.items place }
+    {
+        self.publishers.get(place)
+    }
+
+    // The subscriber at a place, if there is one.
+    fn subscriber(&self, place: usize) -> Option<&SubscriberLane>
+        ensures { option_copied result ≡ slice_get self.now.subscribers.items place }
+    {
+        self.subscribers.get(place)
     }
 
     fn fits(&self, party: Party, step: &Move) -> bool
@@ -202,14 +242,34 @@ impl State {
         ensures acts { option_to_list result.first ++ option_to_list result.second ≡ acts_at (world_of self.now) party }
     {
         match party {
-            Party::Publisher(place) => match self.publishers.get(place) {
-                Some(lane) => self.pushed(lane.stage()),
-                None => Placing::none(),
-            },
-            Party::Subscriber(place) => match self.subscribers.get(place) {
-                Some(lane) => self.popped(lane.stage()),
-                None => Placing::none(),
-            },
+            Party::Publisher(place) => self.publisher_placing(place),
+            Party::Subscriber(place) => self.subscriber_placing(place),
+        }
+    }
+
+    // What stands at the next step of the publisher at a place.
+    fn publisher_placing(&self, place: usize) -> Placing
+        requires { IsWithin (world_of self.now) }
+        ensures connection { result.connection ≡ pushes_to (publisher_stage (slice_get self.now.publishers.items place)) }
+        ensures acts { option_to_list result.first ++ option_to_list result.second
+            ≡ push_acts self.now.table (publisher_stage (slice_get self.now.publishers.items place)) }
+    {
+        match self.publisher(place) {
+            Some(lane) => self.pushed(lane.stage()),
+            None => Placing::none(),
+        }
+    }
+
+    // What stands at the next step of the subscriber at a place.
+    fn subscriber_placing(&self, place: usize) -> Placing
+        requires { IsWithin (world_of self.now) }
+        ensures connection { result.connection ≡ pops_from (subscriber_stage (slice_get self.now.subscribers.items place)) }
+        ensures acts { option_to_list result.first ++ option_to_list result.second
+            ≡ pop_acts (world_of self.now) (subscriber_stage (slice_get self.now.subscribers.items place)) }
+    {
+        match self.subscriber(place) {
+            Some(lane) => self.popped(lane.stage()),
+            None => Placing::none(),
         }
     }
 

@@ -7,5 +7,6 @@ pub mod PublisherKeeping
 pub mod Publishers
 pub mod SendAnswers
 pub mod Values
+pub mod FewWords
 pub use Rattle.iox_lanes_base.specs as LanesBase
 pub use Rattle.iox_lanes_base.specs.QueuesSteps as QueuesSteps

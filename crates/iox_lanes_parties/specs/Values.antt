@@ -1,5 +1,5 @@
 -- A program's own values as the words of calls.
-use Rattle.std.specs.Prelude.{ℕ, ◌≡◌, ◌+◌, ◌==◌, ◌&&◌, Bool, false, List, length, slice_get, take, drop, Some}
+use Rattle.std.specs.Prelude.{ℕ, ◌≡◌, ◌+◌, ◌==◌, ◌&&◌, Bool, false, List, length, take, drop}
 use Rattle.iox_lanes_parties.specs.declared.call.Call.{Call}
 use Rattle.iox_lanes_parties.specs.declared.call.Call.TheVariants as call
 
@@ -42,11 +42,3 @@ pub record AreValues {T U : Type 0} (value_of : List ℕ → T) (header_of : Lis
   pub long : length words ≡ 3 + header_count + payload_count
   pub user_header : values.0 ≡ header_of (take header_count (drop 3 words))
   pub payload : values.1 ≡ value_of (take payload_count (drop (3 + header_count) words))
-
--- So it is where messages have numbers: the number of a message stands behind the three words of its header, before its user header.
-pub record AreNumberedValues {T U : Type 0} (value_of : List ℕ → T) (header_of : List ℕ → U) (payload_count header_count : ℕ)
-    (words : List ℕ) (values : ℕ × U × T) : Type 0 where
-  pub long : length words ≡ 4 + header_count + payload_count
-  pub sequence : slice_get words 3 ≡ Some values.0
-  pub user_header : values.1 ≡ header_of (take header_count (drop 4 words))
-  pub payload : values.2 ≡ value_of (take payload_count (drop (4 + header_count) words))

@@ -6,14 +6,14 @@ use crate::publisher::LoanAnswer;
 use iox_lanes_base::calls::{Delivery, Receipt};
 
 /// A publisher or a subscriber, by its number among those of its kind.
-#[derive(Clone, Copy, Debug, PartialEq, Eq)]
+#[derive(Clone, Copy)]
 pub enum Party {
     Publisher(usize),
     Subscriber(usize),
 }
 
 /// A call that a party may begin. Loans and samples go by the numbers of their slots.
-#[derive(Debug, Drop)]
+#[derive(Drop)]
 pub enum Call {
     /// A publisher asks for a slot to be written.
     LoanUninit,
@@ -44,7 +44,7 @@ pub enum Call {
 }
 
 /// What a party is to do.
-#[derive(Debug, Drop)]
+#[derive(Drop)]
 pub enum Move {
     /// It begins a call.
     Begin(Call),
@@ -53,7 +53,7 @@ pub enum Move {
 }
 
 /// One entry of a schedule.
-#[derive(Debug, Drop)]
+#[derive(Drop)]
 pub struct Entry {
     /// Who is to do it.
     pub party: Party,
@@ -62,7 +62,7 @@ pub struct Entry {
 }
 
 /// A call that was asked for, without the words of a write.
-#[derive(Clone, Copy, Debug, PartialEq, Eq)]
+#[derive(Clone, Copy)]
 pub enum CallName {
     LoanUninit,
     Write { loan: u64 },
@@ -128,7 +128,7 @@ pub enum Answer {
 }
 
 /// A call that ended.
-#[derive(Clone, Copy, Debug, PartialEq, Eq)]
+#[derive(Clone, Copy)]
 pub struct FinishedCall {
     /// Who made it.
     pub party: Party,

@@ -6,6 +6,7 @@
 //! - [`laws`]: ports keep to their own service.
 //! - `sequences`: the numbers that sends give messages.
 //! - [`values`]: a program's own values as the words of a call.
+//! - [`with_sequence`]: a user header behind the number of its message.
 //! - [`publisher_lane`], [`subscriber_lane`]: a port with the call that it began last.
 //!
 //! First calls, of a subscriber that is connected to nobody; `Lanes` of `iox_lanes_machine` makes them with the words of a service.
@@ -26,9 +27,11 @@ mod sequences;
 pub mod subscriber;
 pub mod subscriber_lane;
 pub mod values;
+pub mod with_sequence;
 
 pub use call::{Answer, Call, CallName, Entry, FinishedCall, Move, Party, SendAnswer};
 pub use head::Head;
 pub use publisher_lane::PublisherLane;
 pub use subscriber_lane::SubscriberLane;
-pub use values::{numbered_values_in, values_in};
+pub use values::values_in;
+pub use with_sequence::{FewWords, WithSequence};

@@ -5,15 +5,10 @@
 //! let values = values_in::<u64, u8>(lane.words_read());
 //! ```
 //!
-//! Where the service numbers its messages, the number lies in front of the user header:
-//!
-//! ```
-//! let write = Call::write_numbered(alloc, loan, &value, &user_header)?;
-//! let values = numbered_values_in::<u64, u8>(lane.words_read());
-//! ```
-ghost use Rattle.std.specs.Prelude.{◌≡◌, ◌+◌, ◌∷◌, ◌++◌, ℕ, take, drop, length, true, false, IfOk, IfSome, OnOk};
+//! Where the service numbers its messages, the user header is a [`WithSequence`](crate::WithSequence).
+ghost use Rattle.std.specs.Prelude.{◌≡◌, ◌+◌, ◌++◌, ℕ, take, drop, length, true, false, IfOk, IfSome, OnOk};
 ghost use Rattle.std.specs.Prelude.{None};
-ghost use Rattle.iox_lanes_parties.specs.Values.{AreNumberedValues, AreValues, HasWidths, IsWriteOf, is_as_wide};
+ghost use Rattle.iox_lanes_parties.specs.Values.{AreValues, HasWidths, IsWriteOf, is_as_wide};
 
 use crate::call::Call;
 use iox_queues_base::Words;
@@ -33,25 +28,6 @@ impl Call {
             loan,
             payload: words_of(alloc, value)?,
             user_header: words_of(alloc, user_header)?,
-        })
-    }
-
-    /// The same where the service numbers its messages: a word for the number stands in front of the user header, which the send of the
-    /// loan fills. Fails only where an allocation fails; nothing is left of it then.
-    pub fn write_numbered<T: Words, U: Words>(
-        alloc: Global,
-        loan: u64,
-        value: &T,
-        user_header: &U,
-    ) -> Result<Call, AllocError>
-        ensures { IfOk result (λ made. IsWriteOf loan (T.parts value.now) (0 ∷ U.parts user_header.now) made) }
-    {
-        let mut behind_number = Vec::from_slice(alloc, &[0])?;
-        add_words(&mut behind_number, user_header)?;
-        Ok(Call::Write {
-            loan,
-            payload: words_of(alloc, value)?,
-            user_header: behind_number,
         })
     }
 
@@ -126,20 +102,4 @@ pub fn values_in<T: Words, U: Words>(words: &[u64]) -> Option<(U, T)>
         return None;
     }
     Some((U::of_words(user_header), T::of_words(payload)))
-}
-
-/// The number, the user header and the value whose words these are, behind the three of a header, as a read or a message has them where
-/// the service numbers its messages. None where they are not just as many.
-pub fn numbered_values_in<T: Words, U: Words>(words: &[u64]) -> Option<(u64, U, T)>
-    ensures some { IfSome result (AreNumberedValues T.of_parts U.of_parts T.WORDS U.WORDS words.now) }
-    ensures none { result ≡ None → length words.now ≡ 4 + U.WORDS + T.WORDS → ⊥ }
-{
-    let sequence = *words.get(3)?;
-    let behind = words.get(4..)?;
-    let user_header = behind.get(..U::WORDS)?;
-    let payload = behind.get(U::WORDS..)?;
-    if payload.len() != T::WORDS {
-        return None;
-    }
-    Some((sequence, U::of_words(user_header), T::of_words(payload)))
 }

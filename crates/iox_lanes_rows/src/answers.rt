@@ -1,9 +1,20 @@
 //! Answers of helpers, which a test holds.
-use std::alloc::AllocError;
+use std::alloc::{AllocError, Global};
+use std::fmt::Display;
 use std::process::Abort;
 
 /// It must be true.
 pub(crate) fn hold(rt: &impl Abort, answer: Result<bool, AllocError>) -> Result<(), AllocError> {
     assert!(rt; answer?);
     Ok(())
+}
+
+/// Whether each value displays as the text beside it.
+pub(crate) fn display<E: Display>(alloc: Global, rows: &[(E, &str)]) -> Result<bool, AllocError> {
+    for row in rows {
+        if format!(in alloc; "{}", row.0)?.as_str() != row.1 {
+            return Ok(false);
+        }
+    }
+    Ok(true)
 }

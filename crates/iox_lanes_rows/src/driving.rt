@@ -1,24 +1,37 @@
 //! A domain, and what is done to its ports.
 ghost use Rattle.std.specs.Prelude.{⊤};
 
+use crate::driven::Driven;
 use iox_describe_base::{AttributeSpecifier, Header, MessageTypeDetails, ServiceName, TypeVariant};
 use iox_describe_settings::publish_subscribe::StaticConfig;
 use iox_describe_settings::{Description, Settings};
-use iox_domain::ports::{PublisherConfig, SubscriberConfig};
 use iox_domain::{Domain, DomainId};
-use iox_domain_ports::{Member, PublisherEntry, Sent, Taken, Ties};
+use iox_domain_ports::{Sent, Taken};
 use iox_domain_values::{
     AllocationStrategy, BackpressureAction, BackpressureFn, BackpressureHandler, BackpressureInfo,
     BackpressureStrategy, ConnectionFailure, DegradationAction, DegradationCause, DegradationFn,
-    DegradationHandler, DegradationInfo, Handlers, LoanError, PortOwner,
-    PreallocatedSamplesOverride, ReceiveError, SendError,
+    DegradationHandler, DegradationInfo, Handlers, LoanError, ReceiveError, SendError,
 };
 use iox_lanes::IntoLanesError;
-use iox_lanes_opening::refusals::refusal;
 use std::alloc::{AllocError, Global};
 
 /// A domain of numbers, with user headers of a byte.
 pub(crate) type Numbers = Domain<u64, u8>;
+
+/// How many samples of a connection a subscriber may hold, and how many ports there may be.
+#[derive(Clone, Copy)]
+pub(crate) struct Limits {
+    pub(crate) borrowed: u64,
+    pub(crate) publishers: u64,
+    pub(crate) subscribers: u64,
+}
+
+/// Two samples and publishers, and three subscribers.
+pub(crate) const USUAL: Limits = Limits {
+    borrowed: 2,
+    publishers: 2,
+    subscribers: 3,
+};
 
 /// What is agreed.
 pub(crate) struct Service {
@@ -27,6 +40,7 @@ pub(crate) struct Service {
     pub(crate) buffer: u64,
     pub(crate) history: u64,
     pub(crate) numbered: bool,
+    pub(crate) limits: Limits,
 }
 
 /// Who answers at a full mailbox.
@@ -79,6 +93,8 @@ pub(crate) enum Step {
     Subscribe(u64, Option<usize>),
     /// A subscriber comes, for which an object decides; its number.
     Watch(u64),
+    /// So many subscribers come and get the first numbers, and as many publishers get the next ones; the subscribers follow.
+    Crowd(u64),
     /// A publisher sends a value; what comes of it.
     Put(u64, u64, Sent),
     /// A publisher sends a value that it is unable to deliver.
@@ -132,11 +148,6 @@ const NONE_KEPT: Kept = Kept {
     sample: None,
 };
 
-const OWNER: PortOwner = PortOwner {
-    number: 3,
-    node_id: 8,
-};
-
 // An object that decides as little as it can.
 #[derive(Drop)]
 struct Quiet;
@@ -166,9 +177,9 @@ fn described(service: &Service) -> Option<Description> {
     config.subscriber_max_buffer_size = service.buffer;
     config.history_size = service.history;
     config.sequence_numbers = service.numbered;
-    config.subscriber_max_borrowed_samples = 2;
-    config.max_publishers = 2;
-    config.max_subscribers = 3;
+    config.subscriber_max_borrowed_samples = service.limits.borrowed;
+    config.max_publishers = service.limits.publishers;
+    config.max_subscribers = service.limits.subscribers;
     let settings = Settings::PublishSubscribe(config);
     Some(Description::new(name, settings, AttributeSpecifier::new()))
 }
@@ -202,7 +213,8 @@ fn backpressure(alloc: Global, asked: Asked) -> Result<Option<BackpressureHandle
     })
 }
 
-fn handlers(alloc: Global, plan: &Plan) -> Result<Handlers, AllocError> {
+/// Who decides for a publisher.
+pub(crate) fn handlers(alloc: Global, plan: &Plan) -> Result<Handlers, AllocError> {
     Ok(Handlers {
         strategy: plan.strategy,
         backpressure: backpressure(alloc, plan.asked)?,
@@ -210,35 +222,15 @@ fn handlers(alloc: Global, plan: &Plan) -> Result<Handlers, AllocError> {
     })
 }
 
-fn overriding(slots: Option<usize>) -> PreallocatedSamplesOverride {
-    match slots {
-        Some(slots) => PreallocatedSamplesOverride::new_with(slots),
-        None => PreallocatedSamplesOverride::WorstCase,
+/// Who decides for a subscriber: an object, if it is watched.
+pub(crate) fn degradation(
+    alloc: Global,
+    is_watched: bool,
+) -> Result<DegradationHandler, AllocError> {
+    if is_watched {
+        return Ok(DegradationHandler::boxed(Box::new(alloc, Quiet)?));
     }
-}
-
-// Whether each place that lists somebody is tied to a connection: a port that comes where memory for one was refused has none there.
-fn ties_all<V>(ties: &Ties, listed: &[Option<Member<V>>]) -> bool {
-    for place in 0..listed.len() {
-        if listed[place].is_some() && ties.get(place).is_none() {
-            return false;
-        }
-    }
-    true
-}
-
-fn publisher_ties_all(domain: &Numbers, number: u64) -> bool {
-    match domain.state.ports.publishers.get(number) {
-        Some(port) => ties_all(&port.ties, domain.state.ports.subscriber_list.listed()),
-        None => false,
-    }
-}
-
-fn subscriber_ties_all(domain: &Numbers, number: u64) -> bool {
-    match domain.state.ports.subscribers.get(number) {
-        Some(port) => ties_all(&port.places, domain.state.ports.publisher_list.listed()),
-        None => false,
-    }
+    Ok(DegradationHandler::Fixed(DegradationAction::DegradeAndFail))
 }
 
 // Whether a port that came has this number; it came without memory for all its connections, where it doesn't tie all.
@@ -250,94 +242,71 @@ fn comes_as(made: u64, number: u64, ties_all: bool) -> Result<bool, AllocError> 
     }
 }
 
-// Whether a publisher is made, with user header 6, that gets this number.
-fn publishes(
-    domain: &mut Numbers,
-    alloc: Global,
-    plan: &Plan,
-    by: Handlers,
-    number: u64,
-) -> Result<bool, AllocError> {
-    let config = PublisherConfig {
-        owner: OWNER,
-        max_loaned_samples: plan.loans,
-        values: plan.values,
-        unit: 1,
-        allocation: plan.allocation,
-        first_sequence: plan.first_sequence,
-    };
-    match domain
-        .state
-        .create_publisher(alloc, config, 6, &overriding(plan.slots), by)
-    {
-        Ok(made) => comes_as(made, number, publisher_ties_all(domain, made)),
-        Err(_) => Err(AllocError),
-    }
-}
-
-fn publish(
-    domain: &mut Numbers,
+// Whether a publisher is made that gets this number.
+fn publish<D: Driven>(
+    domain: &mut D,
     alloc: Global,
     plan: &Plan,
     number: u64,
 ) -> Result<bool, AllocError> {
-    match handlers(alloc, plan) {
-        Ok(by) => publishes(domain, alloc, plan, by, number),
-        Err(error) => Err(error),
+    match domain.publishes(alloc, plan)? {
+        Some(made) => comes_as(made, number, domain.publisher_ties_all(made)),
+        None => Err(AllocError),
     }
 }
 
 // Whether a subscriber is made that gets this number.
-fn subscribes(
-    domain: &mut Numbers,
+fn subscribe<D: Driven>(
+    domain: &mut D,
     alloc: Global,
     buffer_size: Option<usize>,
-    by: DegradationHandler,
+    is_watched: bool,
     number: u64,
 ) -> Result<bool, AllocError> {
-    let config = SubscriberConfig {
-        owner: OWNER,
-        buffer_size,
-    };
-    match domain.state.create_subscriber(alloc, config, by) {
-        Ok(made) => comes_as(made, number, subscriber_ties_all(domain, made)),
-        Err(_) => Err(AllocError),
+    match domain.subscribes(alloc, buffer_size, is_watched)? {
+        Some(made) => comes_as(made, number, domain.subscriber_ties_all(made)),
+        None => Err(AllocError),
     }
 }
 
-fn subscribe(
-    domain: &mut Numbers,
+// A publisher of one loan.
+const SMALL: Plan = Plan { loans: 1, ..PLAIN };
+
+// Whether one thing of those that make a crowd goes so.
+fn joins<D: Driven>(
+    domain: &mut D,
     alloc: Global,
-    number: u64,
-    buffer: Option<usize>,
+    count: u64,
+    place: u64,
 ) -> Result<bool, AllocError> {
-    let by = DegradationHandler::Fixed(DegradationAction::DegradeAndFail);
-    subscribes(domain, alloc, buffer, by, number)
+    let number = place.saturating_add(1);
+    if number <= count {
+        return subscribe(domain, alloc, None, false, number);
+    }
+    if number <= count.saturating_mul(2) {
+        return publish(domain, alloc, &SMALL, number);
+    }
+    follows(domain.follows(alloc, number.saturating_sub(count.saturating_mul(2))))
 }
 
-fn watch(domain: &mut Numbers, alloc: Global, number: u64) -> Result<bool, AllocError> {
-    match Box::new(alloc, Quiet) {
-        Ok(object) => {
-            subscribes(
-                domain,
-                alloc,
-                None,
-                DegradationHandler::boxed(object),
-                number,
-            )
+// Whether all do.
+fn all_join<D: Driven>(domain: &mut D, alloc: Global, count: u64) -> Result<bool, AllocError> {
+    for place in 0..count.saturating_mul(3) {
+        if !joins(domain, alloc, count, place)? {
+            return Ok(false);
         }
-        Err(_) => Err(AllocError),
     }
+    Ok(true)
 }
 
 // The slot that a publisher lends for so many values, if it does.
-fn lent(
-    domain: &mut Numbers,
+fn lent<D: Driven>(
+    domain: &mut D,
     alloc: Global,
     number: u64,
     values: usize,
 ) -> Result<Option<usize>, AllocError> {
-    match domain.state.loan(alloc, number, values, values as u64) {
+    match domain.lends(alloc, number, values) {
         Some(Ok(slot)) => Ok(Some(slot)),
         Some(Err(LoanError::OutOfMemory)) => Err(AllocError),
         _ => Ok(None),
@@ -345,93 +314,77 @@ fn lent(
 }
 
 // Lends, writes and keeps; whether that went well.
-fn lend(
-    domain: &mut Numbers,
+fn lend<D: Driven>(
+    domain: &mut D,
     kept: &mut Kept,
     alloc: Global,
     number: u64,
     values: usize,
 ) -> Result<bool, AllocError> {
-    match lent(domain, alloc, number, values) {
-        Ok(Some(slot)) => {
+    match lent(domain, alloc, number, values)? {
+        Some(slot) => {
             kept.loan = slot;
-            Ok(values == 0 || domain.state.ports.write_payload(number, slot, 5))
+            Ok(values == 0 || domain.writes(number, slot, 5))
         }
-        Ok(None) => Ok(false),
-        Err(error) => Err(error),
+        None => Ok(false),
+    }
+}
+
+// What comes of a send, none of which is known where it fails for another reason.
+#[derive(Clone, Copy, PartialEq, Eq)]
+enum SendOutcome {
+    Sent(Sent),
+    Fails,
+    Not,
+}
+
+fn outcome_of(answer: Option<Result<Sent, SendError>>) -> Result<SendOutcome, AllocError> {
+    match answer {
+        Some(Ok(sent)) => Ok(SendOutcome::Sent(sent)),
+        Some(Err(SendError::UnableToDeliver)) => Ok(SendOutcome::Fails),
+        Some(Err(SendError::ConnectionError(_))) => Err(AllocError),
+        _ => Ok(SendOutcome::Not),
     }
 }
 
 // Whether this comes of a send.
-fn sends(
-    domain: &mut Numbers,
+fn sends<D: Driven>(
+    domain: &mut D,
     alloc: Global,
     number: u64,
     slot: usize,
-    sent: Sent,
+    wanted: SendOutcome,
 ) -> Result<bool, AllocError> {
-    match domain.state.send(alloc, number, slot) {
-        Some(Ok(answer)) => Ok(answer == sent),
-        Some(Err(SendError::ConnectionError(_))) => Err(AllocError),
-        _ => Ok(false),
-    }
-}
-
-// A slot with this value, which is lent and written.
-fn written(
-    domain: &mut Numbers,
-    alloc: Global,
-    number: u64,
-    value: u64,
-) -> Result<Option<usize>, AllocError> {
-    let loan = lent(domain, alloc, number, 1)?;
-    if let Some(slot) = loan {
-        domain.state.ports.write_payload(number, slot, value);
-    }
-    Ok(loan)
+    Ok(outcome_of(domain.sends(alloc, number, slot))? == wanted)
 }
 
 // Whether this comes of a value that is lent, written and sent.
-fn puts(
-    domain: &mut Numbers,
+fn puts<D: Driven>(
+    domain: &mut D,
     alloc: Global,
     number: u64,
     value: u64,
-    sent: Sent,
+    wanted: SendOutcome,
 ) -> Result<bool, AllocError> {
-    match written(domain, alloc, number, value)? {
-        Some(slot) => sends(domain, alloc, number, slot, sent),
+    match lent(domain, alloc, number, 1)? {
+        Some(slot) => {
+            domain.writes(number, slot, value);
+            sends(domain, alloc, number, slot, wanted)
+        }
         None => Ok(false),
-    }
-}
-
-// Whether a publisher is unable to deliver a value that is lent, written and sent.
-fn fails(domain: &mut Numbers, alloc: Global, number: u64, value: u64) -> Result<bool, AllocError> {
-    match written(domain, alloc, number, value)? {
-        Some(slot) => is_failure(domain.state.send(alloc, number, slot)),
-        None => Ok(false),
-    }
-}
-
-// Whether a send was unable to deliver.
-fn is_failure(answer: Option<Result<Sent, SendError>>) -> Result<bool, AllocError> {
-    match answer {
-        Some(Err(SendError::UnableToDeliver)) => Ok(true),
-        Some(Err(SendError::ConnectionError(_))) => Err(AllocError),
-        _ => Ok(false),
     }
 }
 
 // Whether this comes of each of so many values that are sent.
-fn puts_all(
-    domain: &mut Numbers,
+fn puts_all<D: Driven>(
+    domain: &mut D,
     alloc: Global,
     number: u64,
     count: u64,
-    sent: Sent,
+    wanted: SendOutcome,
 ) -> Result<bool, AllocError> {
     for value in 0..count {
-        if !puts(domain, alloc, number, value, sent)? {
+        if !puts(domain, alloc, number, value, wanted)? {
             return Ok(false);
         }
     }
@@ -439,12 +392,12 @@ fn puts_all(
 }
 
 // What a subscriber receives.
-fn receive(
-    domain: &mut Numbers,
+fn receive<D: Driven>(
+    domain: &mut D,
     alloc: Global,
     number: u64,
 ) -> Result<Option<Option<Taken>>, AllocError> {
-    match domain.state.receive(alloc, number) {
+    match domain.receives(alloc, number) {
         Some(Ok(taken)) => Ok(Some(taken)),
         Some(Err(ReceiveError::ConnectionFailure(_))) => Err(AllocError),
         _ => Ok(None),
@@ -452,37 +405,33 @@ fn receive(
 }
 
 // Receives and keeps; whether just this value came.
-fn holds(
-    domain: &mut Numbers,
+fn holds<D: Driven>(
+    domain: &mut D,
     kept: &mut Kept,
     alloc: Global,
     number: u64,
     value: u64,
 ) -> Result<bool, AllocError> {
-    match receive(domain, alloc, number) {
-        Ok(Some(Some(sample))) => {
+    match receive(domain, alloc, number)? {
+        Some(Some(sample)) => {
             kept.sample = Some(sample);
-            Ok(domain.state.ports.payload(sample) == Some(&[value]))
+            Ok(domain.has(sample, value))
         }
-        Ok(_) => Ok(false),
-        Err(error) => Err(error),
+        _ => Ok(false),
     }
 }
 
 // Whether the message of the sample that is kept has this number.
-fn is_numbered(domain: &Numbers, kept: &Kept, sequence: u64) -> bool {
+fn is_numbered<D: Driven>(domain: &D, kept: &Kept, sequence: u64) -> bool {
     match kept.sample {
-        Some(sample) => match domain.state.ports.header(sample) {
-            Some(header) => header.sequence() == Some(sequence),
-            None => false,
-        },
+        Some(sample) => domain.sequence(sample) == Some(sequence),
         None => false,
     }
 }
 
-fn release(domain: &mut Numbers, kept: &Kept, number: u64) -> bool {
+fn release<D: Driven>(domain: &mut D, kept: &Kept, number: u64) -> bool {
     match kept.sample {
-        Some(sample) => domain.state.ports.release(number, sample),
+        Some(sample) => domain.releases(number, sample),
         None => false,
     }
 }
@@ -496,40 +445,52 @@ fn follows(answer: Option<Result<(), ConnectionFailure>>) -> Result<bool, AllocE
     }
 }
 
-// Whether a publisher is listed at one place more.
-fn relist(domain: &mut Numbers, number: u64) -> bool {
-    let entry = PublisherEntry { publisher: number };
-    domain.state.ports.publisher_list.enter(entry).is_some()
-}
-
 // Whether a step goes so of those that take no memory.
-fn stands(domain: &mut Numbers, kept: &mut Kept, step: &Step) -> bool {
+fn stands<D: Driven>(domain: &mut D, kept: &Kept, step: &Step) -> bool {
     match *step {
-        Step::Drop(number) => domain.state.ports.drop_loan(number, kept.loan),
+        Step::Drop(number) => domain.drops(number, kept.loan),
         Step::Release(number) => release(domain, kept, number),
         Step::Spare(number) => kept.sample.is_some() && !release(domain, kept, number),
-        Step::Leave(number) => domain.state.leave_publisher(number),
-        Step::Depart(number) => domain.state.leave_subscriber(number),
-        Step::Relist(number) => relist(domain, number),
-        Step::Refused(reason) => refusal(domain) == Some(reason),
-        Step::May => refusal(domain).is_none(),
+        Step::Leave(number) => domain.leaves(number),
+        Step::Depart(number) => domain.departs(number),
+        Step::Relist(number) => domain.relists(number),
+        Step::Refused(reason) => domain.refuses() == Some(reason),
+        Step::May => domain.refuses().is_none(),
         _ => false,
     }
 }
 
 // Whether a step goes so of those that make no port.
-fn hands_on(
-    domain: &mut Numbers,
+fn hands_on<D: Driven>(
+    domain: &mut D,
     kept: &mut Kept,
     alloc: Global,
     step: &Step,
 ) -> Result<bool, AllocError> {
     match *step {
         Step::Lend(number, values) => lend(domain, kept, alloc, number, values),
-        Step::Put(number, value, sent) => puts(domain, alloc, number, value, sent),
-        Step::Fails(number, value) => fails(domain, alloc, number, value),
-        Step::Puts(number, count, sent) => puts_all(domain, alloc, number, count, sent),
-        Step::Send(number, sent) => sends(domain, alloc, number, kept.loan, sent),
+        Step::Put(number, value, sent) => puts(
+            domain,
+            alloc,
+            number,
+            value,
+            SendOutcome::Sent(sent),
+        ),
+        Step::Fails(number, value) => puts(domain, alloc, number, value, SendOutcome::Fails),
+        Step::Puts(number, count, sent) => puts_all(
+            domain,
+            alloc,
+            number,
+            count,
+            SendOutcome::Sent(sent),
+        ),
+        Step::Send(number, sent) => sends(
+            domain,
+            alloc,
+            number,
+            kept.loan,
+            SendOutcome::Sent(sent),
+        ),
         Step::Hold(number, value) => holds(domain, kept, alloc, number, value),
         Step::Take(number, value) => {
             Ok(holds(domain, kept, alloc, number, value)? && release(domain, kept, number))
@@ -541,16 +502,16 @@ fn hands_on(
                     && release(domain, kept, number),
             )
         }
-        Step::Nothing(number) => Ok(receive(domain, alloc, number)? == Some(None)),
-        Step::Update(number) => follows(domain.state.update_publisher(alloc, number)),
-        Step::Follow(number) => follows(domain.state.update_subscriber(alloc, number)),
+        Step::Nothing(number) => Ok(matches!(receive(domain, alloc, number)?, Some(None))),
+        Step::Update(number) => follows(domain.updates(alloc, number)),
+        Step::Follow(number) => follows(domain.follows(alloc, number)),
         _ => Ok(stands(domain, kept, step)),
     }
 }
 
 // Whether a step goes so.
-fn goes(
-    domain: &mut Numbers,
+fn goes<D: Driven>(
+    domain: &mut D,
     kept: &mut Kept,
     alloc: Global,
     step: &Step,
@@ -565,16 +526,17 @@ fn goes(
             publish(domain, alloc, &plan, number)
         }
         Step::Come(number, plan) => publish(domain, alloc, &plan, number),
-        Step::Subscribe(number, buffer) => subscribe(domain, alloc, number, buffer),
-        Step::Watch(number) => watch(domain, alloc, number),
+        Step::Subscribe(number, buffer) => { subscribe(domain, alloc, buffer, false, number) }
+        Step::Watch(number) => subscribe(domain, alloc, None, true, number),
+        Step::Crowd(count) => all_join(domain, alloc, count),
         _ => hands_on(domain, kept, alloc, step),
     }
 }
 
 /// The first step that goes otherwise, if one does.
-pub(crate) fn go_on(
+pub(crate) fn go_on<D: Driven>(
     alloc: Global,
-    domain: &mut Numbers,
+    domain: &mut D,
     steps: &[Step],
 ) -> Result<Option<usize>, AllocError> {
     let mut kept = NONE_KEPT;

@@ -9,6 +9,7 @@ use crate::answers::hold;
 use crate::known::{
     Known, NOTHING, are_mailboxes, begun, is_answered, kept, last_at, receiving, sending, sizes,
 };
+use crate::stepping::Stepping;
 use iox_lanes_base::calls::Receipt;
 use iox_lanes_machine::{LaneSizes, Lanes};
 use iox_lanes_parties::publisher::LoanAnswer;
@@ -65,10 +66,10 @@ fn next_call(alloc: Global, round: &Round, party: Party, value: u64) -> Result<C
 }
 
 // Whether the party's next call begins.
-fn begins(
+fn begins<L: Stepping>(
     alloc: Global,
     round: &mut Round,
-    lanes: &mut Lanes,
+    lanes: &mut L,
     party: Party,
 ) -> Result<bool, AllocError> {
     let step = Move::Begin(next_call(alloc, round, party, lanes.moments())?);
@@ -80,8 +81,8 @@ fn begins(
 }
 
 // Whether the call that ended answered what it should; its party's turn goes on.
-fn ends(round: &mut Round, lanes: &Lanes, party: Party) -> bool {
-    let Some(call) = lanes.finished().last() else {
+fn ends<L: Stepping>(round: &mut Round, lanes: &L, party: Party) -> bool {
+    let Some(call) = lanes.ended() else {
         return false;
     };
     if let Some(turn) = round.turns.get_mut(turn_at(party)) {
@@ -91,10 +92,10 @@ fn ends(round: &mut Round, lanes: &Lanes, party: Party) -> bool {
 }
 
 // One entry of a party; whether what it gave is right.
-fn goes(
+fn goes<L: Stepping>(
     alloc: Global,
     round: &mut Round,
-    lanes: &mut Lanes,
+    lanes: &mut L,
     party: Party,
 ) -> Result<bool, AllocError> {
     match lanes.step(party, &Move::GoOn) {
@@ -106,10 +107,10 @@ fn goes(
 }
 
 // Whether so many entries of the publisher alone go right.
-fn goes_alone(
+fn goes_alone<L: Stepping>(
     alloc: Global,
     round: &mut Round,
-    lanes: &mut Lanes,
+    lanes: &mut L,
     entries: u64,
 ) -> Result<bool, AllocError> {
     for _ in 0..entries {
@@ -140,10 +141,10 @@ struct World {
 }
 
 // Whether the schedule of a number goes right: its digits are the parties.
-fn goes_by(
+fn goes_by<L: Stepping>(
     alloc: Global,
     round: &mut Round,
-    lanes: &mut Lanes,
+    lanes: &mut L,
     world: World,
     number: u64,
 ) -> Result<bool, AllocError> {
@@ -158,18 +159,30 @@ fn goes_by(
     Ok(true)
 }
 
-// Whether one schedule goes right in new lanes.
-fn is_right(alloc: Global, world: World, number: u64) -> Result<bool, AllocError> {
-    let mut lanes = Lanes::new(alloc, small(world.kind, world.parties.saturating_sub(1)))?;
+// Whether one schedule goes right in lanes on which nothing was done.
+fn goes_in<L: Stepping>(
+    alloc: Global,
+    lanes: &mut L,
+    world: World,
+    number: u64,
+) -> Result<bool, AllocError> {
     let mut round = Round {
         known: NOTHING,
         turns: [0; 3],
     };
     Ok(
-        goes_alone(alloc, &mut round, &mut lanes, world.alone)?
-            && goes_by(alloc, &mut round, &mut lanes, world, number)?
-            && are_mailboxes(alloc, &lanes)?,
+        goes_alone(alloc, &mut round, lanes, world.alone)?
+            && goes_by(alloc, &mut round, lanes, world, number)?
+            && are_mailboxes(alloc, lanes)?,
     )
+}
+
+// Whether it does in new lanes.
+fn is_right(alloc: Global, world: World, number: u64) -> Result<bool, AllocError> {
+    match Lanes::new(alloc, small(world.kind, world.parties.saturating_sub(1))) {
+        Ok(mut lanes) => goes_in(alloc, &mut lanes, world, number),
+        Err(error) => Err(error),
+    }
 }
 
 // Whether each does.

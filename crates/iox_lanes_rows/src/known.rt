@@ -1,8 +1,9 @@
 //! What is known of the ports of lanes beside them: what was written, sent and received, and a plain mailbox for each connection.
 ghost use Rattle.std.specs.Prelude.{◌≡◌};
 
+use crate::stepping::Stepping;
 use iox_lanes_base::calls::Receipt;
-use iox_lanes_machine::{LaneSizes, Lanes, Link};
+use iox_lanes_machine::{LaneSizes, Link};
 use iox_lanes_parties::publisher::LoanAnswer;
 use iox_lanes_parties::{Answer, Call, CallName, FinishedCall, Move, Party};
 use iox_queues_steps::rings::RingKind;
@@ -157,9 +158,9 @@ fn ended(known: &mut Known, call: &FinishedCall, word: Option<&u64>) -> bool {
 }
 
 /// Whether the call that ended last answered what it should.
-pub(crate) fn is_answered(known: &mut Known, lanes: &Lanes) -> bool {
-    match lanes.finished().last() {
-        Some(call) => ended(known, call, lanes.words_read().last()),
+pub(crate) fn is_answered<L: Stepping>(known: &mut Known, lanes: &L) -> bool {
+    match lanes.ended() {
+        Some(call) => ended(known, &call, lanes.words_read().last()),
         None => false,
     }
 }
@@ -173,10 +174,17 @@ fn oldest(waits: &mut Vec<u64>) -> Option<u64> {
     }
 }
 
+// How many messages may wait in a plain mailbox, and whether it refuses one more.
+#[derive(Clone, Copy)]
+struct Room {
+    limit: u64,
+    refuses: bool,
+}
+
 // What a plain mailbox answers to one more.
-fn put(waits: &mut Vec<u64>, link: &Link, slot: u64) -> Result<PushAnswer, AllocError> {
-    let is_full = waits.len() as u64 >= link.limit();
-    if is_full && link.kind() == RingKind::Refusing {
+fn put(waits: &mut Vec<u64>, room: Room, slot: u64) -> Result<PushAnswer, AllocError> {
+    let is_full = waits.len() as u64 >= room.limit;
+    if is_full && room.refuses {
         return Ok(PushAnswer::Refused);
     }
     waits.push(slot)?;
@@ -188,10 +196,10 @@ fn put(waits: &mut Vec<u64>, link: &Link, slot: u64) -> Result<PushAnswer, Alloc
 }
 
 // Whether a plain mailbox answers so, and has no slot twice.
-fn answers(waits: &mut Vec<u64>, link: &Link, act: Act) -> Result<bool, AllocError> {
+fn answers(waits: &mut Vec<u64>, room: Room, act: Act) -> Result<bool, AllocError> {
     match act {
         Act::Put { value, answer } => {
-            Ok(!waits.contains(&value) && put(waits, link, value)? == answer)
+            Ok(!waits.contains(&value) && put(waits, room, value)? == answer)
         }
         Act::Take {
             answer: PopAnswer::Got(got),
@@ -203,20 +211,27 @@ fn answers(waits: &mut Vec<u64>, link: &Link, act: Act) -> Result<bool, AllocErr
 }
 
 // Whether a connection's order is that of a plain mailbox.
-fn is_mailbox(alloc: Global, link: &Link, order: &[Placed]) -> Result<bool, AllocError> {
+fn is_mailbox(alloc: Global, room: Room, order: &[Placed]) -> Result<bool, AllocError> {
     let mut waits = Vec::new(alloc);
     for placed in order {
-        if !answers(&mut waits, link, placed.act)? {
+        if !answers(&mut waits, room, placed.act)? {
             return Ok(false);
         }
     }
     Ok(true)
 }
 
+fn room_of(link: &Link) -> Room {
+    Room {
+        limit: link.limit(),
+        refuses: link.kind() == RingKind::Refusing,
+    }
+}
+
 /// Whether all are.
-pub(crate) fn are_mailboxes(alloc: Global, lanes: &Lanes) -> Result<bool, AllocError> {
+pub(crate) fn are_mailboxes<L: Stepping>(alloc: Global, lanes: &L) -> Result<bool, AllocError> {
     for (connection, link) in lanes.links().iter().enumerate() {
-        if !is_mailbox(alloc, link, lanes.order(connection as u64))? {
+        if !is_mailbox(alloc, room_of(link), lanes.order(connection as u64))? {
             return Ok(false);
         }
     }

@@ -1,5 +1,7 @@
 //! What the lanes of a domain do.
-use iox_lanes::{RecordedLanes, numbered_values_in};
+use crate::recorded::Recorded;
+use crate::stepping::{Stepping, step, whole};
+use iox_lanes::{WithSequence, Words};
 use iox_lanes_base::calls::{Delivery, Receipt};
 use iox_lanes_parties::publisher::LoanAnswer;
 use iox_lanes_parties::{Answer, Call, Move, Party, SendAnswer};
@@ -38,89 +40,98 @@ pub(crate) enum Lane {
     Begins(Party),
 }
 
-// Makes a step, and once more where it found no memory, by which nothing has changed.
-fn step(lanes: &mut RecordedLanes, party: Party, entry: &Move) -> Stepped {
-    match lanes.step(party, entry) {
-        Stepped::NoMemory => lanes.step(party, entry),
-        stepped => stepped,
-    }
-}
+/// The user header that all messages have.
+pub(crate) const USER_HEADER: u8 = 6;
 
-// Makes a whole call, and gives its answer.
-fn whole(lanes: &mut RecordedLanes, party: Party, call: Call) -> Option<Answer> {
-    if step(lanes, party, &Move::Begin(call)) != Stepped::Went {
-        return None;
-    }
-    for _ in 0..1000 {
-        if step(lanes, party, &Move::GoOn) == Stepped::Finished {
-            return lanes.lanes().finished().last().map(|call| call.answer);
-        }
-    }
-    None
-}
+/// The same where messages have numbers: a send sets the number.
+pub(crate) const NUMBERED_HEADER: WithSequence<u8> = WithSequence {
+    sequence: 0,
+    user_header: USER_HEADER,
+};
 
 // Whether a subscriber receives, reads and releases a message of these words.
-fn gets(lanes: &mut RecordedLanes, place: usize, words: &[u64]) -> bool {
+fn gets<L: Stepping>(lanes: &mut L, place: usize, words: &[u64]) -> bool {
     let party = Party::Subscriber(place);
     let Some(Answer::Received(Receipt::Taken { slot, .. })) = whole(lanes, party, Call::Receive)
     else {
         return false;
     };
-    let before = lanes.lanes().words_read().len();
+    let before = lanes.words_read().len();
     let is_read = whole(lanes, party, Call::Read { sample: slot }).is_some();
-    let is_right = lanes.lanes().words_read().get(before..) == Some(words);
+    let is_right = lanes.words_read().get(before..) == Some(words);
     let is_back = whole(lanes, party, Call::Release { sample: slot });
     is_read && is_right && is_back == Some(Answer::Released(true))
 }
 
-fn gets_nothing(lanes: &mut RecordedLanes, place: usize) -> bool {
+fn gets_nothing<L: Stepping>(lanes: &mut L, place: usize) -> bool {
     whole(lanes, Party::Subscriber(place), Call::Receive)
         == Some(Answer::Received(Receipt::Nothing))
 }
 
-fn lend(lanes: &mut RecordedLanes, place: usize) -> Option<LoanAnswer> {
-    match whole(lanes, Party::Publisher(place), Call::LoanUninit) {
-        Some(Answer::Lent(answer)) => Some(answer),
+fn lend<L: Stepping>(lanes: &mut L, place: usize) -> Option<LoanAnswer> {
+    match whole(lanes, Party::Publisher(place), Call::LoanUninit)? {
+        Answer::Lent(answer) => Some(answer),
         _ => None,
     }
 }
 
-// The call that writes a value and these words between header and payload into a loan.
-fn write(alloc: Global, loan: u64, middle: &[u64], value: u64) -> Result<Call, AllocError> {
+/// The call that writes these words of payload, and these between it and the header, into a loan.
+pub(crate) fn write(
+    alloc: Global,
+    loan: u64,
+    middle: &[u64],
+    payload: &[u64],
+) -> Result<Call, AllocError> {
     let user_header = Vec::from_slice(alloc, middle)?;
     Ok(Call::Write {
         loan,
-        payload: Vec::from_slice(alloc, &[value])?,
+        payload: Vec::from_slice(alloc, payload)?,
         user_header,
     })
 }
 
 // Writes into a loan and sends it; what the send answers.
-fn send_loan(lanes: &mut RecordedLanes, place: usize, loan: u64, write: Call) -> Option<Answer> {
+fn send_loan<L: Stepping>(lanes: &mut L, place: usize, loan: u64, write: Call) -> Option<Answer> {
     let party = Party::Publisher(place);
-    whole(lanes, party, write)?;
+    if whole(lanes, party, write)? != Answer::Written {
+        return None;
+    }
     whole(lanes, party, Call::Send { loan })
 }
 
-// Lends, writes and sends; what the send answers.
-fn send(
+/// Lends, writes and sends; what the send answers.
+pub(crate) fn send<L: Stepping>(
     alloc: Global,
-    lanes: &mut RecordedLanes,
+    lanes: &mut L,
     place: usize,
     middle: &[u64],
-    value: u64,
+    payload: &[u64],
 ) -> Result<Option<Answer>, AllocError> {
     let Some(LoanAnswer::Slot(loan)) = lend(lanes, place) else {
         return Ok(None);
     };
-    match write(alloc, loan, middle, value) {
-        Ok(write) => Ok(send_loan(lanes, place, loan, write)),
-        Err(error) => Err(error),
-    }
+    let write = write(alloc, loan, middle, payload)?;
+    Ok(send_loan(lanes, place, loan, write))
+}
+
+// Whether a value is sent so beside a user header.
+fn sends<L: Stepping, U: Words>(
+    alloc: Global,
+    lanes: &mut L,
+    place: usize,
+    user_header: &U,
+    value: u64,
+    told: SendAnswer,
+) -> Result<bool, AllocError> {
+    let Some(LoanAnswer::Slot(loan)) = lend(lanes, place) else {
+        return Ok(false);
+    };
+    let write = Call::write(alloc, loan, &value, user_header)?;
+    Ok(send_loan(lanes, place, loan, write) == Some(Answer::Sent(told)))
 }
 
 // Whether so many slots are lent, and then this is answered.
-fn lends(lanes: &mut RecordedLanes, place: usize, count: u64, last: LoanAnswer) -> bool {
+fn lends<L: Stepping>(lanes: &mut L, place: usize, count: u64, last: LoanAnswer) -> bool {
     for _ in 0..count {
         match lend(lanes, place) {
             Some(LoanAnswer::Slot(_)) => {}
@@ -130,45 +141,7 @@ fn lends(lanes: &mut RecordedLanes, place: usize, count: u64, last: LoanAnswer) 
     lend(lanes, place) == Some(last)
 }
 
-fn keeps(lanes: &RecordedLanes, place: usize, count: usize) -> bool {
-    match lanes.lanes().publishers().get(place) {
-        Some(lane) => lane.history().len() == count,
-        None => false,
-    }
-}
-
-fn waited(lanes: &RecordedLanes, connection: usize, count: usize, limit: u64) -> bool {
-    match lanes.lanes().links().get(connection) {
-        Some(link) => link.found().len() == count && link.limit() == limit,
-        None => false,
-    }
-}
-
-// Whether the message of a number is of such a publisher, and has such a value and the user header that all have.
-fn is_message(lanes: &RecordedLanes, number: usize, publisher: u64, value: u64) -> bool {
-    let Some(message) = lanes.message(number) else {
-        return false;
-    };
-    let is_whole = message.words() == [8, publisher, 1, 6, value].as_slice();
-    is_whole && message.values::<u64, u8>() == Some((6, value))
-}
-
-// The same, of a message that has this number: that is the fourth word of its header.
-fn is_message_numbered(
-    lanes: &RecordedLanes,
-    number: usize,
-    publisher: u64,
-    sequence: u64,
-    value: u64,
-) -> bool {
-    let Some(message) = lanes.message(number) else {
-        return false;
-    };
-    let is_whole = message.words() == [8, publisher, 1, sequence, 6, value].as_slice();
-    is_whole && numbered_values_in::<u64, u8>(message.words()) == Some((sequence, 6, value))
-}
-
-fn begins(lanes: &mut RecordedLanes, party: Party) -> bool {
+fn begins<L: Stepping>(lanes: &mut L, party: Party) -> bool {
     let call = match party {
         Party::Publisher(_) => Call::LoanUninit,
         Party::Subscriber(_) => Call::Receive,
@@ -176,43 +149,67 @@ fn begins(lanes: &mut RecordedLanes, party: Party) -> bool {
     step(lanes, party, &Move::Begin(call)) == Stepped::Went
 }
 
-// Whether a step of the lanes goes so.
-fn goes(alloc: Global, lanes: &mut RecordedLanes, step: &Lane) -> Result<bool, AllocError> {
-    Ok(match *step {
-        Lane::Gets(place, number, value) => gets(lanes, place, &[8, number, 1, 6, value]),
-        Lane::GetsNumbered(place, number, sequence, value) => {
-            gets(lanes, place, &[8, number, 1, sequence, 6, value])
+// Whether so many messages waited at a connection, of so many that may.
+fn waited<L: Stepping>(lanes: &L, connection: usize, count: usize, limit: u64) -> bool {
+    match lanes.links().get(connection) {
+        Some(link) => link.found().len() == count && link.limit() == limit,
+        None => false,
+    }
+}
+
+// Whether lanes that make no step are so.
+fn stand<L: Recorded>(lanes: &L, step: &Lane) -> bool {
+    match *step {
+        Lane::Keeps(place, count) => lanes.keeps(place) == Some(count),
+        Lane::Waited(connection, count, limit) => waited(lanes, connection, count, limit),
+        Lane::Message(number, publisher, value) => {
+            lanes.words(number) == Some(&[8, publisher, 1, 6, value])
+                && lanes.values(number) == Some((USER_HEADER, value))
         }
-        Lane::Nothing(place) => gets_nothing(lanes, place),
+        Lane::MessageNumbered(number, publisher, sequence, value) => {
+            let header = WithSequence {
+                sequence,
+                user_header: USER_HEADER,
+            };
+            lanes.words(number) == Some(&[8, publisher, 1, sequence, 6, value])
+                && lanes.numbered_values(number) == Some((header, value))
+        }
+        Lane::Messages(count) => lanes.count() == count,
+        Lane::Numbered(connection, at, number) => lanes.numbered(connection, at) == Some(number),
+        _ => false,
+    }
+}
+
+// Whether a step of the lanes goes so.
+fn goes<L: Recorded>(alloc: Global, lanes: &mut L, step: &Lane) -> Result<bool, AllocError> {
+    match *step {
+        Lane::Gets(place, number, value) => Ok(gets(lanes, place, &[8, number, 1, 6, value])),
+        Lane::GetsNumbered(place, number, sequence, value) => {
+            Ok(gets(lanes, place, &[8, number, 1, sequence, 6, value]))
+        }
+        Lane::Nothing(place) => Ok(gets_nothing(lanes, place)),
         Lane::Sends(place, value, taken, refused) => {
             let told = SendAnswer::Delivered(Delivery { taken, refused });
-            send(alloc, lanes, place, &[6], value)? == Some(Answer::Sent(told))
+            sends(alloc, lanes, place, &USER_HEADER, value, told)
         }
         Lane::SendsNumbered(place, value, taken, refused) => {
             let told = SendAnswer::Delivered(Delivery { taken, refused });
-            send(alloc, lanes, place, &[0, 6], value)? == Some(Answer::Sent(told))
+            sends(alloc, lanes, place, &NUMBERED_HEADER, value, told)
         }
         Lane::Fails(place, value, taken, refused) => {
             let told = SendAnswer::UnableToDeliver(Delivery { taken, refused });
-            send(alloc, lanes, place, &[6], value)? == Some(Answer::Sent(told))
+            sends(alloc, lanes, place, &USER_HEADER, value, told)
         }
-        Lane::Lends(place, count, last) => lends(lanes, place, count, last),
-        Lane::Keeps(place, count) => keeps(lanes, place, count),
-        Lane::Waited(connection, count, limit) => waited(lanes, connection, count, limit),
-        Lane::Message(number, publisher, value) => is_message(lanes, number, publisher, value),
-        Lane::MessageNumbered(number, publisher, sequence, value) => {
-            is_message_numbered(lanes, number, publisher, sequence, value)
-        }
-        Lane::Messages(count) => lanes.len() == count,
-        Lane::Numbered(connection, at, number) => lanes.number(connection, at) == Some(number),
-        Lane::Begins(party) => begins(lanes, party),
-    })
+        Lane::Lends(place, count, last) => Ok(lends(lanes, place, count, last)),
+        Lane::Begins(party) => Ok(begins(lanes, party)),
+        _ => Ok(stand(lanes, step)),
+    }
 }
 
 /// The first step that goes otherwise, if one does.
-pub(crate) fn go_on(
+pub(crate) fn go_on<L: Recorded>(
     alloc: Global,
-    lanes: &mut RecordedLanes,
+    lanes: &mut L,
     steps: &[Lane],
 ) -> Result<Option<usize>, AllocError> {
     for (place, step) in steps.iter().enumerate() {

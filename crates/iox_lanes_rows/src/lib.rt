@@ -7,11 +7,16 @@
 //! has two threads answer each other, both once all of them run (`start`), and `handing` goes from lanes to threads and to ports
 //! that stand still. `answers` are what tests hold.
 //!
+//! Tests go by traits that have no clauses, so that what they call is read once alone: `stepping` has lanes, `recorded` lanes that
+//! keep their messages, and `ports` ports in threads.
+//!
 //! Domains become lanes, go on in threads, and become domains again:
 //!
-//! - `driving`: a domain, and what is done to its ports.
+//! - `driven`: a domain, by the calls of its ports.
+//! - `driving`: what is done to these.
 //! - `lanes`: what its lanes do.
 //! - `threads`: what its ports do in threads.
+//! - `stages`: what a domain, its lanes and its ports in threads become.
 //! - `ways`: what a domain comes to by all of them.
 //! - `refusals`: each reason why it can't become lanes, and domains to which none applies.
 //! - `openings`: what lanes find of each kind of domain.
@@ -25,6 +30,8 @@
 mod answers;
 #[cfg(test)]
 mod cases;
+#[cfg(test)]
+mod driven;
 #[cfg(test)]
 mod driving;
 #[cfg(test)]
@@ -42,7 +49,11 @@ mod messages;
 #[cfg(test)]
 mod openings;
 #[cfg(test)]
+mod ports;
+#[cfg(test)]
 mod random;
+#[cfg(test)]
+mod recorded;
 #[cfg(test)]
 mod refusals;
 #[cfg(test)]
@@ -52,7 +63,11 @@ mod service;
 #[cfg(test)]
 mod sizes;
 #[cfg(test)]
+mod stages;
+#[cfg(test)]
 mod start;
+#[cfg(test)]
+mod stepping;
 #[cfg(test)]
 mod streams;
 #[cfg(test)]

@@ -1,5 +1,5 @@
 //! What lanes find of each kind of domain.
-use crate::driving::{Service, Step};
+use crate::driving::{Service, Step, USUAL};
 use crate::lanes::Lane;
 use crate::ways::{Case, Way, go_all};
 use iox_describe_base::TypeVariant;
@@ -14,6 +14,7 @@ pub(crate) const OVERFLOWING: Service = Service {
     buffer: 3,
     history: 0,
     numbered: false,
+    limits: USUAL,
 };
 
 /// A service whose messages have numbers.
@@ -28,6 +29,7 @@ pub(crate) const REFUSING: Service = Service {
     buffer: 2,
     history: 0,
     numbered: false,
+    limits: USUAL,
 };
 
 pub(crate) const REMEMBERING: Service = Service {
@@ -36,6 +38,7 @@ pub(crate) const REMEMBERING: Service = Service {
     buffer: 2,
     history: 2,
     numbered: false,
+    limits: USUAL,
 };
 
 // Two publishers, and three subscribers for which one, two and three messages may wait.

@@ -6,6 +6,7 @@ use crate::known::{
     Known, NOTHING, SLOTS, are_mailboxes, begun, is_answered, kept, last_at, receiving, sending,
     sizes,
 };
+use crate::stepping::Stepping;
 use iox_lanes_machine::{Found, LaneSizes, Lanes};
 use iox_lanes_parties::{Call, Move, Party};
 use iox_queues_steps::Stepped;
@@ -84,10 +85,10 @@ fn asked(alloc: Global, known: &mut Known, party: Party, value: u64) -> Result<C
 }
 
 // A party begins a call by chance, if it fits.
-fn begins(
+fn begins<L: Stepping>(
     alloc: Global,
     known: &mut Known,
-    lanes: &mut Lanes,
+    lanes: &mut L,
     party: Party,
 ) -> Result<(), AllocError> {
     let step = Move::Begin(asked(alloc, known, party, lanes.moments())?);
@@ -98,7 +99,7 @@ fn begins(
 }
 
 // One entry by chance; whether what it gave is right.
-fn goes(alloc: Global, known: &mut Known, lanes: &mut Lanes) -> Result<bool, AllocError> {
+fn goes<L: Stepping>(alloc: Global, known: &mut Known, lanes: &mut L) -> Result<bool, AllocError> {
     let party = party(known);
     match lanes.step(party, &Move::GoOn) {
         Stepped::Finished => Ok(is_answered(known, lanes)),
@@ -112,7 +113,7 @@ fn goes(alloc: Global, known: &mut Known, lanes: &mut Lanes) -> Result<bool, All
 }
 
 // Whether something was done at each connection.
-fn are_used(lanes: &Lanes) -> bool {
+fn are_used<L: Stepping>(lanes: &L) -> bool {
     for connection in 0..lanes.links().len() {
         if lanes.order(connection as u64).is_empty() {
             return false;
@@ -132,10 +133,10 @@ fn finds(lanes: &mut Lanes, findings: &[Found]) -> Result<bool, AllocError> {
 }
 
 // Whether each entry of so many goes right, a thousandth of them reads and more.
-fn all_go(
+fn all_go<L: Stepping>(
     alloc: Global,
     known: &mut Known,
-    lanes: &mut Lanes,
+    lanes: &mut L,
     entries: u64,
 ) -> Result<bool, AllocError> {
     for _ in 0..entries {
@@ -146,16 +147,32 @@ fn all_go(
     Ok(known.reads > entries / 1000)
 }
 
-// Whether lanes of this kind go right for so many entries.
-fn go(alloc: Global, kind: RingKind, findings: &[Found], entries: u64) -> Result<bool, AllocError> {
+// Whether lanes on which nothing was done go right for so many entries.
+fn go_on<L: Stepping>(alloc: Global, lanes: &mut L, entries: u64) -> Result<bool, AllocError> {
     let mut known = NOTHING;
-    let mut lanes = Lanes::new(alloc, crowd(kind))?;
     Ok(
-        finds(&mut lanes, findings)?
-            && all_go(alloc, &mut known, &mut lanes, entries)?
-            && are_used(&lanes)
-            && are_mailboxes(alloc, &lanes)?,
+        all_go(alloc, &mut known, lanes, entries)?
+            && are_used(lanes)
+            && are_mailboxes(alloc, lanes)?,
     )
+}
+
+// Whether they do once all is found.
+fn go_with(
+    alloc: Global,
+    lanes: &mut Lanes,
+    findings: &[Found],
+    entries: u64,
+) -> Result<bool, AllocError> {
+    Ok(finds(lanes, findings)? && go_on(alloc, lanes, entries)?)
+}
+
+// Whether new lanes of this kind do.
+fn go(alloc: Global, kind: RingKind, findings: &[Found], entries: u64) -> Result<bool, AllocError> {
+    match Lanes::new(alloc, crowd(kind)) {
+        Ok(mut lanes) => go_with(alloc, &mut lanes, findings, entries),
+        Err(error) => Err(error),
+    }
 }
 
 const ENTRIES: u64 = 1_000_000;

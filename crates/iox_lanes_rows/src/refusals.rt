@@ -1,12 +1,12 @@
 //! Each reason why a domain can't become lanes, and domains to which none applies.
-use crate::answers::hold;
-use crate::driving::{Asked, PLAIN, Plan, Service, Step};
+use crate::answers::{display, hold};
+use crate::driving::{Asked, PLAIN, Plan, Service, Step, USUAL};
 use crate::ways::{Case, Way, go_all};
 use iox_describe_base::TypeVariant;
 use iox_domain_ports::Sent;
 use iox_domain_values::{AllocationStrategy, BackpressureAction, BackpressureStrategy};
 use iox_lanes::IntoLanesError;
-use std::alloc::{AllocError, Global};
+use std::alloc::AllocError;
 
 // A service whose full mailboxes drop their oldest message.
 const OVERFLOWING: Service = Service {
@@ -15,6 +15,7 @@ const OVERFLOWING: Service = Service {
     buffer: 2,
     history: 1,
     numbered: false,
+    limits: USUAL,
 };
 
 // A service whose mailboxes hold one message, and refuse more.
@@ -24,6 +25,7 @@ const REFUSING: Service = Service {
     buffer: 1,
     history: 0,
     numbered: false,
+    limits: USUAL,
 };
 
 // A service of slices.
@@ -33,6 +35,7 @@ const SLICES: Service = Service {
     buffer: 1,
     history: 0,
     numbered: false,
+    limits: USUAL,
 };
 
 // A service whose messages have numbers.
@@ -436,21 +439,7 @@ const TEXTS: [(IntoLanesError, &str); 10] = [
     (IntoLanesError::OutOfMemory, "IntoLanesError::OutOfMemory"),
 ];
 
-// Whether the reason displays so.
-fn is_shown(alloc: Global, reason: IntoLanesError, text: &str) -> Result<bool, AllocError> {
-    Ok(format!(in alloc; "{reason}")?.as_str() == text)
-}
-
-fn all_display(alloc: Global) -> Result<bool, AllocError> {
-    for (reason, text) in &TEXTS {
-        if !is_shown(alloc, *reason, *text)? {
-            return Ok(false);
-        }
-    }
-    Ok(true)
-}
-
 #[test]
 fn reasons_display_as_they_are_named(rt: HostRuntime) -> Result<(), AllocError> {
-    hold(&rt, all_display(rt.alloc()))
+    hold(&rt, display(rt.alloc(), &TEXTS))
 }

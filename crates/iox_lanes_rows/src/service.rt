@@ -1,10 +1,10 @@
 //! A service of two publishers and two subscribers, with payloads of 8 words.
 ghost use Rattle.std.specs.Prelude.{◌≡◌};
 
+use crate::ports::{Receives, Sends, sent};
 use iox_lanes_machine::{LaneSizes, Lanes};
 use iox_lanes_parties::SendAnswer;
-use iox_lanes_parties::publisher::LoanAnswer;
-use iox_lanes_threads::{LanePublisher, LaneSubscriber};
+use iox_lanes_threads::{LaneThreads, end, open_threads};
 use iox_queues_steps::rings::RingKind;
 use std::alloc::{AllocError, Global};
 
@@ -53,25 +53,31 @@ pub(crate) fn narrow_lanes(alloc: Global, kind: RingKind) -> Result<Lanes, Alloc
     Lanes::new(alloc, narrow_sizes(kind))
 }
 
-/// Sends this word eight times over; what that answered.
-pub(crate) fn sent(port: &mut LanePublisher, value: u64) -> Option<SendAnswer> {
-    let Some(LoanAnswer::Slot(loan)) = port.loan_uninit() else {
-        return None;
-    };
-    if port.write(loan, &[value; 8], &[]) {
-        port.send(loan)
-    } else {
-        None
+/// The ports of lanes in threads.
+pub(crate) fn opened(alloc: Global, lanes: Lanes) -> Result<LaneThreads, AllocError> {
+    match open_threads(alloc, 1, lanes) {
+        Ok(threads) => Ok(threads),
+        Err(_) => Err(AllocError),
     }
 }
 
+/// Whether all ports come back.
+pub(crate) fn is_ended(threads: LaneThreads) -> bool {
+    end(threads.board, threads.publishers, threads.subscribers).is_ok()
+}
+
+/// Sends this word eight times over; what that answered.
+pub(crate) fn sent_eight<P: Sends>(port: &mut P, value: u64) -> Option<SendAnswer> {
+    sent(port, &[value; 8], &[])
+}
+
 /// The first word of a sample's payload, behind the three of its header; the sample is given back.
-pub(crate) fn read_back(port: &mut LaneSubscriber, slot: u64) -> Option<u64> {
-    if !port.read(slot) {
+pub(crate) fn read_back<P: Receives>(port: &mut P, slot: u64) -> Option<u64> {
+    if !port.reads(slot) {
         return None;
     }
     let value = *port.words().get(3)?;
-    if port.release(slot) == Some(true) {
+    if port.releases(slot) {
         Some(value)
     } else {
         None

@@ -1,5 +1,5 @@
 //! Domains of few and of many messages become lanes and domains again, with ample memory.
-use crate::driving::{Service, Step};
+use crate::driving::{Service, Step, USUAL};
 use crate::lanes::Lane;
 use crate::ways::{Case, Way, go_all};
 use iox_describe_base::TypeVariant;
@@ -12,6 +12,7 @@ const SERVICE_1: Service = Service {
     buffer: 1,
     history: 1,
     numbered: false,
+    limits: USUAL,
 };
 
 // As many messages stand in the history, wait for the subscriber, and are in the lanes.
@@ -35,6 +36,7 @@ const SERVICE_2: Service = Service {
     buffer: 2,
     history: 2,
     numbered: false,
+    limits: USUAL,
 };
 
 // As many messages stand in the history, wait for the subscriber, and are in the lanes.
@@ -58,6 +60,7 @@ const SERVICE_7: Service = Service {
     buffer: 7,
     history: 7,
     numbered: false,
+    limits: USUAL,
 };
 
 // As many messages stand in the history, wait for the subscriber, and are in the lanes.
@@ -81,6 +84,7 @@ const SERVICE_64: Service = Service {
     buffer: 64,
     history: 64,
     numbered: false,
+    limits: USUAL,
 };
 
 // As many messages stand in the history, wait for the subscriber, and are in the lanes.
@@ -104,6 +108,7 @@ const SERVICE_1000: Service = Service {
     buffer: 1_000,
     history: 1_000,
     numbered: false,
+    limits: USUAL,
 };
 
 // As many messages stand in the history, wait for the subscriber, and are in the lanes.

@@ -1,11 +1,11 @@
 //! Numbers through four threads: two publishers and two subscribers.
 use crate::answers::hold;
-use crate::service::lanes;
+use crate::ports::{Receives, Sends, sent};
+use crate::service::{is_ended, lanes, opened};
 use crate::start::Start;
 use iox_lanes_base::calls::Receipt;
 use iox_lanes_parties::SendAnswer;
-use iox_lanes_parties::publisher::LoanAnswer;
-use iox_lanes_threads::{LanePublisher, LaneSubscriber, LaneThreads, end, open_threads};
+use iox_lanes_threads::{LanePublisher, LaneSubscriber};
 use iox_queues_steps::rings::RingKind;
 use std::alloc::{AllocError, Global};
 use std::sync::Wait;
@@ -26,10 +26,7 @@ fn word(publisher: u64, number: u64, place: u64) -> u64 {
 }
 
 // What the send of a number answered.
-fn send(port: &mut LanePublisher, publisher: u64, number: u64) -> Option<SendAnswer> {
-    let Some(LoanAnswer::Slot(loan)) = port.loan_uninit() else {
-        return None;
-    };
+fn send<P: Sends>(port: &mut P, publisher: u64, number: u64) -> Option<SendAnswer> {
     let payload = [
         word(publisher, number, 0),
         word(publisher, number, 1),
@@ -40,20 +37,17 @@ fn send(port: &mut LanePublisher, publisher: u64, number: u64) -> Option<SendAns
         word(publisher, number, 6),
         word(publisher, number, 7),
     ];
-    if !port.write(loan, &payload, &[]) {
-        return None;
-    }
-    port.send(loan)
+    sent(port, &payload, &[])
 }
 
 // Once all run, sends 0 up to COUNT, and the last one again until both took it at once; then one publisher more is done.
-fn send_all(port: &mut LanePublisher, publisher: u64, start: &Start, done: &AtomicU64) -> bool {
+fn send_all<P: Sends>(port: &mut P, publisher: u64, start: &Start, done: &AtomicU64) -> bool {
     let well = start.all_begin(4) && send_numbers(port, publisher);
     done.fetch_add(1, Ordering::SeqCst);
     well
 }
 
-fn send_numbers(port: &mut LanePublisher, publisher: u64) -> bool {
+fn send_numbers<P: Sends>(port: &mut P, publisher: u64) -> bool {
     for number in 0..COUNT {
         if send(port, publisher, number).is_none() {
             return false;
@@ -110,30 +104,24 @@ fn is_whole(payload: &[u64], publisher: u64, number: u64) -> bool {
     place == 8
 }
 
-// Reads a sample, notes it, and gives it back.
-fn take(port: &mut LaneSubscriber, seen: &mut Seen, slot: u64) -> bool {
-    let Some(payload) = read(port, slot) else {
+// Reads a sample, notes its payload behind the three words of its header, and gives it back.
+fn take<P: Receives>(port: &mut P, seen: &mut Seen, slot: u64) -> bool {
+    if !port.reads(slot) {
         return false;
-    };
-    seen.note(payload) && port.release(slot) == Some(true)
-}
-
-// The payload of a sample, behind the three words of its header.
-fn read(port: &mut LaneSubscriber, slot: u64) -> Option<&[u64]> {
-    if port.read(slot) {
-        port.words().get(3..)
-    } else {
-        None
+    }
+    match port.words().get(3..) {
+        Some(payload) => seen.note(payload) && port.releases(slot),
+        None => false,
     }
 }
 
 // Once all run, receives until both publishers are done and nothing waits; whether all that came was well, and the last number of
 // each came.
-fn receive_all(rt: &impl Wait, port: &mut LaneSubscriber, start: &Start, done: &AtomicU64) -> bool {
+fn receive_all<P: Receives>(rt: &impl Wait, port: &mut P, start: &Start, done: &AtomicU64) -> bool {
     start.all_begin(4) && receive_numbers(rt, port, done)
 }
 
-fn receive_numbers(rt: &impl Wait, port: &mut LaneSubscriber, done: &AtomicU64) -> bool {
+fn receive_numbers<P: Receives>(rt: &impl Wait, port: &mut P, done: &AtomicU64) -> bool {
     let mut seen = Seen {
         first: 0,
         second: 0,
@@ -196,17 +184,16 @@ fn goes<R: Threads + Wait + Sync>(
     alloc: Global,
     kind: RingKind,
 ) -> Result<bool, AllocError> {
-    let Ok(threads) = open_threads(alloc, 1, lanes(alloc, kind)?) else {
-        return Err(AllocError);
-    };
-    let LaneThreads {
-        board,
-        mut publishers,
-        mut subscribers,
-    } = threads;
+    let mut threads = opened(alloc, lanes(alloc, kind)?)?;
     let start = Start::new();
-    let well = all_run(rt, &mut publishers, &mut subscribers, &start);
-    start.judge(well && end(board, publishers, subscribers).is_ok())
+    let well = all_run(
+        rt,
+        &mut threads.publishers,
+        &mut threads.subscribers,
+        &start,
+    );
+    let ended = is_ended(threads);
+    start.judge(well && ended)
 }
 
 #[test]

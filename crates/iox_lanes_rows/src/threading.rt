@@ -1,5 +1,5 @@
 //! What the ports of a domain do in threads, and the domain that these leave.
-use crate::driving::{FAILING, Service, Step};
+use crate::driving::{FAILING, Service, Step, USUAL};
 use crate::lanes::Lane;
 use crate::openings::NUMBERED;
 use crate::returns::NUMBERED_PORTS;
@@ -19,6 +19,7 @@ const SERVICE: Service = Service {
     buffer: 3,
     history: 1,
     numbered: false,
+    limits: USUAL,
 };
 
 // Two publishers, and two subscribers of each of which a message of each waits.
@@ -72,6 +73,7 @@ const NARROW: Service = Service {
     buffer: 1,
     history: 0,
     numbered: false,
+    limits: USUAL,
 };
 
 // Two publishers, of which the first one fails at a full mailbox.

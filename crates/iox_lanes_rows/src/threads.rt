@@ -1,9 +1,10 @@
 //! What the ports of a domain do in threads.
-use iox_lanes::threads::DomainThreads;
+use crate::lanes::{NUMBERED_HEADER, USER_HEADER};
+use crate::ports::{Receives, Sends};
+use iox_lanes::{WithSequence, Words};
 use iox_lanes_base::calls::{Delivery, Receipt};
 use iox_lanes_parties::SendAnswer;
 use iox_lanes_parties::publisher::LoanAnswer;
-use iox_lanes_threads::{LanePublisher, LaneSubscriber};
 use std::sync::Wait;
 
 /// What the ports do, and what comes of it. They go by their places.
@@ -22,76 +23,121 @@ pub(crate) enum Turn {
     Fails(usize, u64, u64),
 }
 
-// What a publisher's send of a value answers.
-fn send(port: &mut LanePublisher, value: u64) -> Option<SendAnswer> {
-    send_beside(port, value, &[6])
-}
-
-// What it answers beside these words of user header.
-fn send_beside(port: &mut LanePublisher, value: u64, user_header: &[u64]) -> Option<SendAnswer> {
-    let Some(LoanAnswer::Slot(loan)) = port.loan_uninit() else {
+// What a publisher's send of a value beside a user header answers.
+fn send<P: Sends, U: Words>(port: &mut P, value: u64, user_header: &U) -> Option<SendAnswer> {
+    let LoanAnswer::Slot(loan) = port.lend()? else {
         return None;
     };
-    if port.write(loan, &[value], user_header) {
+    if port.writes_value(loan, value, user_header) {
         port.send(loan)
     } else {
         None
     }
 }
 
-// Whether a subscriber receives, reads and releases a message of these words.
-fn gets(rt: &impl Wait, port: &mut LaneSubscriber, words: &[u64]) -> bool {
+// Whether the publisher at a place answers so.
+fn sends<P: Sends, U: Words>(
+    ports: &mut [P],
+    place: usize,
+    value: u64,
+    user_header: &U,
+    told: SendAnswer,
+) -> bool {
+    match ports.get_mut(place) {
+        Some(port) => send(port, value, user_header) == Some(told),
+        None => false,
+    }
+}
+
+// Whether a subscriber receives, reads and releases a message of these words, and of this user header and value.
+fn takes<P: Receives, U: Words + PartialEq>(
+    rt: &impl Wait,
+    port: &mut P,
+    words: &[u64],
+    user_header: U,
+    value: u64,
+) -> bool {
     let Receipt::Taken { slot, .. } = port.receive(rt) else {
         return false;
     };
-    if !port.read(slot) {
+    if !port.reads(slot) {
         return false;
     }
-    let is_right = port.words() == words;
-    is_right && port.release(slot) == Some(true)
+    let is_right = match port.value::<U>() {
+        Some((header, read)) => port.words() == words && header == user_header && read == value,
+        None => false,
+    };
+    is_right && port.releases(slot)
+}
+
+// Whether the subscriber at a place does.
+fn gets<P: Receives, U: Words + PartialEq>(
+    rt: &impl Wait,
+    ports: &mut [P],
+    place: usize,
+    words: &[u64],
+    user_header: U,
+    value: u64,
+) -> bool {
+    match ports.get_mut(place) {
+        Some(port) => takes(rt, port, words, user_header, value),
+        None => false,
+    }
+}
+
+// Whether the subscriber at a place receives nothing.
+fn gets_nothing<P: Receives>(rt: &impl Wait, ports: &mut [P], place: usize) -> bool {
+    match ports.get_mut(place) {
+        Some(port) => matches!(port.receive(rt), Receipt::Nothing),
+        None => false,
+    }
 }
 
 // Whether a turn goes so.
-fn goes(rt: &impl Wait, threads: &mut DomainThreads<u64, u8>, turn: &Turn) -> Option<bool> {
-    Some(match *turn {
+fn goes<P: Sends, S: Receives>(
+    rt: &impl Wait,
+    publishers: &mut [P],
+    subscribers: &mut [S],
+    turn: &Turn,
+) -> bool {
+    match *turn {
         Turn::Gets(place, number, value) => {
             let words = [8, number, 1, 6, value];
-            gets(rt, threads.subscribers.get_mut(place)?, &words)
+            gets(rt, subscribers, place, &words, USER_HEADER, value)
         }
         Turn::GetsNumbered(place, number, sequence, value) => {
             let words = [8, number, 1, sequence, 6, value];
-            gets(rt, threads.subscribers.get_mut(place)?, &words)
+            let header = WithSequence {
+                sequence,
+                user_header: USER_HEADER,
+            };
+            gets(rt, subscribers, place, &words, header, value)
         }
         Turn::SendsNumbered(place, value, taken) => {
-            let all = SendAnswer::Delivered(Delivery { taken, refused: 0 });
-            send_beside(threads.publishers.get_mut(place)?, value, &[0, 6]) == Some(all)
+            let told = SendAnswer::Delivered(Delivery { taken, refused: 0 });
+            sends(publishers, place, value, &NUMBERED_HEADER, told)
         }
-        Turn::Nothing(place) => {
-            matches!(
-                threads.subscribers.get_mut(place)?.receive(rt),
-                Receipt::Nothing
-            )
-        }
+        Turn::Nothing(place) => gets_nothing(rt, subscribers, place),
         Turn::Sends(place, value, taken) => {
-            let all = Delivery { taken, refused: 0 };
-            send(threads.publishers.get_mut(place)?, value) == Some(SendAnswer::Delivered(all))
+            let told = SendAnswer::Delivered(Delivery { taken, refused: 0 });
+            sends(publishers, place, value, &USER_HEADER, told)
         }
         Turn::Fails(place, value, refused) => {
-            let none = Delivery { taken: 0, refused };
-            let told = SendAnswer::UnableToDeliver(none);
-            send(threads.publishers.get_mut(place)?, value) == Some(told)
+            let told = SendAnswer::UnableToDeliver(Delivery { taken: 0, refused });
+            sends(publishers, place, value, &USER_HEADER, told)
         }
-    })
+    }
 }
 
 /// The first turn that goes otherwise, if one does.
-pub(crate) fn go_on(
+pub(crate) fn go_on<P: Sends, S: Receives>(
     rt: &impl Wait,
-    threads: &mut DomainThreads<u64, u8>,
+    publishers: &mut [P],
+    subscribers: &mut [S],
     turns: &[Turn],
 ) -> Option<usize> {
     for (place, turn) in turns.iter().enumerate() {
-        if goes(rt, threads, turn) != Some(true) {
+        if !goes(rt, publishers, subscribers, turn) {
             return Some(place);
         }
     }

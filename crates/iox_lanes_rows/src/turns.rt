@@ -1,9 +1,10 @@
 //! Two threads that answer each other, each with a publisher and a subscriber.
 use crate::answers::hold;
-use crate::service::{narrow_lanes, read_back, sent};
+use crate::ports::{Receives, Sends};
+use crate::service::{is_ended, narrow_lanes, opened, read_back, sent_eight};
 use crate::start::Start;
 use iox_lanes_base::calls::Receipt;
-use iox_lanes_threads::{LanePublisher, LaneSubscriber, LaneThreads, end, open_threads};
+use iox_lanes_threads::{LanePublisher, LaneSubscriber};
 use iox_queues_steps::rings::RingKind;
 use std::alloc::{AllocError, Global};
 use std::sync::Wait;
@@ -13,7 +14,7 @@ use std::thread::Threads;
 const TRIES: u64 = 1 << 24;
 
 // Receives until this word comes, and gives each sample back; whether it came.
-fn comes(rt: &impl Wait, port: &mut LaneSubscriber, value: u64) -> bool {
+fn comes<P: Receives>(rt: &impl Wait, port: &mut P, value: u64) -> bool {
     for _ in 0..TRIES {
         match port.receive(rt) {
             Receipt::Taken { slot, .. } => match read_back(port, slot) {
@@ -29,23 +30,23 @@ fn comes(rt: &impl Wait, port: &mut LaneSubscriber, value: u64) -> bool {
 }
 
 // Once both run, sends 1, and receives until 2 comes.
-fn asks(
+fn asks<P: Sends, S: Receives>(
     rt: &impl Wait,
-    sender: &mut LanePublisher,
-    receiver: &mut LaneSubscriber,
+    sender: &mut P,
+    receiver: &mut S,
     start: &Start,
 ) -> bool {
-    start.all_begin(2) && sent(sender, 1).is_some() && comes(rt, receiver, 2)
+    start.all_begin(2) && sent_eight(sender, 1).is_some() && comes(rt, receiver, 2)
 }
 
 // Once both run, receives until 1 comes, and sends 2.
-fn answers(
+fn answers<P: Sends, S: Receives>(
     rt: &impl Wait,
-    sender: &mut LanePublisher,
-    receiver: &mut LaneSubscriber,
+    sender: &mut P,
+    receiver: &mut S,
     start: &Start,
 ) -> bool {
-    start.all_begin(2) && comes(rt, receiver, 1) && sent(sender, 2).is_some()
+    start.all_begin(2) && comes(rt, receiver, 1) && sent_eight(sender, 2).is_some()
 }
 
 fn both_run<R: Threads + Wait + Sync>(
@@ -71,17 +72,16 @@ fn goes<R: Threads + Wait + Sync>(
     alloc: Global,
     kind: RingKind,
 ) -> Result<bool, AllocError> {
-    let Ok(threads) = open_threads(alloc, 1, narrow_lanes(alloc, kind)?) else {
-        return Err(AllocError);
-    };
-    let LaneThreads {
-        board,
-        mut publishers,
-        mut subscribers,
-    } = threads;
+    let mut threads = opened(alloc, narrow_lanes(alloc, kind)?)?;
     let start = Start::new();
-    let well = both_run(rt, &mut publishers, &mut subscribers, &start) == Some((true, true));
-    start.judge(well && end(board, publishers, subscribers).is_ok())
+    let well = both_run(
+        rt,
+        &mut threads.publishers,
+        &mut threads.subscribers,
+        &start,
+    );
+    let ended = is_ended(threads);
+    start.judge(well == Some((true, true)) && ended)
 }
 
 #[test]

@@ -1,19 +1,13 @@
 //! The ways of a domain: by calls, by lanes, in threads, and as a domain again.
-use crate::driving::{self, Numbers, Service, Step};
-use crate::lanes::{self, Lane};
-use crate::threads::{self, Turn};
-use iox_lanes::threads::{DomainThreads, EndError, OpenError, end, open_threads};
-use iox_lanes::{DomainLanes, IntoDomainError, IntoLanesError, into_lanes};
-use iox_lanes_threads::LanePublisher;
+use crate::driving::{Service, Step};
+use crate::lanes::Lane;
+use crate::stages::{OfNumbers, Stages};
+use crate::threads::Turn;
+use iox_lanes::threads::{EndError, OpenError};
+use iox_lanes::{IntoDomainError, IntoLanesError};
 use std::alloc::{AllocError, Global};
 use std::process::Abort;
 use std::sync::Wait;
-
-// The lanes of a domain of numbers.
-type NumberLanes = DomainLanes<u64, u8>;
-
-// The ports of one in threads.
-type NumberThreads = DomainThreads<u64, u8>;
 
 /// What is done next, and what comes of it.
 #[derive(Clone, Copy)]
@@ -32,6 +26,8 @@ pub(crate) enum Way {
     Starts(Result<(), OpenError>),
     /// Its threads end and leave a domain, or don't for this reason.
     Ends(Result<(), EndError>),
+    /// There are so many publishers in threads, and as many subscribers.
+    Ports(usize),
     /// The last publisher in threads goes apart.
     Parts,
     /// It comes back to the others.
@@ -47,54 +43,47 @@ pub(crate) struct Case {
 
 // A domain, its lanes, or its ports in threads, and the publisher that is apart from these.
 #[derive(Drop)]
-struct World {
-    domain: Option<Numbers>,
-    lanes: Option<NumberLanes>,
-    threads: Option<NumberThreads>,
-    last: Option<LanePublisher>,
+struct World<D, L, T, P> {
+    domain: Option<D>,
+    lanes: Option<L>,
+    threads: Option<T>,
+    last: Option<P>,
 }
 
-// A world of a domain.
-fn new_world(domain: Numbers) -> World {
-    World {
-        domain: Some(domain),
-        lanes: None,
-        threads: None,
-        last: None,
-    }
-}
+// That of stages.
+type WorldOf<S: Stages> = World<S::Domain, S::Lanes, S::Threads, S::Port>;
 
 // The domain becomes lanes, or doesn't for a reason.
-fn open(alloc: Global, world: &mut World) -> Option<Result<(), IntoLanesError>> {
-    match into_lanes(alloc, world.domain.take()?) {
+fn open<S: Stages>(alloc: Global, world: &mut WorldOf<S>) -> Option<Result<(), IntoLanesError>> {
+    match S::open(alloc, world.domain.take()?) {
         Ok(opened) => {
             world.lanes = Some(opened);
             Some(Ok(()))
         }
-        Err(refused) => {
-            world.domain = Some(refused.domain);
-            Some(Err(refused.error))
+        Err((error, domain)) => {
+            world.domain = Some(domain);
+            Some(Err(error))
         }
     }
 }
 
 // The lanes become a domain again, or don't for a reason.
-fn come_back(world: &mut World) -> Option<Result<(), IntoDomainError>> {
-    match world.lanes.take()?.into_domain() {
+fn come_back<S: Stages>(world: &mut WorldOf<S>) -> Option<Result<(), IntoDomainError>> {
+    match S::come_back(world.lanes.take()?) {
         Ok(domain) => {
             world.domain = Some(domain);
             Some(Ok(()))
         }
-        Err(still) => {
-            world.lanes = Some(still.lanes);
-            Some(Err(still.error))
+        Err((error, lanes)) => {
+            world.lanes = Some(lanes);
+            Some(Err(error))
         }
     }
 }
 
 // The lanes go on in threads, or don't for a reason.
-fn start(alloc: Global, world: &mut World) -> Option<Result<(), OpenError>> {
-    match open_threads(alloc, 1, world.lanes.take()?) {
+fn start<S: Stages>(alloc: Global, world: &mut WorldOf<S>) -> Option<Result<(), OpenError>> {
+    match S::start(alloc, world.lanes.take()?) {
         Ok(threads) => {
             world.threads = Some(threads);
             Some(Ok(()))
@@ -107,9 +96,8 @@ fn start(alloc: Global, world: &mut World) -> Option<Result<(), OpenError>> {
 }
 
 // The threads end, or don't for a reason.
-fn stop(world: &mut World) -> Option<Result<(), EndError>> {
-    let threads = world.threads.take()?;
-    match end(threads.board, threads.publishers, threads.subscribers) {
+fn stop<S: Stages>(world: &mut WorldOf<S>) -> Option<Result<(), EndError>> {
+    match S::stop(world.threads.take()?) {
         Ok(domain) => {
             world.domain = Some(domain);
             Some(Ok(()))
@@ -122,40 +110,52 @@ fn stop(world: &mut World) -> Option<Result<(), EndError>> {
 }
 
 // Whether the domain opens so; it is asked once more where it found no memory.
-fn opens(alloc: Global, world: &mut World, wanted: Result<(), IntoLanesError>) -> bool {
-    match open(alloc, world) {
-        Some(Err(IntoLanesError::OutOfMemory)) => open(alloc, world) == Some(wanted),
+fn opens<S: Stages>(
+    alloc: Global,
+    world: &mut WorldOf<S>,
+    wanted: Result<(), IntoLanesError>,
+) -> bool {
+    match open::<S>(alloc, world) {
+        Some(Err(IntoLanesError::OutOfMemory)) => open::<S>(alloc, world) == Some(wanted),
         answer => answer == Some(wanted),
     }
 }
 
 // Whether threads start so; they are asked once more where they found no memory.
-fn starts(alloc: Global, world: &mut World, wanted: Result<(), OpenError>) -> bool {
-    match start(alloc, world) {
-        Some(Err(OpenError::OutOfMemory)) => start(alloc, world) == Some(wanted),
+fn starts<S: Stages>(alloc: Global, world: &mut WorldOf<S>, wanted: Result<(), OpenError>) -> bool {
+    match start::<S>(alloc, world) {
+        Some(Err(OpenError::OutOfMemory)) => start::<S>(alloc, world) == Some(wanted),
         answer => answer == Some(wanted),
     }
 }
 
 // Whether the last publisher goes apart.
-fn parts(world: &mut World) -> bool {
+fn parts<S: Stages>(world: &mut WorldOf<S>) -> bool {
     if let Some(threads) = &mut world.threads {
-        world.last = threads.publishers.pop();
+        world.last = S::part(threads);
     }
     world.last.is_some()
 }
 
 // Whether it comes back.
-fn rejoins(world: &mut World) -> Result<bool, AllocError> {
+fn rejoins<S: Stages>(world: &mut WorldOf<S>) -> Result<bool, AllocError> {
     let Some(last) = world.last.take() else {
         return Ok(false);
     };
     match &mut world.threads {
-        Some(threads) => match threads.publishers.push(last) {
+        Some(threads) => match S::rejoin(threads, last) {
             Ok(()) => Ok(true),
-            Err(_) => Err(AllocError),
+            Err(error) => Err(error),
         },
         None => Ok(false),
+    }
+}
+
+// Whether there are so many ports of each kind in threads.
+fn has_ports<S: Stages>(world: &WorldOf<S>, count: usize) -> bool {
+    match &world.threads {
+        Some(threads) => S::count(threads) == (count, count),
+        None => false,
     }
 }
 
@@ -165,23 +165,23 @@ fn first(goes: bool) -> Option<usize> {
 }
 
 // The first step of calls, lanes or threads that goes otherwise; there is one where there is no such thing.
-fn go_by_ports(
+fn go_by_ports<S: Stages>(
     rt: &impl Wait,
     alloc: Global,
-    world: &mut World,
+    world: &mut WorldOf<S>,
     way: Way,
 ) -> Result<Option<usize>, AllocError> {
     match way {
         Way::Calls(steps) => match &mut world.domain {
-            Some(domain) => driving::go_on(alloc, domain, steps),
+            Some(domain) => S::calls(alloc, domain, steps),
             None => Ok(first(false)),
         },
         Way::Lanes(steps) => match &mut world.lanes {
-            Some(opened) => lanes::go_on(alloc, &mut opened.lanes, steps),
+            Some(opened) => S::steps(alloc, opened, steps),
             None => Ok(first(false)),
         },
         Way::Turns(turns) => match &mut world.threads {
-            Some(threads) => Ok(threads::go_on(rt, threads, turns)),
+            Some(threads) => Ok(S::turns(rt, threads, turns)),
             None => Ok(first(false)),
         },
         _ => Ok(first(false)),
@@ -189,32 +189,33 @@ fn go_by_ports(
 }
 
 // The first step of a way that goes otherwise.
-fn go(
+fn go<S: Stages>(
     rt: &impl Wait,
     alloc: Global,
-    world: &mut World,
+    world: &mut WorldOf<S>,
     way: Way,
 ) -> Result<Option<usize>, AllocError> {
     Ok(match way {
-        Way::Opens(wanted) => first(opens(alloc, world, wanted)),
-        Way::Returns(wanted) => first(come_back(world) == Some(wanted)),
-        Way::Starts(wanted) => first(starts(alloc, world, wanted)),
-        Way::Ends(wanted) => first(stop(world) == Some(wanted)),
-        Way::Parts => first(parts(world)),
-        Way::Rejoins => first(rejoins(world)?),
-        _ => return go_by_ports(rt, alloc, world, way),
+        Way::Opens(wanted) => first(opens::<S>(alloc, world, wanted)),
+        Way::Returns(wanted) => first(come_back::<S>(world) == Some(wanted)),
+        Way::Starts(wanted) => first(starts::<S>(alloc, world, wanted)),
+        Way::Ends(wanted) => first(stop::<S>(world) == Some(wanted)),
+        Way::Ports(count) => first(has_ports::<S>(world, count)),
+        Way::Parts => first(parts::<S>(world)),
+        Way::Rejoins => first(rejoins::<S>(world)?),
+        _ => return go_by_ports::<S>(rt, alloc, world, way),
     })
 }
 
 // The first way that goes otherwise, and its first step that does.
-fn go_on(
+fn go_on<S: Stages>(
     rt: &impl Wait,
     alloc: Global,
-    world: &mut World,
+    world: &mut WorldOf<S>,
     ways: &[Way],
 ) -> Result<Option<(usize, usize)>, AllocError> {
     for (place, way) in ways.iter().enumerate() {
-        if let Some(step) = go(rt, alloc, world, *way)? {
+        if let Some(step) = go::<S>(rt, alloc, world, *way)? {
             return Ok(Some((place, step)));
         }
     }
@@ -222,15 +223,18 @@ fn go_on(
 }
 
 // The same of a case.
-fn go_all_ways(
+fn go_all_ways<S: Stages>(
     rt: &impl Wait,
     alloc: Global,
     case: &Case,
 ) -> Result<Option<(usize, usize)>, AllocError> {
-    match driving::make(alloc, case.service) {
-        Ok(domain) => go_on(rt, alloc, &mut new_world(domain), case.ways),
-        Err(error) => Err(error),
-    }
+    let mut world = World {
+        domain: Some(S::make(alloc, case.service)?),
+        lanes: None,
+        threads: None,
+        last: None,
+    };
+    go_on::<S>(rt, alloc, &mut world, case.ways)
 }
 
 /// Each case must go so.
@@ -240,7 +244,7 @@ pub(crate) fn go_all<R: Abort + Wait>(
     cases: &[Case],
 ) -> Result<(), AllocError> {
     for case in cases {
-        let wrong = go_all_ways(rt, alloc, case)?;
+        let wrong = go_all_ways::<OfNumbers>(rt, alloc, case)?;
         assert!(rt; wrong.is_none(), "{}: way and step {wrong:?}", case.name);
     }
     Ok(())

@@ -1,5 +1,5 @@
 -- How a line is read, word for word.
-use Rattle.std.specs.Prelude.{ℕ, ◌+◌, ◌==◌, length, codes, List, [], ◌∷◌, Option, None, Some, Result, Ok, Err, if◌then◌else◌}
+use Rattle.std.specs.Prelude.{ℕ, ◌+◌, ◌==◌, length, codes, Bool, List, [], ◌∷◌, Option, None, Some, Result, Ok, Err, if◌then◌else◌}
 use Rattle.std.specs.Option.{option_map}
 use Rattle.iox_command.specs.declared.command.Command.{Command}
 use Rattle.iox_command.specs.declared.command.Command.TheVariants as command
@@ -17,6 +17,7 @@ use Rattle.iox_line.specs.Options.{or_else, find, named, one}
 use Rattle.iox_line.specs.Values.{strategy_of, allocation_of, handler_of, degradation_of}
 use Rattle.std.specs.declared.alloc.AllocError.{AllocError}
 use Rattle.std.specs.Str.{byte}
+use Rattle.iox_describe_base.specs.Attributes.{Required}
 use Rattle.iox_command.specs.DescribeBase.declared.pattern.MessagingPattern.{MessagingPattern}
 use Rattle.iox_command.specs.declared.step.StepBefore.{StepBefore}
 use Rattle.iox_command.specs.Patterns.{pattern_of}
@@ -137,6 +138,15 @@ open_command words = service_command (λ s a t. command.Open s.node s.name s.opt
 -- a service that is opened or created
 abbrev pub open_or_create_command : List (List ℕ) → Option (Command ℕ)
 open_or_create_command words = service_command (λ s a t. command.OpenOrCreate s.node s.name s.options a t) verifier_of words
+
+-- the command that opens a service; it creates one where there is none, if this is asked for
+abbrev pub opening : Bool → NamedService → Required → List StepBefore → Command ℕ
+opening creates s a t =
+    if creates then command.OpenOrCreate s.node s.name s.options a t else command.Open s.node s.name s.options a t
+
+-- a service that is opened, or opened or created
+abbrev pub requiring_command : Bool → List (List ℕ) → Option (Command ℕ)
+requiring_command creates words = service_command (λ s a t. opening creates s a t) verifier_of words
 
 -- steps of foreign processes, if the pattern and the name are read
 abbrev pub foreign_parts : Option MessagingPattern → Option (List ℕ) → List (List ℕ) → Option (Command ℕ)

@@ -76,7 +76,9 @@ fn numbers<'a>(words: Words, scratch: &'a mut Scratch) -> Option<Values<'a, u64>
         };
         scratch.push(value);
     }
-    Some(Values::new(scratch.as_slice()))
+    Some(Values {
+        items: scratch.as_slice(),
+    })
 }
 
 /// A made value and numbers, or none after it.

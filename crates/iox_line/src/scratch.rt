@@ -11,7 +11,7 @@ const MOST_VALUES: usize = 1_025;
 /// Contracts see it as the list of the values in it.
 ///
 /// This port's own.
-#[derive(Debug, Drop)]
+#[derive(Drop)]
 pub struct Scratch {
     room: Vec<u64>,
 }

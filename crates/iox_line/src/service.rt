@@ -1,7 +1,7 @@
 //! Lines that name a service.
 ghost use Rattle.std.specs.Prelude.{◌≡◌};
 ghost use Rattle.iox_line.specs.Memory.{MayLack};
-ghost use Rattle.iox_line.specs.Reading.{of_service, create_command, open_command, open_or_create_command, foreign_command, together};
+ghost use Rattle.iox_line.specs.Reading.{of_service, create_command, requiring_command, foreign_command, together};
 ghost use Rattle.iox_line.specs.Outcome.{takes_memory};
 
 use crate::attributes::{defined_attributes, required_attributes};
@@ -23,8 +23,8 @@ pub(crate) fn of_service<'a>(
 {
     match verb {
         ServiceVerb::Create => create_line(alloc, words),
-        ServiceVerb::Open => open_line(alloc, words),
-        ServiceVerb::OpenOrCreate => open_or_create_line(alloc, words),
+        ServiceVerb::Open => requiring_line(alloc, words, false),
+        ServiceVerb::OpenOrCreate => requiring_line(alloc, words, true),
         ServiceVerb::Foreign => foreign_line(alloc, words),
     }
 }
@@ -35,20 +35,13 @@ fn create_line<'a>(alloc: Global, words: Words) -> Result<Option<Command<'a, u64
     let Some(service) = named_service(words) else {
         return Ok(None);
     };
-    let NamedService {
-        node,
-        name,
-        options,
-        attributes,
-        lists,
-    } = service;
-    let attributes = defined_attributes(alloc, attributes);
-    let steps = listed_steps(alloc, options.pattern(), lists);
+    let attributes = defined_attributes(alloc, service.attributes);
+    let steps = listed_steps(alloc, service.options.pattern(), service.lists);
     match together(attributes, steps) {
         Ok(Some((attributes, steps))) => Ok(Some(Command::Create {
-            node,
-            name,
-            options,
+            node: service.node,
+            name: service.name,
+            options: service.options,
             attributes,
             steps,
         })),
@@ -57,39 +50,13 @@ fn create_line<'a>(alloc: Global, words: Words) -> Result<Option<Command<'a, u64
     }
 }
 
-fn open_line<'a>(alloc: Global, words: Words) -> Result<Option<Command<'a, u64>>, AllocError>
-    ensures { MayLack takes_memory (open_command words.entry) result }
-{
-    let Some(service) = named_service(words) else {
-        return Ok(None);
-    };
-    let NamedService {
-        node,
-        name,
-        options,
-        attributes,
-        lists,
-    } = service;
-    let requirements = required_attributes(alloc, attributes);
-    let steps = listed_steps(alloc, options.pattern(), lists);
-    match together(requirements, steps) {
-        Ok(Some((requirements, steps))) => Ok(Some(Command::Open {
-            node,
-            name,
-            options,
-            requirements,
-            steps,
-        })),
-        Ok(None) => Ok(None),
-        Err(lacking) => Err(lacking),
-    }
-}
-
-fn open_or_create_line<'a>(
+/// The command of a line with requirements: a service is opened or, if it `creates`, opened or created.
+fn requiring_line<'a>(
     alloc: Global,
     words: Words,
+    creates: bool,
 ) -> Result<Option<Command<'a, u64>>, AllocError>
-    ensures { MayLack takes_memory (open_or_create_command words.entry) result }
+    ensures { MayLack takes_memory (requiring_command creates words.entry) result }
 {
     let Some(service) = named_service(words) else {
         return Ok(None);
@@ -104,12 +71,22 @@ fn open_or_create_line<'a>(
     let requirements = required_attributes(alloc, attributes);
     let steps = listed_steps(alloc, options.pattern(), lists);
     match together(requirements, steps) {
-        Ok(Some((requirements, steps))) => Ok(Some(Command::OpenOrCreate {
-            node,
-            name,
-            options,
-            requirements,
-            steps,
+        Ok(Some((requirements, steps))) => Ok(Some(if creates {
+            Command::OpenOrCreate {
+                node,
+                name,
+                options,
+                requirements,
+                steps,
+            }
+        } else {
+            Command::Open {
+                node,
+                name,
+                options,
+                requirements,
+                steps,
+            }
         })),
         Ok(None) => Ok(None),
         Err(lacking) => Err(lacking),

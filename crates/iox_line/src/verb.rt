@@ -4,7 +4,7 @@ ghost use Rattle.iox_line.specs.Words.{same};
 ghost use Rattle.iox_line.specs.Verbs.{verb_of, seldom_verb_of, service_verb_of};
 
 /// What a line asks for. This port's own.
-#[derive(Clone, Copy, Debug, PartialEq, Eq)]
+#[derive(Clone, Copy)]
 pub enum Verb {
     /// `node`
     Node,
@@ -49,7 +49,7 @@ pub enum Verb {
 }
 
 /// What a line asks for that names a service. This port's own.
-#[derive(Clone, Copy, Debug, PartialEq, Eq)]
+#[derive(Clone, Copy)]
 pub enum ServiceVerb {
     /// `create`
     Create,

@@ -54,7 +54,7 @@ pub enum LookAnswer {
 }
 
 /// What comes of locking a hash, so that the caller alone may create its service.
-#[derive(Clone, Copy, Debug, PartialEq, Eq)]
+#[derive(Clone, Copy, PartialEq, Eq)]
 pub enum LockAnswer {
     /// The caller has the lock, and the service to create has this number.
     Taken(u64),
@@ -71,7 +71,7 @@ pub enum LockAnswer {
 }
 
 /// What comes of making the segment of a service, in which its nodes are registered.
-#[derive(Clone, Copy, Debug, PartialEq, Eq)]
+#[derive(Clone, Copy, PartialEq, Eq)]
 pub enum MakeSegmentAnswer {
     /// It is made, and the caller registered.
     Made,
@@ -82,7 +82,7 @@ pub enum MakeSegmentAnswer {
 }
 
 /// What comes of publishing a description.
-#[derive(Clone, Copy, Debug, PartialEq, Eq)]
+#[derive(Clone, Copy, PartialEq, Eq)]
 pub enum PublishAnswer {
     /// It stands, and the lock is gone.
     Published,
@@ -93,7 +93,7 @@ pub enum PublishAnswer {
 }
 
 /// What comes of opening the segment of a service.
-#[derive(Clone, Copy, Debug, PartialEq, Eq)]
+#[derive(Clone, Copy, PartialEq, Eq)]
 pub enum OpenSegmentAnswer {
     /// The caller is registered.
     Registered,
@@ -112,7 +112,7 @@ pub enum OpenSegmentAnswer {
 }
 
 /// What a leave left.
-#[derive(Clone, Copy, Debug, PartialEq, Eq)]
+#[derive(Clone, Copy, PartialEq, Eq)]
 pub enum LeaveAnswer {
     /// Some node is still registered.
     Stays,
@@ -121,7 +121,7 @@ pub enum LeaveAnswer {
 }
 
 /// What comes of removing a description or a segment.
-#[derive(Clone, Copy, Debug, PartialEq, Eq)]
+#[derive(Clone, Copy, PartialEq, Eq)]
 pub enum RemoveAnswer {
     /// It is gone.
     Removed,

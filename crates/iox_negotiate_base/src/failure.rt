@@ -1,7 +1,7 @@
 //! Why a service isn't created or opened, whatever its pattern.
 
 /// Why a service isn't created.
-#[derive(Clone, Copy, Debug, PartialEq, Eq)]
+#[derive(Clone, Copy)]
 pub enum CreateFailure {
     /// A service stands.
     AlreadyExists,
@@ -22,7 +22,7 @@ pub enum CreateFailure {
 }
 
 /// Why a service isn't opened; `V` says which clause isn't met.
-#[derive(Clone, Copy, Debug, PartialEq, Eq)]
+#[derive(Clone, Copy)]
 pub enum OpenFailure<V> {
     /// The first clause that isn't met.
     Clause(V),
@@ -45,7 +45,7 @@ pub enum OpenFailure<V> {
 }
 
 /// Why a service is neither opened nor created.
-#[derive(Clone, Copy, Debug, PartialEq, Eq)]
+#[derive(Clone, Copy)]
 pub enum OpenOrCreateFailure<V> {
     /// There is one, which isn't opened.
     Open(OpenFailure<V>),

@@ -21,7 +21,7 @@ pub enum Sight {
 }
 
 /// Why a look doesn't show what stands.
-#[derive(Clone, Copy, Debug, PartialEq, Eq)]
+#[derive(Clone, Copy)]
 pub enum SightFailure {
     /// Another is about to create the service.
     HangsInCreation,

@@ -7,7 +7,7 @@ ghost use Rattle.iox_queues_steps.specs.Access.{RingWords, word_of, after_store,
 use std::marker::Model;
 
 /// A shared word of a ring.
-#[derive(Clone, Copy, Debug, PartialEq, Eq)]
+#[derive(Clone, Copy)]
 pub enum Word {
     /// How many numbers were put so far: the position of the next one.
     Write,
@@ -18,7 +18,7 @@ pub enum Word {
 }
 
 /// What a step does with the shared words.
-#[derive(Clone, Copy, Debug, PartialEq, Eq)]
+#[derive(Clone, Copy)]
 pub enum Access {
     /// Reads the word; the answer is what it holds.
     Load(Word),
@@ -31,7 +31,7 @@ pub enum Access {
 }
 
 /// The words of a ring: two positions, and cells that the positions go round.
-#[derive(Debug, Drop)]
+#[derive(Drop)]
 pub struct Ring {
     cells: Vec<u64>,
     write: u64,

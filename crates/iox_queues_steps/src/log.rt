@@ -9,7 +9,7 @@ use crate::schedule::Event;
 use std::alloc::{AllocError, Global};
 
 /// The order so far, the steps so far, and how many there were.
-#[derive(Debug, Drop)]
+#[derive(Drop)]
 pub struct Record {
     pub order: Vec<Placed>,
     pub events: Vec<Event>,

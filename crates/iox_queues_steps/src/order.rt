@@ -36,7 +36,7 @@ pub struct Placed {
 }
 
 /// A finished push: its first and its last moment.
-#[derive(Clone, Copy, Debug, PartialEq, Eq)]
+#[derive(Clone, Copy)]
 pub struct PushCall {
     pub value: u64,
     pub answer: PushAnswer,
@@ -45,7 +45,7 @@ pub struct PushCall {
 }
 
 /// A finished pop or look: its first and its last moment.
-#[derive(Clone, Copy, Debug, PartialEq, Eq)]
+#[derive(Clone, Copy)]
 pub struct PopCall {
     pub answer: PopAnswer,
     pub first: u64,

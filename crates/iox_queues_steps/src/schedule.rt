@@ -5,14 +5,14 @@ ghost use Rattle.iox_queues_steps.specs.Schedule.{count_of, is_stopped_of};
 use crate::access::Access;
 
 /// An end of a ring.
-#[derive(Clone, Copy, Debug, PartialEq, Eq)]
+#[derive(Clone, Copy)]
 pub enum Party {
     Producer,
     Consumer,
 }
 
 /// A call that an end may begin.
-#[derive(Clone, Copy, Debug, PartialEq, Eq)]
+#[derive(Clone, Copy, PartialEq, Eq)]
 pub enum Call {
     Push(u64),
     Pop,
@@ -21,7 +21,7 @@ pub enum Call {
 }
 
 /// One step: to begin a call, or to go on inside one.
-#[derive(Clone, Copy, Debug, PartialEq, Eq)]
+#[derive(Clone, Copy)]
 pub enum Move {
     Begin(Call),
     GoOn(Party),
@@ -60,7 +60,7 @@ impl Stepped {
 }
 
 /// A step that was made.
-#[derive(Clone, Copy, Debug, PartialEq, Eq)]
+#[derive(Clone, Copy)]
 pub struct Event {
     pub party: Party,
     pub access: Access,

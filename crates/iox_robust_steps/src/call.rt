@@ -13,7 +13,7 @@ const LOCK_MARK: u64 = u64::MAX;
 const RESERVED: u64 = 1 << 63;
 
 /// A call that a party may begin.
-#[derive(Clone, Copy, Debug, PartialEq, Eq)]
+#[derive(Clone, Copy)]
 pub enum Call {
     /// Takes a free index for this owner; it looks at the lowest first.
     Acquire(u64),
@@ -24,7 +24,7 @@ pub enum Call {
 }
 
 /// What a call answered.
-#[derive(Clone, Copy, Debug, PartialEq, Eq)]
+#[derive(Clone, Copy, PartialEq, Eq)]
 pub enum Answer {
     /// An acquire took this index, or was refused.
     Acquired(Result<u64, UniqueIndexSetAcquireFailure>),
@@ -33,7 +33,7 @@ pub enum Answer {
 }
 
 /// Where a call stands. Between its begin and `Done` each stage is one access.
-#[derive(Clone, Copy, Debug, PartialEq, Eq)]
+#[derive(Clone, Copy)]
 pub enum RobustCall {
     Idle,
     /// An acquire looks at the count.

@@ -14,14 +14,14 @@ use std::alloc::{AllocError, Global};
 use std::marker::Model;
 
 /// One step: a party begins a call, or goes on inside one.
-#[derive(Clone, Copy, Debug, PartialEq, Eq)]
+#[derive(Clone, Copy)]
 pub enum MemberMove {
     Begin(usize, MemberCall),
     GoOn(usize),
 }
 
 /// A call that ended: its first and its last step, by their number among the steps made.
-#[derive(Clone, Copy, Debug, PartialEq, Eq)]
+#[derive(Clone, Copy)]
 pub struct MemberFinished {
     pub party: usize,
     pub call: MemberCall,
@@ -52,7 +52,7 @@ pub struct MemberFinished {
 /// index of an addition, but one that a recovery takes out in time, and the one that is removed is in; and from then on the other way
 /// round. Till the call ends no recovery takes out what was added, unless the recovery of its owner began. Each call lets pass by its own
 /// steps just what it answers.
-#[derive(Debug, Drop)]
+#[derive(Drop)]
 pub struct ContainerMachine {
     state: MemberState,
 }

@@ -10,7 +10,7 @@ use std::alloc::{AllocError, Global};
 use std::marker::Model;
 
 /// One step: a party begins a call, or goes on inside one.
-#[derive(Clone, Copy, Debug, PartialEq, Eq)]
+#[derive(Clone, Copy)]
 pub enum Move {
     Begin(usize, Call),
     GoOn(usize),
@@ -19,7 +19,7 @@ pub enum Move {
 }
 
 /// A call that ended: its first and its last step, by their number among the steps made.
-#[derive(Clone, Copy, Debug, PartialEq, Eq)]
+#[derive(Clone, Copy)]
 pub struct Finished {
     pub party: usize,
     pub call: Call,
@@ -37,7 +37,7 @@ pub struct Finished {
 /// of an index lies its release or recovery, of a locked set no index is out, only a call that was to lock it locked it, it stays locked,
 /// by its own steps an acquire took just the index that it answers, a release gave back just its own, and what was refused took none; and
 /// a recovery left its owner no index that it was to free. It freed nothing else, at any step, however many were made.
-#[derive(Debug, Drop)]
+#[derive(Drop)]
 pub struct RobustSetMachine {
     state: State,
 }

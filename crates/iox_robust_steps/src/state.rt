@@ -13,14 +13,14 @@ use iox_queues_steps::{Access, Ring, Stepped, Word};
 use std::alloc::{AllocError, Global};
 
 /// Where a party stands, and the number of its call's first step.
-#[derive(Clone, Copy, Debug, PartialEq, Eq)]
+#[derive(Clone, Copy)]
 pub struct Seat {
     pub stage: RobustCall,
     pub first: u64,
 }
 
 /// How far an index is taken, and by which party.
-#[derive(Clone, Copy, Debug, PartialEq, Eq)]
+#[derive(Clone, Copy)]
 pub enum Place {
     Empty,
     /// The party reserved the cell.
@@ -31,7 +31,7 @@ pub enum Place {
     Held(usize),
 }
 
-#[derive(Debug, Drop)]
+#[derive(Drop)]
 pub(crate) struct State {
     pub(crate) capacity: u64,
     // What recoveries decide on each index, by the number of a list of answers.

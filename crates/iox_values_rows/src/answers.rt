@@ -1,6 +1,6 @@
 //! Answers of helpers, which a test holds.
 use std::alloc::{AllocError, Global};
-use std::fmt::{Debug, Display};
+use std::fmt::Debug;
 use std::process::Abort;
 
 /// Each answer must be true.
@@ -36,17 +36,4 @@ pub(crate) fn are_refused(rt: &impl Abort, answers: &[Result<usize, AllocError>]
 /// Whether the value is debugged so.
 pub(crate) fn is_shown<T: Debug>(alloc: Global, value: &T, text: &str) -> Result<bool, AllocError> {
     Ok(format!(in alloc; "{value:?}")?.as_str() == text)
-}
-
-/// Whether each is displayed as its text.
-pub(crate) fn are_displayed<T: Display>(
-    alloc: Global,
-    rows: &[(T, &str)],
-) -> Result<bool, AllocError> {
-    for row in rows {
-        if format!(in alloc; "{}", row.0)?.as_str() != row.1 {
-            return Ok(false);
-        }
-    }
-    Ok(true)
 }

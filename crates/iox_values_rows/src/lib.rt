@@ -6,6 +6,7 @@
 //! - `containers`: strings, vectors, queues, maps, cells and tables of numbers.
 //! - `queues`: rings, bit sets, sets of indices and containers of members.
 //! - `agreement`: what nodes agree on, and what is said about it, held against rows from outside.
+//! - `texts`: what errors display as.
 //! - `answers`: answers of helpers, which a test holds.
 #![tactic(auto)]
 
@@ -17,3 +18,5 @@ mod answers;
 mod containers;
 #[cfg(test)]
 mod queues;
+#[cfg(test)]
+mod texts;

@@ -6,7 +6,7 @@ use std::alloc::{AllocError, Global};
 use std::marker::Model;
 
 /// A step on one byte of a cell.
-#[derive(Clone, Copy, Debug, PartialEq, Eq)]
+#[derive(Clone, Copy, Debug)]
 pub enum ByteStep {
     /// Store a byte at a place.
     Store(usize, u8),
@@ -16,7 +16,7 @@ pub enum ByteStep {
 }
 
 /// What a byte step answers.
-#[derive(Clone, Copy, Debug, PartialEq, Eq)]
+#[derive(Clone, Copy, Debug)]
 pub enum ByteAnswer {
     /// The byte was stored.
     Stored,

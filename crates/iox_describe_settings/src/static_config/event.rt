@@ -69,7 +69,7 @@ impl StaticConfig {
 }
 
 /// A setting of an event service.
-#[derive(Clone, Copy, Debug, PartialEq, Eq)]
+#[derive(Clone, Copy)]
 pub enum Setting {
     /// `deadline`
     Deadline,

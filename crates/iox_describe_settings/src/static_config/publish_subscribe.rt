@@ -82,7 +82,7 @@ impl StaticConfig {
 }
 
 /// A setting of a publish-subscribe service.
-#[derive(Clone, Copy, Debug, PartialEq, Eq)]
+#[derive(Clone, Copy)]
 pub enum Setting {
     /// `enable_safe_overflow`
     EnableSafeOverflow,

@@ -82,7 +82,7 @@ impl StaticConfig {
 }
 
 /// A setting of a request-response service.
-#[derive(Clone, Copy, Debug, PartialEq, Eq)]
+#[derive(Clone, Copy)]
 pub enum Setting {
     /// `enable_fire_and_forget_requests`
     EnableFireAndForgetRequests,

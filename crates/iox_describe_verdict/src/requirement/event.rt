@@ -49,7 +49,7 @@ pub enum ClauseError {
 }
 
 /// What an opener requires of an event service. A setting that is `None` was not named, and is not tested.
-#[derive(Debug, Drop)]
+#[derive(Drop)]
 pub struct Requirement {
     /// The attributes that it must have.
     pub attributes: AttributeVerifier,

@@ -53,7 +53,7 @@ pub enum ClauseError {
 }
 
 /// What an opener requires of a publish-subscribe service. A setting that is `None` was not named, and is not tested.
-#[derive(Debug, Drop)]
+#[derive(Drop)]
 pub struct Requirement {
     /// Types that the service's must be compatible to.
     pub types: MessageTypeDetails,

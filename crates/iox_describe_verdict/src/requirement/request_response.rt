@@ -62,7 +62,7 @@ pub enum ClauseError {
 }
 
 /// What an opener requires of a request-response service. A setting that is `None` was not named, and is not tested.
-#[derive(Debug, Drop)]
+#[derive(Drop)]
 pub struct Requirement {
     /// Types that the service's must be compatible to.
     pub request_types: MessageTypeDetails,

@@ -18,7 +18,7 @@ use iox_domain_values::{
 use std::alloc::{AllocError, Global};
 
 /// What a publisher is made with.
-#[derive(Clone, Copy, Debug, PartialEq, Eq)]
+#[derive(Clone, Copy)]
 pub struct PublisherConfig {
     /// Who it belongs to.
     pub owner: PortOwner,
@@ -35,7 +35,7 @@ pub struct PublisherConfig {
 }
 
 /// What a subscriber is made with.
-#[derive(Clone, Copy, Debug, PartialEq, Eq)]
+#[derive(Clone, Copy)]
 pub struct SubscriberConfig {
     /// Who it belongs to.
     pub owner: PortOwner,

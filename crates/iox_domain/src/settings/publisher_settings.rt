@@ -7,7 +7,7 @@ use iox_domain_values::{AllocationStrategy, BackpressureStrategy};
 /// What a publisher is made with, beside its handlers.
 ///
 /// Ported from `iceoryx2::service::port_factory::publisher::LocalPublisherConfig`.
-#[derive(Clone, Copy, Debug, PartialEq, Eq)]
+#[derive(Clone, Copy, Debug)]
 pub struct PublisherSettings {
     /// How many loans may be out at once.
     pub max_loaned_samples: usize,

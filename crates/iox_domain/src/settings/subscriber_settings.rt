@@ -8,7 +8,7 @@ use iox_domain_values::{ServiceSizes, SubscriberCreateError};
 /// What a subscriber is made with, beside its handler.
 ///
 /// Ported from `iceoryx2::service::port_factory::subscriber::SubscriberConfig`.
-#[derive(Clone, Copy, Debug, PartialEq, Eq)]
+#[derive(Clone, Copy, Debug)]
 pub struct SubscriberSettings {
     /// How many messages of one publisher may wait for it; as many as the service allows where none is named.
     pub buffer_size: Option<usize>,

@@ -1,6 +1,6 @@
 //! What a recorded hub comes to, in other words than its calls. Each law is the contract of a function that does nothing.
 ghost use Rattle.iox_machine.specs.Choices.{as_named};
-ghost use Rattle.iox_hub.specs.RecordedLaws.{DecidesForCalls, ReadsAreFollowed, ReadsAsReceived};
+ghost use Rattle.iox_hub.specs.RecordedLaws.{AsAskedIsMet, DecidesForCalls, ReadsAreFollowed, ReadsAsReceived};
 
 use iox_domain_values::{Decides, Degrades};
 use iox_hub_commands::{FixedDegradation, FixedHandlers, PublisherHandlers, SubscriberHandler};
@@ -32,3 +32,10 @@ pub fn fixed_actions_decide_for_calls<T>()
 {
     fixed_actions_are_answered();
 }
+
+/// What is agreed of a service is as it was asked for, in the machine's words: so `RecordedHub::open_or_create` says it. Then it is so in
+/// the code's words: it meets each clause of the requirement and is within the limits of a description, or it is just what is required.
+/// The premise is that the description has the form of one, as `PortFactory::description` says.
+pub fn what_is_as_asked_is_met()
+    ensures { AsAskedIsMet }
+{}

@@ -3,6 +3,7 @@ ghost use Rattle.std.specs.Prelude.{◌≡◌, ◌+◌, ◌<◌, ◌^◌, ◌++�
 ghost use Rattle.std.specs.Prelude.{MatchResult, length};
 ghost use Rattle.std.specs.List.{AllByRecursion};
 ghost use Rattle.std.specs.Global.{Vec};
+ghost use Rattle.std.specs.Option.{option_map, option_map_or, unwrap_or};
 ghost use Rattle.std.specs.Result.{result_ok};
 ghost use Rattle.std.specs.Vec.{vec_items};
 ghost use Rattle.iox_command.specs.declared.command.Command.TheVariants as command;
@@ -11,19 +12,18 @@ ghost use Rattle.iox_command.specs.declared.reply.Reply.TheVariants as reply;
 ghost use Rattle.iox_command.specs.declared.refusal.Refusal.TheVariants as refusal;
 ghost use Rattle.iox_command.specs.declared.service.ServiceOptions.TheVariants as service_options;
 ghost use Rattle.iox_container.specs.NumberTable.{inserted, removed, value_at};
+ghost use Rattle.iox_delivery.specs.declared.sent.Sent.TheVariants as sent;
 ghost use Rattle.iox_hub_commands.specs.Asked.{types_of};
-ghost use Rattle.iox_hub_commands.specs.Replies.{given_up_reply};
 ghost use Rattle.iox_hub_commands.specs.DescribeSettings.declared.static_config.Settings.TheVariants as settings;
+ghost use Rattle.iox_hub_commands.specs.DomainValues.declared.backpressure_strategy.BackpressureStrategy.TheVariants.{RetryUntilDelivered};
 ghost use Rattle.iox_hub_commands.specs.DescribeSettings.declared.static_config.publish_subscribe.StaticConfig.{StaticConfig};
-ghost use Rattle.iox_hub_commands.specs.Tables.{no_numbers, port_under};
+ghost use Rattle.iox_hub_commands.specs.Tables.{no_numbers};
 ghost use Rattle.iox_hub_commands.specs.declared.services.made.MadeFactory.TheVariants as made_factory;
 ghost use Rattle.iox_machine.specs.Choices.{as_named};
 ghost use Rattle.iox_machine.specs.Run.{Answers};
 ghost use Rattle.iox_hub.specs.Recorded.{AreFollowed, asked_too};
 ghost use Rattle.iox_hub.specs.RecordedCalls.{IsAsAsked, IsReceived, KeepNumbers, answered_as, told_send};
 ghost use Rattle.iox_hub.specs.RecordedLaws.{WasPut};
-ghost use Rattle.iox_hub.specs.RecordedNames.{WaitsAt};
-ghost use Rattle.iox_hub.specs.RecordedNames.{publisher_side, subscriber_side};
 
 use crate::recorded::calls;
 use crate::recorded::history::History;
@@ -46,7 +46,7 @@ use iox_hub_machine::typed::{
     typed_receives_are_steps, typed_samples_are_read_by_steps, typed_sends_go_on_by_steps,
     typed_subscribers_come_by_steps, typed_subscribers_follow_by_steps, what_is_held_may_be_used,
 };
-use iox_machine::messages_were_sent;
+use iox_machine::{received_was_sent, samples_read_the_same};
 use iox_negotiate_base::errors::PublishSubscribeOpenOrCreateError;
 use iox_queues_base::Words;
 use std::alloc::Global;
@@ -223,7 +223,10 @@ impl<
             (publisher.number.value ≡ self.old.calls.made.publishers.next)
             × (value_at self.new.calls.made.publishers publisher.number.value
             ≡ Some (record { port = publisher.it.port; holds_slices = true }))
-            × (publisher.it.side ≡ publisher_side options.now))) }
+            × (publisher.it.side ≡ record {
+              strategy = unwrap_or options.now.backpressure_strategy RetryUntilDelivered;
+              initial_max_slice_len = unwrap_or options.now.initial_max_slice_len 1;
+            }))) }
     {
         let domain = calls::domain_of(&factory.it);
         let number = Number::given(&self.history);
@@ -272,7 +275,7 @@ impl<
         ensures side { (most : StaticConfig)
             → factory.now.it.service.membership.service.description.settings ≡ settings.PublishSubscribe most
             → IfSome result (λ answer. IfOk answer (λ subscriber.
-            subscriber.it.side ≡ subscriber_side most.subscriber_max_buffer_size options.now)) }
+            subscriber.it.side ≡ record { buffer_size = unwrap_or options.now.buffer_size most.subscriber_max_buffer_size })) }
     {
         let domain = calls::domain_of(&factory.it);
         let number = Number::given(&self.history);
@@ -304,9 +307,13 @@ impl<
         publisher: &Named<slice::Publisher<T, U>>,
         values: &[T],
     ) -> Option<Result<Sent<T, U>, SendError>>
-        requires { port_under (value_at self.old.calls.made.publishers publisher.now.number.value) ≡ Some publisher.now.it.port }
+        requires { option_map (λ made. made.port) (value_at self.old.calls.made.publishers publisher.now.number.value)
+            ≡ Some publisher.now.it.port }
         ensures sent { self.new.calls ≡ asked_too (command.Put publisher.now.number.value values.now) (told_send result) self.old.calls }
-        ensures waits { IfSome result (λ answer. IfOk answer (WaitsAt publisher.now.it.port)) }
+        ensures waits { IfSome result (λ answer. IfOk answer (λ came. elim came [
+          | sent.Delivered count ↦ Unit {0}
+          | sent.Blocked blocked ↦ blocked.port ≡ publisher.now.it.port
+        ])) }
     {
         typed_calls_are_a_run::<T, U, B, D>();
         typed_puts_are_steps::<T, U, Slice, B, D>();
@@ -326,11 +333,15 @@ impl<
         blocked: BlockedSend<T, U>,
         elapsed_ns: u64,
     ) -> Result<Result<Sent<T, U>, SendError>, BlockedSend<T, U>>
-        requires made { port_under (value_at self.old.calls.made.publishers publisher.now.number.value) ≡ Some publisher.now.it.port }
+        requires made { option_map (λ made. made.port) (value_at self.old.calls.made.publishers publisher.now.number.value)
+            ≡ Some publisher.now.it.port }
         requires waits { blocked.port ≡ publisher.now.it.port }
         ensures sent { self.new.calls ≡ asked_too (command.Retry publisher.now.number.value elapsed_ns) (told_send (result_ok result))
             self.old.calls }
-        ensures waits { MatchResult result (λ answer. IfOk answer (WaitsAt publisher.now.it.port)) (λ back. back ≡ blocked) }
+        ensures waits { MatchResult result (λ answer. IfOk answer (λ came. elim came [
+          | sent.Delivered count ↦ Unit {0}
+          | sent.Blocked waiting ↦ waiting.port ≡ publisher.now.it.port
+        ])) (λ back. back ≡ blocked) }
     {
         typed_calls_are_a_run::<T, U, B, D>();
         typed_sends_go_on_by_steps::<T, U, Slice, B, D>();
@@ -348,9 +359,11 @@ impl<
         publisher: &Named<slice::Publisher<T, U>>,
         blocked: BlockedSend<T, U>,
     ) -> Option<usize>
-        requires made { port_under (value_at self.old.calls.made.publishers publisher.now.number.value) ≡ Some publisher.now.it.port }
+        requires made { option_map (λ made. made.port) (value_at self.old.calls.made.publishers publisher.now.number.value)
+            ≡ Some publisher.now.it.port }
         requires waits { blocked.port ≡ publisher.now.it.port }
-        ensures given_up { self.new.calls ≡ asked_too (command.GiveUp publisher.now.number.value) (given_up_reply result) self.old.calls }
+        ensures given_up { self.new.calls ≡ asked_too (command.GiveUp publisher.now.number.value)
+            (option_map_or (λ count. reply.Delivered count) result reply.Skipped) self.old.calls }
     {
         typed_calls_are_a_run::<T, U, B, D>();
         typed_sends_go_on_by_steps::<T, U, Slice, B, D>();
@@ -389,8 +402,9 @@ impl<
         calls::received_with_number(answer, number)
     }
 
-    /// The values of a sample that is held: what the command `Read` is answered. They were put before, and that send began. None where the
-    /// sample isn't held: never by `AreFollowed`, whatever ports left. No call is recorded.
+    /// The values of a sample that is held: what the command `Read` is answered. They were put before, by a publisher of the subscriber's
+    /// own service, and that send began. None where the sample isn't held: never by `AreFollowed`, whatever ports left. No call is
+    /// recorded.
     /// Example: `let values = hub.payload(&sample)?;`
     pub fn payload(&self, sample: &Named<slice::Sample<T, U>>) -> Option<&[T]>
         requires { value_at self.now.calls.made.samples sample.now.number.value
@@ -408,14 +422,17 @@ impl<
         ensures put { IfSome result (λ values. AreFollowed B.fixed (λ handlers. B.degrades handlers) (λ handlers. B.decides handlers)
             D.fixed (λ handler. D.degrades handler)
             (record self.now.calls { asked = self.now.calls.asked ++ command.Read sample.now.number.value ∷ [] })
-            → length values.now < 2 ^ 63 → WasPut values.now self.now.calls.asked self.now.calls.answers) }
+            → length values.now < 2 ^ 63 → WasPut (types_of T.name T.size T.alignment U.name U.size U.alignment)
+            (as_named T.is_default) self.now.calls.config.expired_connection_buffer sample.now.number.value values.now
+            self.now.calls.asked self.now.calls.answers) }
         ensures held { AreFollowed B.fixed (λ handlers. B.degrades handlers) (λ handlers. B.decides handlers) D.fixed
             (λ handler. D.degrades handler) self.now.calls → IsSome result }
     {
         typed_calls_are_a_run::<T, U, B, D>();
         typed_samples_are_read_by_steps::<T, U, Slice, B, D>();
         what_is_held_may_be_used::<T, U, B, D>();
-        messages_were_sent::<T, FixedHandlers, FixedDegradation>();
+        received_was_sent::<T, FixedHandlers, FixedDegradation>();
+        samples_read_the_same::<T, FixedHandlers, FixedDegradation>();
         if !sample.it.holds(&self.hub) {
             return None;
         }
@@ -474,7 +491,8 @@ impl<
         &mut self,
         publisher: Named<slice::Publisher<T, U>>,
     ) -> Result<(), Named<slice::Publisher<T, U>>>
-        requires { port_under (value_at self.old.calls.made.publishers publisher.number.value) ≡ Some publisher.it.port }
+        requires { option_map (λ made. made.port) (value_at self.old.calls.made.publishers publisher.number.value)
+            ≡ Some publisher.it.port }
         ensures back { IfErr result (λ back. back ≡ publisher) }
         ensures left { MatchResult result
             (λ done. self.new.calls

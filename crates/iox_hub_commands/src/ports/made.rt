@@ -13,7 +13,7 @@ use iox_domain_ports::Taken;
 use std::alloc::Global;
 
 /// A publisher, and whether its messages are slices.
-#[derive(Clone, Copy, Debug, PartialEq, Eq)]
+#[derive(Clone, Copy)]
 pub struct MadePublisher {
     /// Which port it is.
     pub port: PortId,
@@ -22,7 +22,7 @@ pub struct MadePublisher {
 }
 
 /// A loan that is out.
-#[derive(Clone, Copy, Debug, PartialEq, Eq)]
+#[derive(Clone, Copy)]
 pub struct MadeLoan {
     /// Of which publisher.
     pub port: PortId,
@@ -31,7 +31,7 @@ pub struct MadeLoan {
 }
 
 /// A sample that is held.
-#[derive(Clone, Copy, Debug, PartialEq, Eq)]
+#[derive(Clone, Copy)]
 pub struct MadeSample {
     /// By which subscriber.
     pub port: PortId,

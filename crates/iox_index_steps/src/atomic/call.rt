@@ -10,14 +10,14 @@ use iox_queues::values::word_of;
 use iox_queues_steps::{Access, Word};
 
 /// A call that a party may begin: a store of the value of this number, or a load.
-#[derive(Clone, Copy, Debug, PartialEq, Eq)]
+#[derive(Clone, Copy)]
 pub enum Call {
     Store(usize),
     Load,
 }
 
 /// Where a call stands. Between its begin and `Done` it makes one access after the other.
-#[derive(Clone, Copy, Debug, PartialEq, Eq)]
+#[derive(Clone, Copy)]
 pub enum AtomicCall {
     Idle,
     /// A store of this value looks at the counter.

@@ -15,13 +15,13 @@ use iox_queues_steps::{Access, Ring, Stepped};
 use std::alloc::{AllocError, Global};
 
 /// Where a party stands, and the number of its call's first step.
-#[derive(Clone, Copy, Debug, PartialEq, Eq)]
+#[derive(Clone, Copy)]
 pub struct Seat {
     pub stage: AtomicCall,
     pub first: u64,
 }
 
-#[derive(Debug, Drop)]
+#[derive(Drop)]
 pub(crate) struct State {
     // The values that may be stored; the first is current at first, and each of as many words as it.
     pub(crate) values: Vec<Vec<u64>>,

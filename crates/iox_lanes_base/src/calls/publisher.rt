@@ -82,7 +82,7 @@ pub enum PublisherCall {
 }
 
 /// What a step changes of what a publisher keeps for itself.
-#[derive(Clone, Copy, Debug, PartialEq, Eq)]
+#[derive(Clone, Copy)]
 pub enum PublisherChange {
     Nothing,
     /// A free slot is lent, if there is one and fewer loans are out than may be.

@@ -5,7 +5,7 @@ ghost use Rattle.iox_lanes_base.specs.Routes.{known_as, rerouted};
 use iox_queues_steps::rings::RingKind;
 
 /// A connection: its number, and the sizes of its two rings.
-#[derive(Clone, Copy, Debug, PartialEq, Eq)]
+#[derive(Clone, Copy)]
 pub struct Route {
     /// The number of the connection.
     pub connection: u64,

@@ -24,7 +24,7 @@ pub enum Receipt {
 }
 
 /// How many words the user header and the payload of a slot have.
-#[derive(Clone, Copy, Debug, PartialEq, Eq)]
+#[derive(Clone, Copy)]
 pub struct SlotExtent {
     /// How many words the user header has.
     pub user_header_words: u64,
@@ -71,7 +71,7 @@ pub enum SubscriberCall {
 }
 
 /// What a step changes of what a subscriber keeps for itself.
-#[derive(Clone, Copy, Debug, PartialEq, Eq)]
+#[derive(Clone, Copy)]
 pub enum SubscriberChange {
     Nothing,
     /// The slot is borrowed of the connection at this place.

@@ -6,7 +6,7 @@ use crate::words::word::{ConnectionRing, SharedWord};
 use iox_queues_steps::{Access, Word};
 
 /// What a step does with the shared words: it touches at most one of them.
-#[derive(Clone, Copy, Debug, PartialEq, Eq)]
+#[derive(Clone, Copy)]
 pub enum SharedAccess {
     /// Reads the word; the answer is what it holds.
     Load(SharedWord),

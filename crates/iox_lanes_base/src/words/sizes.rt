@@ -7,7 +7,7 @@ use crate::words::word::{ConnectionRing, SharedWord, SlotWord};
 use iox_queues_steps::Word;
 
 /// How many connections and slots a service has, and how many words each of them.
-#[derive(Clone, Copy, Debug, PartialEq, Eq)]
+#[derive(Clone, Copy)]
 pub struct TableSizes {
     /// How many connections there are.
     pub connections: u64,

@@ -10,7 +10,7 @@ use std::alloc::{AllocError, Global};
 use std::marker::Model;
 
 /// The shared words of a service, all in one table.
-#[derive(Debug, Drop)]
+#[derive(Drop)]
 pub struct WordTable {
     sizes: TableSizes,
     words: Vec<u64>,

@@ -2,7 +2,7 @@
 use iox_queues_steps::Word;
 
 /// A ring of a connection.
-#[derive(Clone, Copy, Debug, PartialEq, Eq)]
+#[derive(Clone, Copy)]
 pub enum ConnectionRing {
     /// The messages that the publisher sent: the numbers of their slots.
     Submission,
@@ -11,7 +11,7 @@ pub enum ConnectionRing {
 }
 
 /// A word of a slot.
-#[derive(Clone, Copy, Debug, PartialEq, Eq)]
+#[derive(Clone, Copy)]
 pub enum SlotWord {
     /// A word of the header: 0, 1 or 2.
     Header(u64),
@@ -23,7 +23,7 @@ pub enum SlotWord {
 }
 
 /// A shared word of a service. Connections are numbered from 0 on, and so are the slots of all its publishers.
-#[derive(Clone, Copy, Debug, PartialEq, Eq)]
+#[derive(Clone, Copy)]
 pub enum SharedWord {
     /// A word of a ring; of a cell the number is below that of the ring's cells.
     Ring {

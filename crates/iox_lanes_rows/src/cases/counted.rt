@@ -1,5 +1,8 @@
 //! A schedule that lanes run at once: how many of its entries are made, and in which order the messages stand.
 use crate::answers::hold;
+use crate::lanes::write;
+use crate::recorded::Recorded;
+use crate::stepping::Stepping;
 use iox_lanes::{
     Act, Call, Entry, LaneSizes, Lanes, Move, Party, Placed, PopAnswer, PushAnswer, RecordedLanes,
     RingKind,
@@ -46,12 +49,7 @@ fn ask_send(
     loan: u64,
     value: u64,
 ) -> Result<(), AllocError> {
-    let payload = Vec::from_slice(alloc, &[value])?;
-    let write = Call::Write {
-        loan,
-        payload,
-        user_header: Vec::new(alloc),
-    };
+    let write = write(alloc, loan, &[], &[value])?;
     ask(schedule, PUBLISHER, Call::LoanUninit)?;
     ask(schedule, PUBLISHER, write)?;
     ask(schedule, PUBLISHER, Call::Send { loan })
@@ -95,23 +93,24 @@ const ORDER: [Placed; 3] = [
 ];
 
 // Whether lanes run it so.
-fn runs(mut lanes: Lanes, schedule: &[Entry]) -> bool {
+fn runs<L: Stepping>(lanes: &mut L, schedule: &[Entry]) -> bool {
     lanes.run(schedule) == MADE && lanes.order(0) == ORDER.as_slice()
 }
 
-// Whether lanes that keep messages do, and keep both.
-fn records(mut lanes: RecordedLanes, schedule: &[Entry]) -> bool {
-    lanes.run(schedule) == MADE
-        && lanes.lanes().order(0) == ORDER.as_slice()
-        && lanes.len() == 2
-        && lanes.number(0, 1) == Some(1)
-        && lanes.number(0, 2) == Some(0)
+// Whether lanes that keep messages keep both.
+fn keep<L: Recorded>(lanes: &L) -> bool {
+    lanes.count() == 2 && [lanes.numbered(0, 1), lanes.numbered(0, 2)] == [Some(1), Some(0)]
+}
+
+// Whether such lanes run it so, and keep both.
+fn records(alloc: Global, schedule: &[Entry]) -> Result<bool, AllocError> {
+    let mut lanes = RecordedLanes::new(alloc, Lanes::new(alloc, SIZES)?);
+    Ok(runs(&mut lanes, schedule) && keep(&lanes))
 }
 
 fn both_go(alloc: Global) -> Result<bool, AllocError> {
     let schedule = scheduled(alloc)?;
-    let recorded = RecordedLanes::new(alloc, Lanes::new(alloc, SIZES)?);
-    Ok(runs(Lanes::new(alloc, SIZES)?, &schedule) && records(recorded, &schedule))
+    Ok(runs(&mut Lanes::new(alloc, SIZES)?, &schedule) && records(alloc, &schedule)?)
 }
 
 #[test]

@@ -1,5 +1,5 @@
 //! Errors of lanes and threads of a domain, as they display.
-use crate::answers::hold;
+use crate::answers::{display, hold};
 use iox_lanes::{EndError, IntoDomainError, OpenError};
 use std::alloc::{AllocError, Global};
 
@@ -17,35 +17,8 @@ const OPEN: [(OpenError, &str); 4] = [
 
 const END: [(EndError, &str); 1] = [(EndError::NotAllPorts, "EndError::NotAllPorts")];
 
-fn into_domain_displays(alloc: Global) -> Result<bool, AllocError> {
-    for row in &INTO_DOMAIN {
-        if format!(in alloc; "{}", row.0)?.as_str() != row.1 {
-            return Ok(false);
-        }
-    }
-    Ok(true)
-}
-
-fn open_displays(alloc: Global) -> Result<bool, AllocError> {
-    for row in &OPEN {
-        if format!(in alloc; "{}", row.0)?.as_str() != row.1 {
-            return Ok(false);
-        }
-    }
-    Ok(true)
-}
-
-fn end_displays(alloc: Global) -> Result<bool, AllocError> {
-    for row in &END {
-        if format!(in alloc; "{}", row.0)?.as_str() != row.1 {
-            return Ok(false);
-        }
-    }
-    Ok(true)
-}
-
 fn all_display(alloc: Global) -> Result<bool, AllocError> {
-    Ok(into_domain_displays(alloc)? && open_displays(alloc)? && end_displays(alloc)?)
+    Ok(display(alloc, &INTO_DOMAIN)? && display(alloc, &OPEN)? && display(alloc, &END)?)
 }
 
 #[test]

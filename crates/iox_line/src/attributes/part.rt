@@ -12,7 +12,7 @@ use std::marker::Model;
 /// A key and a value in a line. Contracts see them as an attribute.
 ///
 /// This port's own.
-#[derive(Debug, Drop)]
+#[derive(Drop)]
 pub struct WrittenPair<'a> {
     key: &'a [u8],
     value: &'a [u8],
@@ -30,7 +30,7 @@ impl<'a> Model for WrittenPair<'a> {
 /// A key in a line. Contracts see it as its bytes.
 ///
 /// This port's own.
-#[derive(Debug, Drop)]
+#[derive(Drop)]
 pub struct WrittenKey<'a> {
     bytes: &'a [u8],
 }

@@ -12,7 +12,7 @@ use iox_describe_base::{MessagingPattern, ServiceName};
 /// A service, as a line names it.
 ///
 /// This port's own.
-#[derive(Debug, Drop)]
+#[derive(Drop)]
 pub struct NamedService<'a> {
     /// The number of the node.
     pub node: u64,

@@ -10,7 +10,7 @@ use iox_command::{ForeignStep, ServiceOptions};
 use iox_describe_base::MessagingPattern;
 
 /// What a step does. This port's own.
-#[derive(Clone, Copy, Debug, PartialEq, Eq)]
+#[derive(Clone, Copy)]
 pub enum StepVerb {
     /// `lock`
     Lock,

@@ -35,3 +35,18 @@ pub fn one<T: Copy>(option: Option<T>) -> usize
         None => 0,
     }
 }
+
+/// The options that words name, each under its key; `None` if a key is set to none of its values, or if the words are not as
+/// many as the options that are named.
+macro_rules! named_options {
+    ($words:ident, $Options:ident { $first:ident: $read:ident($key:literal), $($more:ident: $reads:ident($keys:literal),)* }) => {{
+        let $first = $read($key, $words)?;
+        $(let $more = $reads($keys, $words)?;)*
+        if !$words.are($crate::text::options::one($first) $(+ $crate::text::options::one($more))*) {
+            return None;
+        }
+        Some($Options { $first, $($more),* })
+    }};
+}
+
+pub(crate) use named_options;

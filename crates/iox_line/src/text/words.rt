@@ -9,7 +9,7 @@ use std::marker::Model;
 /// Contracts see them as the list of these words.
 ///
 /// This port's own.
-#[derive(Debug, Drop)]
+#[derive(Drop)]
 pub struct Words<'a> {
     text: Option<&'a [u8]>,
     separator: u8,

@@ -6,7 +6,7 @@ ghost use Rattle.iox_queues.specs.Steps.{found_at, call_begun};
 use iox_queues_steps::{Access, Word};
 
 /// A call that a party may begin.
-#[derive(Clone, Copy, Debug, PartialEq, Eq)]
+#[derive(Clone, Copy)]
 pub enum Call {
     /// Counts the place once more, if its count is not the largest.
     Set(u64),
@@ -17,7 +17,7 @@ pub enum Call {
 }
 
 /// What a call answered.
-#[derive(Clone, Copy, Debug, PartialEq, Eq)]
+#[derive(Clone, Copy, PartialEq, Eq)]
 pub enum Answer {
     /// A set counted its place once more, or found it at the largest count.
     Added(bool),
@@ -28,7 +28,7 @@ pub enum Answer {
 }
 
 /// Where a call stands. Between its begin and `Done` each stage is one access.
-#[derive(Clone, Copy, Debug, PartialEq, Eq)]
+#[derive(Clone, Copy)]
 pub enum SetCall {
     Idle,
     /// Counts a place once more, up to `max`.

@@ -8,14 +8,14 @@ use std::alloc::{AllocError, Global};
 use std::marker::Model;
 
 /// One step: a party begins a call, or goes on inside one.
-#[derive(Clone, Copy, Debug, PartialEq, Eq)]
+#[derive(Clone, Copy)]
 pub enum Move {
     Begin(usize, Call),
     GoOn(usize),
 }
 
 /// A step that was made.
-#[derive(Clone, Copy, Debug, PartialEq, Eq)]
+#[derive(Clone, Copy)]
 pub struct Event {
     pub party: usize,
     pub access: Access,
@@ -23,7 +23,7 @@ pub struct Event {
 }
 
 /// A call that ended: its first and its last step, by their number among the steps made.
-#[derive(Clone, Copy, Debug, PartialEq, Eq)]
+#[derive(Clone, Copy)]
 pub struct Finished {
     pub party: usize,
     pub call: Call,
@@ -38,7 +38,7 @@ pub struct Finished {
 /// is there now; no count passes the largest. What a call that ended did is what it answered, at moments of its own. Each step got
 /// what its word held, and is one that a call asked for. The count of a place changes at just those steps that count it once more
 /// or take it out.
-#[derive(Debug, Drop)]
+#[derive(Drop)]
 pub struct SetMachine {
     state: State,
 }

@@ -11,13 +11,13 @@ use iox_queues_steps::{Access, Ring, Stepped, Word};
 use std::alloc::{AllocError, Global};
 
 /// Where a party stands, and the number of its call's first step.
-#[derive(Clone, Copy, Debug, PartialEq, Eq)]
+#[derive(Clone, Copy)]
 pub struct Seat {
     pub stage: SetCall,
     pub first: u64,
 }
 
-#[derive(Debug, Drop)]
+#[derive(Drop)]
 pub(crate) struct State {
     pub(crate) max: u64,
     pub(crate) ring: Ring,

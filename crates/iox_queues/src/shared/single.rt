@@ -8,7 +8,7 @@ ghost use Rattle.iox_queues.specs.Single.{load_is_over, load_next, load_seen, lo
 use iox_queues_steps::{Access, End, Word};
 
 /// Where a store stands. Each stage before `Stored` is one access.
-#[derive(Clone, Copy, Debug, PartialEq, Eq)]
+#[derive(Clone, Copy)]
 pub enum Storing {
     Begun,
     SawWrite { write: u64 },
@@ -48,7 +48,7 @@ impl End for Storing {
 }
 
 /// Where a load stands. Each stage before `Loaded` is one access.
-#[derive(Clone, Copy, Debug, PartialEq, Eq)]
+#[derive(Clone, Copy)]
 pub enum Loading {
     Begun,
     SawWrite { write: u64 },

@@ -19,7 +19,7 @@ pub enum RingKind {
 }
 
 /// Where a push stands.
-#[derive(Clone, Copy, Debug, PartialEq, Eq)]
+#[derive(Clone, Copy)]
 pub enum Push {
     Overflowing(OverflowingPush),
     Refusing(RefusingPush),
@@ -108,7 +108,7 @@ impl Push {
 }
 
 /// Where a pop stands, or a look that only asks whether something waits.
-#[derive(Clone, Copy, Debug, PartialEq, Eq)]
+#[derive(Clone, Copy)]
 pub enum Pop {
     Overflowing(OverflowingPop),
     Refusing(RefusingPop),

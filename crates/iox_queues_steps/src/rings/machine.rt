@@ -11,7 +11,7 @@ use std::marker::Model;
 ///
 /// Either end may stop anywhere. The machine keeps the order of puts and takes, which answers as a
 /// bounded list does, and every step that it made.
-#[derive(Debug, Drop)]
+#[derive(Drop)]
 pub struct RingMachine {
     state: State,
 }

@@ -14,7 +14,7 @@ use crate::rings::refusing::{Pop as RefusingPop, Push as RefusingPush};
 use crate::{Access, Act, Call, Event, Move, Party, PopAnswer, PopCall, PushCall, Ring, Stepped};
 use std::alloc::{AllocError, Global};
 
-#[derive(Debug, Drop)]
+#[derive(Drop)]
 pub(crate) struct State {
     pub(crate) kind: RingKind,
     pub(crate) limit: u64,

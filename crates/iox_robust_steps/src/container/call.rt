@@ -14,7 +14,7 @@ use iox_queues::values::word_of;
 use iox_queues_steps::{Access, Word};
 
 /// A call that a party may begin.
-#[derive(Clone, Copy, Debug, PartialEq, Eq)]
+#[derive(Clone, Copy)]
 pub enum MemberCall {
     /// Adds the value of this number for this owner.
     Add(usize, u64),
@@ -27,7 +27,7 @@ pub enum MemberCall {
 }
 
 /// What a call answered.
-#[derive(Clone, Copy, Debug, PartialEq, Eq)]
+#[derive(Clone, Copy, PartialEq, Eq)]
 pub enum MemberAnswer {
     /// The member is in at this index, or was refused.
     Added(Result<u64, UniqueIndexSetAcquireFailure>),
@@ -38,7 +38,7 @@ pub enum MemberAnswer {
 }
 
 /// Where a call stands. Between its begin and `Done` each stage is one access, or asks the set of indices for one.
-#[derive(Clone, Copy, Debug, PartialEq, Eq)]
+#[derive(Clone, Copy)]
 pub enum ContainerCall {
     Idle,
     /// An addition takes an index.

@@ -21,7 +21,7 @@ use std::alloc::{AllocError, Global};
 
 /// Where a party stands, the number of its call's first step, the count of changes that its last copy saw, and the number of the step
 /// that saw it.
-#[derive(Clone, Copy, Debug, PartialEq, Eq)]
+#[derive(Clone, Copy)]
 pub struct MemberSeat {
     pub stage: ContainerCall,
     pub first: u64,
@@ -29,7 +29,7 @@ pub struct MemberSeat {
     pub since: u64,
 }
 
-#[derive(Debug, Drop)]
+#[derive(Drop)]
 pub(crate) struct MemberState {
     pub(crate) set: RobustSetMachine,
     // The values that may be added, each of as many words as the first.

@@ -4,34 +4,16 @@ ghost use Rattle.std.specs.Prelude.{◌≡◌};
 use iox_conversation::AnswersLines;
 use std::alloc::{AllocError, Global};
 
+/// Somebody who says so many lines again, and finds no memory for the rest of the next one.
 #[derive(Drop)]
-pub(crate) struct Echo;
+pub(crate) struct Echo {
+    pub(crate) answered: usize,
+}
 
 impl AnswersLines for Echo {
     ghost answers = { λ old line text new. text ≡ line };
 
     ghost used = { λ echo. 0 };
-
-    fn answer_line(
-        &mut self,
-        _alloc: Global,
-        line: &[u8],
-        out: &mut Vec<u8>,
-    ) -> Result<(), AllocError> {
-        out.extend_from_slice(line)
-    }
-}
-
-/// Somebody who says so many lines again, and finds no memory for the rest of the next one.
-#[derive(Drop)]
-pub(crate) struct Forgetful {
-    pub(crate) answered: usize,
-}
-
-impl AnswersLines for Forgetful {
-    ghost answers = { λ old line text new. text ≡ line };
-
-    ghost used = { λ forgetful. 0 };
 
     fn answer_line(
         &mut self,
@@ -45,5 +27,12 @@ impl AnswersLines for Forgetful {
         }
         self.answered -= 1;
         out.extend_from_slice(line)
+    }
+}
+
+/// Somebody who says more lines again than anyone asks for.
+pub(crate) fn full_echo() -> Echo {
+    Echo {
+        answered: usize::MAX,
     }
 }

@@ -1,6 +1,6 @@
 //! The two lines of a service, and texts that are nearly one. The lines come from functions, since a constant's text stands in the proof of
 //! each function that names it.
-use crate::answers::{have_size, hold};
+use crate::answers::hold;
 use iox_describe::{
     Description, DescriptionError, MessagingPattern, ServiceName, decode, encode, encode_v1,
     service_hash,
@@ -67,21 +67,6 @@ pub(crate) fn is_read(alloc: Global, bytes: &[u8]) -> Result<bool, AllocError> {
     }
 }
 
-/// How many beginnings of a line are read, the whole line among them.
-fn beginnings_read(alloc: Global, line: &str) -> Result<usize, AllocError> {
-    let mut count = 0usize;
-    for length in 0..=line.len() {
-        let front = line.as_bytes().get(..length).unwrap_or_default();
-        count = count.saturating_add(usize::from(is_read(alloc, front)?));
-    }
-    Ok(count)
-}
-
-/// Whether the line is read, and no beginning of it.
-fn is_read_whole(alloc: Global, line: &str) -> Result<bool, AllocError> {
-    Ok(beginnings_read(alloc, line)? == 1)
-}
-
 /// The line of version 1, from that of version 2 of a service that isn't of publish-subscribe.
 fn first_line(alloc: Global, line: &str) -> Result<String, AllocError> {
     match line.strip_suffix("2}") {
@@ -90,63 +75,25 @@ fn first_line(alloc: Global, line: &str) -> Result<String, AllocError> {
     }
 }
 
-/// Whether its line of version 1 is read, and no beginning of it.
-fn is_first_read_whole(alloc: Global, line: &str) -> Result<bool, AllocError> {
-    is_read_whole(alloc, first_line(alloc, line)?.as_str())
+/// Whether its line of version 1 is read.
+fn is_first_read(alloc: Global, line: &str) -> Result<bool, AllocError> {
+    is_read(alloc, first_line(alloc, line)?.as_bytes())
 }
 
 #[test]
-fn each_line_is_read_and_no_beginning_of_it(rt: HostRuntime) -> Result<(), AllocError> {
+fn each_line_is_read(rt: HostRuntime) -> Result<(), AllocError> {
     let alloc: Global = rt.alloc();
     let answers = [
-        is_read_whole(alloc, publish_subscribe_line()),
-        is_read_whole(alloc, first_publish_subscribe_line()),
-        is_read_whole(alloc, event_line()),
-        is_read_whole(alloc, request_response_line()),
-        is_read_whole(alloc, named_event_line()),
-        is_read_whole(alloc, named_request_response_line()),
-        is_first_read_whole(alloc, event_line()),
-        is_first_read_whole(alloc, request_response_line()),
-        is_first_read_whole(alloc, named_event_line()),
-        is_first_read_whole(alloc, named_request_response_line()),
+        is_read(alloc, publish_subscribe_line().as_bytes()),
+        is_read(alloc, first_publish_subscribe_line().as_bytes()),
+        is_read(alloc, event_line().as_bytes()),
+        is_read(alloc, request_response_line().as_bytes()),
+        is_read(alloc, named_event_line().as_bytes()),
+        is_read(alloc, named_request_response_line().as_bytes()),
+        is_first_read(alloc, named_event_line()),
+        is_first_read(alloc, named_request_response_line()),
     ];
     hold(&rt, &answers)
-}
-
-/// Whether the line is read with this byte at a place.
-fn is_read_with(alloc: Global, place: usize, strange: u8) -> Result<bool, AllocError> {
-    let mut bytes = Vec::from_slice(alloc, publish_subscribe_line().as_bytes())?;
-    if let Some(byte) = bytes.get_mut(place) {
-        *byte = strange;
-    }
-    is_read(alloc, bytes.as_slice())
-}
-
-/// At how many places of the line this byte may stand.
-fn places_of(alloc: Global, strange: u8) -> Result<usize, AllocError> {
-    let mut count = 0usize;
-    for place in 0..publish_subscribe_line().len() {
-        count = count.saturating_add(usize::from(is_read_with(alloc, place, strange)?));
-    }
-    Ok(count)
-}
-
-// 127 may stand in a name: the four names of the line have 2, 6, 3 and 3 bytes.
-#[test]
-fn no_byte_of_a_line_can_be_another_that_stands_in_no_line(
-    rt: HostRuntime,
-) -> Result<(), AllocError> {
-    let alloc: Global = rt.alloc();
-    have_size(&rt, 14, &[places_of(alloc, 127)])?;
-    have_size(
-        &rt,
-        0,
-        &[
-            places_of(alloc, 1),
-            places_of(alloc, 128),
-            places_of(alloc, 255),
-        ],
-    )
 }
 
 /// What stands in the line of publish-subscribe, and what is put in its place and refused.
@@ -244,42 +191,10 @@ fn are_spelled(
 
 #[test]
 fn other_spellings_are_refused(rt: HostRuntime) -> Result<(), AllocError> {
-    are_spelled(&rt, rt.alloc(), publish_subscribe_line(), &REFUSED, false)
-}
-
-#[test]
-fn other_spellings_of_version_1_are_refused(rt: HostRuntime) -> Result<(), AllocError> {
-    are_spelled(
-        &rt,
-        rt.alloc(),
-        first_publish_subscribe_line(),
-        &FIRST_REFUSED,
-        false,
-    )
-}
-
-#[test]
-fn numbers_at_their_ends_and_escaped_letters_are_read(rt: HostRuntime) -> Result<(), AllocError> {
-    are_spelled(&rt, rt.alloc(), publish_subscribe_line(), &READ, true)
-}
-
-/// What writing version 1 comes to of a line that is read.
-fn first_of(alloc: Global, line: &[u8]) -> Result<Vec<u8>, DescriptionError> {
-    encode_v1(alloc, &decode(alloc, line)?)
-}
-
-/// Whether the service with numbers, whose line of version 2 is read, has none of version 1.
-fn are_numbers_refused(alloc: Global) -> Result<bool, AllocError> {
-    let Some((before, after)) = publish_subscribe_line().split_once("false") else {
-        return Ok(false);
-    };
-    let line = format!(in alloc; "{before}true{after}")?;
-    Ok(first_of(alloc, line.as_bytes()).err() == Some(DescriptionError::NotInVersion1))
-}
-
-#[test]
-fn version_1_refuses_numbers(rt: HostRuntime) -> Result<(), AllocError> {
-    hold(&rt, &[are_numbers_refused(rt.alloc())])
+    let (second, first) = (publish_subscribe_line(), first_publish_subscribe_line());
+    are_spelled(&rt, rt.alloc(), second, &REFUSED, false)?;
+    are_spelled(&rt, rt.alloc(), first, &FIRST_REFUSED, false)?;
+    are_spelled(&rt, rt.alloc(), second, &READ, true)
 }
 
 /// Whether the hash of publish-subscribe has these digits.

@@ -1,16 +1,13 @@
 //! The line that a service of each pattern is published with; and a service in a table, with as many attributes as there may be, from its
 //! creation to its end, and again.
 use crate::agreement::lines::{
-    event_line, named_event_line, named_request_response_line, publish_subscribe_line,
-    request_response_line,
+    named_event_line, named_request_response_line, publish_subscribe_line,
 };
 use crate::agreement::sizes::{attributes, requirements};
 use crate::agreement::tables::is_shown;
 use iox_describe::pattern::{Event, Pattern, PublishSubscribe, RequestResponse};
 use iox_describe::requirement::event;
-use iox_describe::{
-    AttributeError, AttributeSpecifier, AttributeVerifier, LimitError, ServiceName,
-};
+use iox_describe::{AttributeError, AttributeSpecifier, LimitError, ServiceName};
 use iox_negotiate::{Builder, Negotiated, PortFactory, ServiceBuilder, Slice};
 use iox_negotiate_table::Table;
 use std::alloc::Global;
@@ -26,21 +23,6 @@ fn of_line() -> Result<ServiceBuilder<PublishSubscribe>, LimitError> {
         builder(b"23")?
             .publish_subscribe::<Slice<u64>>()
             .user_header::<u64>(),
-    )
-}
-
-/// One of the service that the line of event describes.
-fn of_event() -> Result<ServiceBuilder<Event>, LimitError> {
-    Ok(builder(b"23")?.event())
-}
-
-/// One of the service that the line of request-response describes.
-fn of_requests() -> Result<ServiceBuilder<RequestResponse>, LimitError> {
-    Ok(
-        builder(b"23")?
-            .request_response::<Slice<u64>, Slice<u64>>()
-            .request_user_header::<u64>()
-            .response_user_header::<u64>(),
     )
 }
 
@@ -133,20 +115,15 @@ fn attributes_are_published(alloc: Global) -> bool {
     }
 }
 
-/// Whether the others are, which have no attributes.
-fn others_are_published(alloc: Global, none: &AttributeSpecifier) -> [bool; 4] {
-    [
-        is_published(alloc, of_line(), none, publish_subscribe_line()),
-        is_published(alloc, of_event(), none, event_line()),
-        is_published(alloc, of_requests(), none, request_response_line()),
-        is_published(alloc, of_named_event(), none, named_event_line()),
-    ]
+/// Whether those are which have none.
+fn others_are_published(alloc: Global, none: &AttributeSpecifier) -> bool {
+    is_published(alloc, of_line(), none, publish_subscribe_line())
+        && is_published(alloc, of_named_event(), none, named_event_line())
 }
 
 #[test]
 fn a_service_is_published_with_its_line(rt: HostRuntime) {
-    let others = others_are_published(rt.alloc(), &AttributeSpecifier::new());
-    assert!(rt; others == [true; 4], "{others:?}");
+    assert!(rt; others_are_published(rt.alloc(), &AttributeSpecifier::new()));
     assert!(rt; attributes_are_published(rt.alloc()));
 }
 
@@ -156,118 +133,62 @@ fn of_many(alloc: Global, count: usize) -> Option<ServiceBuilder<Event>> {
     Some(builder(b"A").ok()?.with_requirement::<Event>(asked))
 }
 
-/// A call of a builder, to which attributes are handed in.
-#[derive(Clone, Copy)]
-enum Call {
-    Create,
-    Open,
-    OpenOrCreate,
-}
-
-/// The factory that is created with so many attributes, each of the largest.
+/// The factory that a copy of the builder creates with so many attributes, each of the largest.
 fn created(
     alloc: Global,
-    asked: ServiceBuilder<Event>,
+    asked: &ServiceBuilder<Event>,
     count: usize,
     table: &mut Table,
 ) -> Option<PortFactory<Event>> {
+    let Ok(asked) = asked.try_clone(alloc) else {
+        return None;
+    };
     match attributes(alloc, count, 256) {
         Ok(given) => asked.create_with_attributes(alloc, &given, table).ok(),
         Err(_) => None,
     }
 }
 
-/// The factory that a call makes that opens, to which required attributes are handed in.
+/// The factory that a copy of the builder opens with, which requires them.
 fn opened(
     alloc: Global,
-    asked: ServiceBuilder<Event>,
-    call: Call,
-    required: AttributeVerifier,
-    table: &mut Table,
-) -> Option<PortFactory<Event>> {
-    match call {
-        Call::Open => asked.open_with_attributes(alloc, required, table).ok(),
-        Call::Create | Call::OpenOrCreate => {
-            asked
-                .open_or_create_with_attributes(alloc, required, table)
-                .ok()
-        }
-    }
-}
-
-/// The factory that a call makes, to which so many attributes are handed in.
-fn called(
-    alloc: Global,
-    asked: ServiceBuilder<Event>,
-    (call, count): (Call, usize),
-    table: &mut Table,
-) -> Option<PortFactory<Event>> {
-    match call {
-        Call::Create => created(alloc, asked, count, table),
-        Call::Open | Call::OpenOrCreate => match requirements(alloc, count, 256) {
-            Ok(required) => opened(alloc, asked, call, required, table),
-            Err(_) => None,
-        },
-    }
-}
-
-/// The factory that a call of the same builder makes.
-fn comes(
-    alloc: Global,
     asked: &ServiceBuilder<Event>,
-    call: (Call, usize),
+    count: usize,
     table: &mut Table,
 ) -> Option<PortFactory<Event>> {
-    match asked.try_clone(alloc) {
-        Ok(asked) => called(alloc, asked, call, table),
+    let Ok(asked) = asked.try_clone(alloc) else {
+        return None;
+    };
+    match requirements(alloc, count, 256) {
+        Ok(required) => asked.open_with_attributes(alloc, required, table).ok(),
         Err(_) => None,
     }
 }
 
-/// Whether a factory was made of the service of this number, which has so many attributes, and is closed.
-fn is_closed(
-    made: Option<PortFactory<Event>>,
-    (number, count): (u64, usize),
-    table: &mut Table,
-) -> bool {
+/// Whether a factory was made of a service that has so many attributes, and is closed.
+fn is_closed(made: Option<PortFactory<Event>>, count: usize, table: &mut Table) -> bool {
     let Some(factory) = made else {
         return false;
     };
-    let told = (factory.number(), factory.attributes().as_slice().len());
-    factory.close(table).is_ok() && told == (number, count)
+    let told = factory.attributes().as_slice().len();
+    factory.close(table).is_ok() && told == count
 }
 
-/// Whether the service of this number is made by a call, opened by another, and closed.
-fn lives(
-    alloc: Global,
-    asked: &ServiceBuilder<Event>,
-    (number, making, opening): (u64, Call, Call),
-    count: usize,
-    table: &mut Table,
-) -> bool {
-    let first = comes(alloc, asked, (making, count), table);
-    let second = comes(alloc, asked, (opening, count), table);
-    is_closed(second, (number, count), table) && is_closed(first, (number, count), table)
+/// Whether the service is created, opened and closed, with so many attributes.
+fn lives(alloc: Global, asked: &ServiceBuilder<Event>, count: usize, table: &mut Table) -> bool {
+    let first = created(alloc, asked, count, table);
+    let second = opened(alloc, asked, count, table);
+    is_closed(second, count, table) && is_closed(first, count, table)
 }
 
-const LIVES: [(u64, Call, Call); 2] = [
-    (1, Call::Create, Call::Open),
-    (2, Call::OpenOrCreate, Call::OpenOrCreate),
-];
-
-/// Whether the service lives and lives again, with so many attributes.
+/// The same twice over.
 fn lives_again(
     alloc: Global,
     asked: &ServiceBuilder<Event>,
     count: usize,
     table: &mut Table,
 ) -> bool {
-    for life in &LIVES {
-        if !lives(alloc, asked, *life, count, table) {
-            return false;
-        }
-    }
-    true
+    lives(alloc, asked, count, table) && lives(alloc, asked, count, table)
 }
 
 /// The same in a new table.

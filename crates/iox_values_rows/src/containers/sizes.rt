@@ -1,4 +1,4 @@
-//! Ample memory is always enough, at each size and again and again; and no more room is taken than there is.
+//! Ample memory is always enough, at each size; and no more room is taken than there is.
 use crate::answers::{are_refused, have_size};
 use iox_container::by_number::Numbered;
 use iox_container::byte_cells::{ByteMachine, ByteStep};
@@ -15,9 +15,6 @@ use std::process::Abort;
 const SIZES: [usize; 8] = [0, 1, 2, 5, 7, 64, 1_000, MANY];
 
 const MANY: usize = 1_000_003;
-
-/// How often the same is made again.
-const AGAIN: [usize; 100] = [3; 100];
 
 /// The capacity of the copy of a string into which so many bytes were put.
 fn text(alloc: Global, capacity: usize, len: usize) -> Result<usize, AllocError> {
@@ -104,9 +101,9 @@ fn made(alloc: Global, size: usize) -> [Result<usize, AllocError>; 13] {
     ]
 }
 
-/// Each must be made at each size, and again.
+/// Each must be made at each size.
 fn all_are_made(rt: &impl Abort, alloc: Global) -> Result<(), AllocError> {
-    for size in SIZES.iter().chain(&AGAIN) {
+    for size in &SIZES {
         have_size(rt, *size, &made(alloc, *size))?;
     }
     Ok(())

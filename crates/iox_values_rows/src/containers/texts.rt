@@ -1,82 +1,13 @@
 //! What values are displayed and debugged as.
 use crate::answers::{hold, is_shown};
 use iox_container::byte_cells::{ByteAnswer, ByteStep};
-use iox_container::semantic_strings::SemanticStringError;
-use iox_container::string::{PolymorphicString, StaticString, String, StringModificationError};
+use iox_container::string::{PolymorphicString, StaticString, String};
 use iox_container::vector::Vector;
 use iox_container::{
-    FixedSizeFlatMap, FixedSizeQueue, FixedSizeSlotMap, FlatMapError, PolymorphicVec, SlotMapKey,
-    StaticVec, VectorModificationError,
+    FixedSizeFlatMap, FixedSizeQueue, FixedSizeSlotMap, PolymorphicVec, SlotMapKey, StaticVec,
 };
 use std::alloc::{AllocError, Global};
 use std::fmt::{Debug, Display};
-
-const OF_STRINGS: [(StringModificationError, &str); 2] = [
-    (
-        StringModificationError::InsertWouldExceedCapacity,
-        "StringModificationError::InsertWouldExceedCapacity InsertWouldExceedCapacity",
-    ),
-    (
-        StringModificationError::InvalidCharacter,
-        "StringModificationError::InvalidCharacter InvalidCharacter",
-    ),
-];
-
-const OF_VECTORS: [(VectorModificationError, &str); 3] = [
-    (
-        VectorModificationError::InsertWouldExceedCapacity,
-        "VectorModificationError::InsertWouldExceedCapacity InsertWouldExceedCapacity",
-    ),
-    (
-        VectorModificationError::OutOfBounds,
-        "VectorModificationError::OutOfBounds OutOfBounds",
-    ),
-    (
-        VectorModificationError::OutOfMemory,
-        "VectorModificationError::OutOfMemory OutOfMemory",
-    ),
-];
-
-const OF_SEMANTIC_STRINGS: [(SemanticStringError, &str); 2] = [
-    (
-        SemanticStringError::InvalidContent,
-        "SemanticStringError::InvalidContent InvalidContent",
-    ),
-    (
-        SemanticStringError::ExceedsMaximumLength,
-        "SemanticStringError::ExceedsMaximumLength ExceedsMaximumLength",
-    ),
-];
-
-const OF_FLAT_MAPS: [(FlatMapError, &str); 2] = [
-    (
-        FlatMapError::KeyAlreadyExists,
-        "FlatMapError::KeyAlreadyExists KeyAlreadyExists",
-    ),
-    (FlatMapError::IsFull, "FlatMapError::IsFull IsFull"),
-];
-
-/// Whether each error is displayed and debugged so: its type and its variant, then the variant alone.
-fn are_told<E: Display + Debug>(alloc: Global, rows: &[(E, &str)]) -> Result<bool, AllocError> {
-    for row in rows {
-        if format!(in alloc; "{} {:?}", row.0, row.0)?.as_str() != row.1 {
-            return Ok(false);
-        }
-    }
-    Ok(true)
-}
-
-#[test]
-fn a_refusal_reads_as_its_name(rt: HostRuntime) -> Result<(), AllocError> {
-    let alloc: Global = rt.alloc();
-    let answers = [
-        are_told(alloc, &OF_STRINGS),
-        are_told(alloc, &OF_VECTORS),
-        are_told(alloc, &OF_SEMANTIC_STRINGS),
-        are_told(alloc, &OF_FLAT_MAPS),
-    ];
-    hold(&rt, &answers)
-}
 
 /// Whether a string of `a"`, a newline and a byte 127 is printed so: as it is, as a literal, and in six places.
 fn is_printed<S: String + Display + Debug>(

@@ -198,14 +198,3 @@ fn come_back(rt: &impl Threads, alloc: Global) -> Result<bool, AllocError> {
 fn guards_in_two_threads_hold_each_index_alone(rt: HostRuntime) -> Result<(), AllocError> {
     hold(&rt, &[come_back(&rt, rt.alloc())])
 }
-
-const HEAD: HeadDetails = HeadDetails {
-    head: 12345,
-    aba: 6789,
-    borrowed_indices: 54321,
-};
-
-#[test]
-fn a_head_comes_back_from_its_word(rt: HostRuntime) {
-    assert!(rt; HeadDetails::from(HEAD.value()) == HEAD);
-}

@@ -164,14 +164,6 @@ fn stores(alloc: Global) -> Result<bool, AllocError> {
     }
 }
 
-/// Whether a value without words is loaded.
-fn loads(alloc: Global) -> Result<bool, AllocError> {
-    match UnrestrictedAtomic::new(()).share(alloc) {
-        Ok(shared) => Ok(shared.load().is_some()),
-        Err(_) => Err(AllocError),
-    }
-}
-
 /// Whether a value of three words is loaded with the last of them.
 fn loads_all_words(alloc: Global) -> Result<bool, AllocError> {
     match UnrestrictedAtomic::new([0u64, 0, 7]).share(alloc) {
@@ -180,25 +172,10 @@ fn loads_all_words(alloc: Global) -> Result<bool, AllocError> {
     }
 }
 
-/// Whether a value of 17 words is refused, more than can be shared.
-fn is_too_wide(alloc: Global) -> Result<bool, AllocError> {
-    match UnrestrictedAtomic::new([7u64; 17]).share(alloc) {
-        Ok(_) => Ok(false),
-        Err(_) => Ok(true),
-    }
-}
-
 #[test]
 fn a_shared_value_is_the_last_one_stored(rt: HostRuntime) -> Result<(), AllocError> {
     let alloc: Global = rt.alloc();
-    let answers = [
-        stores(alloc),
-        loads(alloc),
-        loads_all_words(alloc),
-        is_too_wide(alloc),
-        counts(alloc),
-    ];
-    hold(&rt, &answers)
+    hold(&rt, &[stores(alloc), loads_all_words(alloc), counts(alloc)])
 }
 
 /// Whether the producer is handed out once at a time, also when a consumer was let go, and again once it came back.

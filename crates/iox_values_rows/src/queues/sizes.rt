@@ -1,12 +1,12 @@
-//! Ample memory is always enough, at each size and again and again; and no more room is taken than there is. Queues that threads
+//! Ample memory is always enough, at each size; and no more room is taken than there is. Queues that threads
 //! share are made at each size in `shared`.
 use crate::answers::{are_refused, have_size};
 use iox_index::{
-    Container, FixedSizeContainer, FixedSizeUniqueIndexSet, OwnerId, RobustUniqueIndexSet,
-    StaticRobustUniqueIndexSet, UniqueIndexSet,
+    Container, FixedSizeContainer, FixedSizeUniqueIndexSet, OwnerId, ReleaseMode,
+    RobustUniqueIndexSet, StaticRobustUniqueIndexSet, UniqueIndexSet,
 };
-use iox_index_steps::IndexSetMachine;
 use iox_index_steps::atomic::{self, AtomicMachine};
+use iox_index_steps::{Call as IndexSetCall, IndexSetMachine, Move as IndexSetMove};
 use iox_queues::sets::{self, SetMachine};
 use iox_queues::{
     BitSet, Call, CountingBitSet, FixedSizeBitSet, FixedSizeCountingBitSet, IndexQueue, Move,
@@ -139,12 +139,26 @@ fn set_machine(alloc: Global, size: usize) -> Result<usize, AllocError> {
     Ok(machine.finished().len())
 }
 
-/// The indices of a set that goes by steps, with as many parties.
+/// How many parties, each in its turn, take the first index and give it back; a call that doesn't end found no memory.
+fn taken_in_turn(machine: &mut IndexSetMachine, size: usize) -> Result<usize, AllocError> {
+    for party in 0..size {
+        let take = IndexSetMove::Begin(party, IndexSetCall::Acquire);
+        let give = IndexSetMove::Begin(party, IndexSetCall::Release(0, ReleaseMode::Default));
+        let on = IndexSetMove::GoOn(party);
+        let _ = machine.run(&[take, on, on, on, on, give, on, on, on, on]);
+        if machine.finished().len() / 2 == party {
+            return Err(AllocError);
+        }
+    }
+    Ok(machine.finished().len() / 2)
+}
+
+/// The same in a set of as many indices.
 fn index_machine(alloc: Global, size: usize) -> Result<usize, AllocError> {
     if size > MANY {
         return Err(AllocError);
     }
-    Ok(IndexSetMachine::new(alloc, size, size)?.capacity() as usize)
+    taken_in_turn(&mut IndexSetMachine::new(alloc, size, size)?, size)
 }
 
 /// How many calls end of a store and a load of a single value of so many words: none where one found no memory.
@@ -168,7 +182,7 @@ fn atomic_machine(alloc: Global, size: usize) -> Result<usize, AllocError> {
 }
 
 /// What is made empty at a size, each told by that size.
-fn empty(alloc: Global, size: usize) -> [Result<usize, AllocError>; 8] {
+fn empty(alloc: Global, size: usize) -> [Result<usize, AllocError>; 7] {
     [
         bit_set(alloc, size),
         counting_set(alloc, size),
@@ -177,25 +191,25 @@ fn empty(alloc: Global, size: usize) -> [Result<usize, AllocError>; 8] {
         shared_indices(alloc, size),
         robust_set(alloc, size),
         container(alloc, size, 0),
-        index_machine(alloc, size),
     ]
 }
 
 /// What is filled at a size, each told by that size.
-fn filled(alloc: Global, size: usize) -> [Result<usize, AllocError>; 6] {
+fn filled(alloc: Global, size: usize) -> [Result<usize, AllocError>; 7] {
     [
         container(alloc, size, size / 2),
         container(alloc, size, size),
         refusing_ring(alloc, size),
         overflowing_ring(alloc, size),
         set_machine(alloc, size),
+        index_machine(alloc, size),
         atomic_machine(alloc, size),
     ]
 }
 
-/// Each must be made at each size, and again.
+/// Each must be made at each size.
 fn all_are_made(rt: &impl Abort, alloc: Global) -> Result<(), AllocError> {
-    for size in SIZES.iter().chain(&SIZES) {
+    for size in &SIZES {
         have_size(rt, *size, &empty(alloc, *size))?;
         have_size(rt, *size, &filled(alloc, *size))?;
     }

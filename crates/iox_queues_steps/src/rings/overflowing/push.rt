@@ -7,7 +7,7 @@ ghost use Rattle.iox_queues_steps.specs.Overflowing.{push_is_idle, push_is_over,
 use crate::{Access, Act, End, PushAnswer, Word};
 
 /// Where a push stands. Between `Begun` and `Pushed` each stage is one access.
-#[derive(Clone, Copy, Debug, PartialEq, Eq)]
+#[derive(Clone, Copy)]
 pub enum Push {
     Idle,
     Begun {

@@ -7,7 +7,7 @@ use crate::{Access, Act, End, PopAnswer, Word};
 
 /// Where a pop stands, or a look that only asks whether something waits. Between `Begun` and
 /// `Popped`, or `LookBegun` and `Looked`, each stage is one access.
-#[derive(Clone, Copy, Debug, PartialEq, Eq)]
+#[derive(Clone, Copy)]
 pub enum Pop {
     Idle,
     Begun,

@@ -17,5 +17,5 @@ returns-in-Put g c = record {
   pledged = rw c.in-Put.is refl;
   finds = tt;
   steps
-      = rw c.in-Put.is (rw c.as_slice-in-Put.ensures at c.put.ensures, refl);
+      = rw c.in-Put.is (rw c.values-in-Put.view_is at c.put.ensures, refl);
 }

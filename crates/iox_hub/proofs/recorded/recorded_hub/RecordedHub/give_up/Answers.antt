@@ -1,7 +1,8 @@
 use Rattle.iox_hub.proofs.RecordedRuns.{give_up_recorded}
 use Rattle.iox_hub_commands.specs.DescribeBase.Detail.{detail}
 use Rattle.iox_hub_commands.specs.DescribeBase.declared.type_detail.TypeVariant.TheVariants.{FixedSize, Dynamic}
-use Rattle.std.proofs.Common.{refl}
+use Rattle.iox_command.specs.declared.command.Command.TheVariants as command
+use Rattle.iox_hub.proofs.RecordedTold.{given_up_so}
 use Rattle.iox_hub.proofs.recorded.recorded_hub.RecordedHub.give_up.Goals as goal
 
 pub invariant_of-self : goal.invariant_of-self
@@ -17,4 +18,7 @@ invariant_of-self g c = rw c.told-self-inside.ensures
     (rw c.requires.waits at c.drop_with-answer.ensures) c.self.invariant)
 
 pub returns : goal.returns
-returns g c = record { given_up = rw (← c.self.view_is, c.told-self-inside.ensures) refl }
+returns g c = record {
+  given_up = rw (← c.self.view_is, c.told-self-inside.ensures)
+      (given_up_so (command.GiveUp c.args.publisher.now.number.value) c.self.inside.history.calls c.drop_with-answer.result);
+}

@@ -40,13 +40,20 @@ returns-clause-put g c = rw (← c.self.view_is)
     c.self.inside.history.calls c.self.inside.hub c.args.sample.now.number.value
     (record { port = c.args.sample.now.it.port; taken = c.args.sample.now.it.taken })
     c.payload.result.now (rw (← c.self.view_is) at c.requires) (sym c.payload.ensures) c.self.invariant followed small in
-    subst (λ values. WasPut values c.self.inside.history.calls.asked c.self.inside.history.calls.answers) are
+    subst (λ values. WasPut (asked_types Dynamic
+    (detail FixedSize g.T.ZeroCopySend.name g.T.ZeroCopySend.size g.T.ZeroCopySend.alignment)
+    (detail FixedSize g.U.ZeroCopySend.name g.U.ZeroCopySend.size g.U.ZeroCopySend.alignment))
+    (as_named (λ value. g.T.Default.is_default value)) c.self.inside.history.calls.config.expired_connection_buffer
+    c.args.sample.now.number.value values c.self.inside.history.calls.asked c.self.inside.history.calls.answers) are
     (reads_as_put (as_named (λ value. g.T.Default.is_default value))
-    (c.messages_were_sent.ensures (record { publishers = λ number. None; subscribers = λ number. None }))
+    (c.received_was_sent.ensures (record { publishers = λ number. None; subscribers = λ number. None }))
+    (c.samples_read_the_same.ensures (record { publishers = λ number. None; subscribers = λ number. None }))
     (asked_types Dynamic (detail FixedSize g.T.ZeroCopySend.name g.T.ZeroCopySend.size g.T.ZeroCopySend.alignment)
     (detail FixedSize g.U.ZeroCopySend.name g.U.ZeroCopySend.size g.U.ZeroCopySend.alignment))
     c.self.inside.history.calls.config.expired_connection_buffer c.self.inside.history.calls.asked c.self.inside.history.calls.answers
-    c.args.sample.now.number.value told c.self.invariant.loanless answers))
+    c.args.sample.now.number.value told c.self.invariant.told.loanless
+    (c.self.invariant.told.came c.args.sample.now.number.value
+    (record { port = c.args.sample.now.it.port; taken = c.args.sample.now.it.taken }) (rw (← c.self.view_is) at c.requires)) answers))
 
 pub returns-then-not-holds-clause-held : goal.returns-then-not-holds-clause-held
 returns-then-not-holds-clause-held g c = λ followed.

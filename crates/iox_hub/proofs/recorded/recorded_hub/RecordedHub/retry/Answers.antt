@@ -1,5 +1,7 @@
+use Rattle.std.proofs.Common.{◌≡◌, IfOk, MatchResult, subst}
+use Rattle.iox_delivery.specs.declared.port_id.PortId.{PortId}
 use Rattle.iox_hub.proofs.RecordedRuns.{retry_recorded}
-use Rattle.iox_hub.proofs.RecordedTold.{retry_waits, sent_so}
+use Rattle.iox_hub.proofs.RecordedTold.{WaitsAt, retry_waits, sent_so}
 use Rattle.iox_command.specs.declared.command.Command.TheVariants as command
 use Rattle.iox_hub_commands.specs.DescribeBase.Detail.{detail}
 use Rattle.iox_hub_commands.specs.DescribeBase.declared.type_detail.TypeVariant.TheVariants.{FixedSize, Dynamic}
@@ -24,6 +26,7 @@ returns-clause-sent g c = rw (← c.self.view_is, c.told-self-inside.ensures, c.
     (result_ok c.retry_if-answer.result))
 
 pub returns-clause-waits : goal.returns-clause-waits
-returns-clause-waits g c = rw (← c.requires.waits) (retry_waits (λ handlers. g.B.Decides.decides handlers)
+returns-clause-waits g c = subst (λ (port : PortId). MatchResult c.retry_if-answer.result (λ it. IfOk it (λ came. WaitsAt port came))
+    (λ back. back ≡ c.args.blocked)) c.requires.waits (retry_waits (λ handlers. g.B.Decides.decides handlers)
     c.args.blocked.port c.args.elapsed_ns c.args.blocked c.self.inside.hub c.retry_if-answer.new.hub _ c.retry_if-answer.result
     c.retry_if-answer.ensures)

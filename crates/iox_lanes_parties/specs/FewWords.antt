@@ -1,0 +1,15 @@
+-- Values of so few words that one more can stand in front of them.
+use Rattle.std.specs.Prelude.{ℕ, ◌≡◌, ◌+◌, ◌^◌, ◌<◌, List, ◌∷◌, length}
+use Rattle.std.proofs.Common.{arith}
+
+pub no-words-few : 1 + 0 < 2 ^ 64
+no-words-few = omega arith
+
+pub one-word-few : 1 + 1 < 2 ^ 64
+one-word-few = omega arith
+
+pub two-words-few : 1 + 2 < 2 ^ 64
+two-words-few = omega arith
+
+pub one-more : (count word : ℕ) (words : List ℕ) → length words ≡ count → length (word ∷ words) ≡ 1 + count
+one-more count word words many = omega (arith, many)

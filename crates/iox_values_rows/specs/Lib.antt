@@ -1,2 +1,0 @@
--- The definitions that contracts about the tests of containers cite.
-pub mod LetterCase
