@@ -11,6 +11,7 @@ use iox_negotiate_base::errors::{
     PublishSubscribeCreateError, PublishSubscribeOpenError, PublishSubscribeOpenOrCreateError,
     RequestResponseCreateError, RequestResponseOpenError, RequestResponseOpenOrCreateError,
 };
+use std::fmt;
 use thiserror::Error;
 
 /// Why no node could be made, or no foreign step run. This port's own.
@@ -36,7 +37,6 @@ impl HubError {
 ///
 /// This port's own.
 #[derive(Clone, Copy, Debug, PartialEq, Eq, Error)]
-#[error("{}", self.text())]
 pub enum Refusal {
     /// Of a node, or of foreign steps.
     Hub(HubError),
@@ -98,5 +98,15 @@ impl Refusal {
             Refusal::Receive(error) => error.text(),
             Refusal::Connection(error) => error.text(),
         }
+    }
+}
+
+impl fmt::Display for Refusal {
+    ghost use Rattle.std.specs.Prelude.{Some};
+
+    ghost output = { λ error. Some (refusal_text error) };
+
+    fn fmt<W: fmt::Write>(&self, f: &mut fmt::Formatter<W>) -> fmt::Result {
+        f.pad(self.text())
     }
 }

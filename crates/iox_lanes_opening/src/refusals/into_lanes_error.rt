@@ -2,11 +2,11 @@
 ghost use Rattle.std.specs.Prelude.{◌≡◌};
 ghost use Rattle.iox_lanes_opening.specs.Texts.{into_lanes_text};
 
+use std::fmt;
 use thiserror::Error;
 
 /// Why a domain doesn't become lanes. This port's own.
 #[derive(Clone, Copy, Debug, PartialEq, Eq, Hash, Error)]
-#[error("{}", self.text())]
 pub enum IntoLanesError {
     /// A send of some publisher waits at a full mailbox.
     Blocked,
@@ -49,5 +49,15 @@ impl IntoLanesError {
             IntoLanesError::SequenceTooLarge => "IntoLanesError::SequenceTooLarge",
             IntoLanesError::OutOfMemory => "IntoLanesError::OutOfMemory",
         }
+    }
+}
+
+impl fmt::Display for IntoLanesError {
+    ghost use Rattle.std.specs.Prelude.{Some};
+
+    ghost output = { λ error. Some (into_lanes_text error) };
+
+    fn fmt<W: fmt::Write>(&self, f: &mut fmt::Formatter<W>) -> fmt::Result {
+        f.pad(self.text())
     }
 }
