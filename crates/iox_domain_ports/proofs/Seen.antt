@@ -9,7 +9,7 @@ use Rattle.std.specs.Option.{option_to_list}
 use Rattle.std.proofs.lemmas.List.{length-map, length-replicate}
 use Rattle.iox_domain_slots.specs.Uses.{held}
 use Rattle.iox_domain_ports.specs.Rows.{RowsState}
-use Rattle.iox_domain_ports.specs.Payloads.{PayloadsState, payload_at}
+use Rattle.iox_domain_ports.specs.Payloads.{PayloadsState, payload_at, first_slots}
 use Rattle.iox_domain_ports.specs.declared.messages.slot_header.SlotHeader.{SlotHeader}
 use Rattle.iox_domain_slots.specs.Counting.{times}
 use Rattle.std.specs.List.{list_any, position_or_len}
@@ -203,7 +203,7 @@ empty_at (suc size) (suc slot) = empty_at size slot
 pub first_segment : {T : Type 0} (new old : PayloadsState T) (segment : RowsState T) (size most room : ℕ) → new ≡ with_segment segment old
     → old ≡ (record { size = size; segments = 0; most_segments = most; room = 0; payloads = [] })
     → segment ≡ (record { room = room; rows = replicate size [] })
-    → new ≡ (record { size = size; segments = 0 + 1; most_segments = most; room = room; payloads = [] ++ replicate size [] })
+    → new ≡ first_slots size most room
 first_segment new old segment size most room made is rows
     = made ∙ ap (with_segment segment) is ∙ ap
     (λ s. with_segment s (record { size = size; segments = 0; most_segments = most; room = 0; payloads = [] })) rows
@@ -212,9 +212,8 @@ first_segment new old segment size most room made is rows
 pub fresh : {T U : Type 0} (values : PayloadsState T) (written : PayloadsState Bool) (headers : List (SlotHeader U))
     (blank : SlotHeader U) (uses : Uses ℕ ℕ) (size most room : ℕ)
     → uses.first ≡ 0 → uses.size ≡ size → uses.sending ≡ None → uses.loans ≡ [] → uses.history ≡ [] → uses.connections ≡ []
-    → values ≡ (record { size = size; segments = 0 + 1; most_segments = most; room = room; payloads = [] ++ replicate size [] })
-    → written ≡ (record { size = size; segments = 0 + 1; most_segments = most; room = room; payloads = [] ++ replicate size [] })
-    → length headers ≡ size → IsSender (record { values = values; written = written; headers = headers; blank = blank }) uses
+    → values ≡ first_slots size most room → written ≡ first_slots size most room → length headers ≡ size
+    → IsSender (record { values = values; written = written; headers = headers; blank = blank }) uses
 fresh {T = T} values written headers blank uses size most room first size_is sending loans history connections values_are marks
     headers_are = record {
       values = omega (arith, first, size_is, ap (λ v. length v.payloads) values_are, length-replicate {A = List T} size []);
@@ -238,6 +237,17 @@ fresh {T = T} values written headers blank uses size most room first size_is sen
         ap (λ cs. times k (held cs)) connections,
       ));
     }
+
+-- what is seen of it
+pub fresh_seen : {T U : Type 0} (values : PayloadsState T) (written : PayloadsState Bool) (headers : List (SlotHeader U))
+    (blank : SlotHeader U) (uses made : Uses ℕ ℕ) (slots : PayloadsState T) → uses ≡ made → values ≡ slots
+    → seen_sender (record { values = values; written = written; headers = headers; blank = blank }) uses ≡ sender_of slots blank
+    (uses_by (loan_in (record { values = values; written = written; headers = headers; blank = blank }))
+    (message_in (record { values = values; written = written; headers = headers; blank = blank })) made)
+fresh_seen values written headers blank uses made slots uses_are values_are =
+    ap (seen_sender (record { values = values; written = written; headers = headers; blank = blank })) uses_are
+    ∙ ap (λ v. sender_of v blank (uses_by (loan_in (record { values = values; written = written; headers = headers; blank = blank }))
+    (message_in (record { values = values; written = written; headers = headers; blank = blank })) made)) values_are
 
 pub lent_times : (xs : List ℕ) (at : ℕ) → at < length xs → 0 < times (get_or xs at 0) xs
 lent_times [] at below = absurd (omega (arith, below))

@@ -1,5 +1,5 @@
 -- The values that stand in the slots of a publisher.
-use Rattle.std.specs.Prelude.{ℕ, ◌-◌, ◌<◌, ◌≡◌, List, [], ◌∷◌, ◌++◌, length, get_or, set}
+use Rattle.std.specs.Prelude.{ℕ, ◌-◌, ◌<◌, ◌≡◌, List, [], ◌∷◌, ◌++◌, length, get_or, set, replicate}
 use Rattle.iox_domain_ports.specs.Rows.{RowsState}
 
 -- The values of each slot. Slots come in segments of `size`, at most so many; in each of the last one is room for `room` values.
@@ -9,6 +9,11 @@ pub record PayloadsState (T : Type 0) : Type 0 where
   pub most_segments : ℕ
   pub room : ℕ
   pub payloads : List (List T)
+
+-- the slots of a first segment, none of which has a value yet
+abbrev pub first_slots : {T : Type 0} → ℕ → ℕ → ℕ → PayloadsState T
+first_slots size most_segments room
+    = record { size = size; segments = 1; most_segments = most_segments; room = room; payloads = replicate size [] }
 
 -- the values of a slot
 abbrev pub payload_at : {T : Type 0} → ℕ → PayloadsState T → List T

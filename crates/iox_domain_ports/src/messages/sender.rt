@@ -1,12 +1,13 @@
 //! One publisher with its messages.
 ghost use Rattle.std.specs.Prelude.{◌≡◌, ℕ, ◌+◌, ◌<◌, ◌≤◌, length, get_or, set, map, is_some, option_copied, slice_get, nat_lt};
-ghost use Rattle.std.specs.Prelude.{IsSome, IfOk, OnErr, ◌-◌, ◌^◌, ◌++◌, ◌∷◌, [], true, false, None, Some};
+ghost use Rattle.std.specs.Prelude.{IsSome, IfOk, OnErr, ◌-◌, ◌^◌, ◌++◌, ◌∷◌, [], true, false, None, Some, replicate};
 ghost use Rattle.iox_domain_slots.specs.declared.stage.Stage.TheVariants as stage;
 ghost use Rattle.iox_domain_slots.specs.Uses.{Uses, nobody, placed, connected, is_there, worst_case, accepts, offered, taken, given_back};
 ghost use Rattle.iox_domain_slots.specs.Uses.{ended, emptied, newest, welcomed, dropped, begun, finished, connection_at, with_connection};
-ghost use Rattle.iox_domain_slots.specs.Uses.{in_use};
+ghost use Rattle.iox_domain_slots.specs.Uses.{in_use, segment_opened};
 ghost use Rattle.iox_domain_slots.specs.Counting.{times};
 ghost use Rattle.std.specs.Borrow.{sem};
+ghost use Rattle.iox_domain_ports.specs.Payloads.{first_slots};
 ghost use Rattle.iox_domain_ports.specs.Messages.{Message, Loan, write_value, write_all, write_user_header, written_of, sent_as};
 ghost use Rattle.iox_domain_ports.specs.MessagesSending.{SenderState, LoanMade, slots_of, with_uses, change_loan, has_loan, has_place};
 ghost use Rattle.iox_domain_ports.specs.MessagesSending.{has_value, has_length, is_written_loan, loan_at, place_in, opened_for};
@@ -81,6 +82,14 @@ impl<T: Copy, U: Copy> Sender<T, U> {
           };
         }) }
     {
+        let values = first_values(alloc, config, blank)?;
+        let written = first_marks(alloc, config)?;
+        let blank = SlotHeader {
+            elements: 0,
+            user_header,
+            sequence: None,
+        };
+        let headers = vec![in alloc; blank; config.slots]?;
         let uses = SlotUses::new(
             alloc,
             config.overflows,
@@ -90,16 +99,6 @@ impl<T: Copy, U: Copy> Sender<T, U> {
             config.most_waiting,
             config.most_borrowed,
         )?;
-        let mut values = Payloads::new(alloc, config.slots, config.most_segments)?;
-        values.push(Rows::new(alloc, config.slots, config.room, blank)?);
-        let mut written = Marks::new(alloc, config.slots, config.most_segments)?;
-        written.push(Rows::new(alloc, config.slots, config.room, false)?);
-        let blank = SlotHeader {
-            elements: 0,
-            user_header,
-            sequence: None,
-        };
-        let headers = vec![in alloc; blank; config.slots]?;
         Ok(Sender {
             uses,
             values,
@@ -383,11 +382,7 @@ impl<T: Copy, U: Copy> Sender<T, U> {
         let size = self.values.size();
         let values = Rows::new(alloc, size, room, blank)?;
         let written = Rows::new(alloc, size, room, false)?;
-        let before = self.headers.len();
-        self.headers.reserve(size)?;
-        self.uses.open_segment(alloc)?;
-        // Its room is there.
-        let _resized = self.headers.resize(before + size, self.blank);
+        open_slots(alloc, size, &mut self.uses, &mut self.headers, self.blank)?;
         self.values.push(values);
         self.written.push(written);
         Ok(())
@@ -637,4 +632,49 @@ impl<T: Copy, U: Copy> Sender<T, U> {
     {
         self.uses.welcome(index);
     }
+}
+
+// The slots of a first segment, without a value.
+fn first_values<T: Copy>(
+    alloc: Global,
+    config: SenderConfig,
+    blank: T,
+) -> Result<Payloads<T>, AllocError>
+    requires { 0 < config.most_segments }
+    ensures { IfOk result (λ made. made ≡ first_slots config.slots config.most_segments config.room) }
+{
+    let mut values = Payloads::new(alloc, config.slots, config.most_segments)?;
+    values.push(Rows::new(alloc, config.slots, config.room, blank)?);
+    Ok(values)
+}
+
+// The marks of a first segment, without a value.
+fn first_marks(alloc: Global, config: SenderConfig) -> Result<Marks, AllocError>
+    requires { 0 < config.most_segments }
+    ensures { IfOk result (λ made. made ≡ first_slots config.slots config.most_segments config.room) }
+{
+    let mut written = Marks::new(alloc, config.slots, config.most_segments)?;
+    written.push(Rows::new(alloc, config.slots, config.room, false)?);
+    Ok(written)
+}
+
+// Opens a segment of so many slots, with as many blank headers. It fails only where an allocation fails, and then nothing has changed.
+fn open_slots<U: Copy>(
+    alloc: Global,
+    count: usize,
+    uses: &mut SlotUses,
+    headers: &mut Vec<SlotHeader<U>>,
+    blank: SlotHeader<U>,
+) -> Result<(), AllocError>
+    ensures opened { IfOk result (λ _. uses.new ≡ segment_opened uses.old) }
+    ensures longer { IfOk result (λ _. headers.new.items ≡ headers.old.items ++ replicate count blank) }
+    ensures refused { OnErr result (uses.new ≡ uses.old) }
+    ensures stays { OnErr result (headers.new.items ≡ headers.old.items) }
+{
+    let before = headers.len();
+    headers.reserve(count)?;
+    uses.open_segment(alloc)?;
+    // Its room is there.
+    let _resized = headers.resize(before + count, blank);
+    Ok(())
 }

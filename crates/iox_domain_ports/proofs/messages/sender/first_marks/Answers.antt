@@ -1,0 +1,7 @@
+use Rattle.iox_domain_ports.proofs.Seen.{first_segment}
+use Rattle.iox_domain_ports.proofs.messages.sender.first_marks.Goals as goal
+
+pub returns : goal.returns
+returns c =
+    first_segment c.push.new.self c.in_ok-written.written c.in_ok-new.field-0 c.args.config.slots c.args.config.most_segments
+    c.args.config.room c.push.ensures c.in_ok-written.ensures c.in_ok-new.ensures
