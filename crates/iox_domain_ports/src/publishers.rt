@@ -2,12 +2,15 @@
 ghost use Rattle.std.specs.Prelude.{◌≡◌, ◌-◌, ◌^◌, ◌<◌, length, map, min, slice_get, option_copied, is_some, true, OnOk, OnErr, [], None};
 ghost use Rattle.std.specs.Prelude.{Some};
 ghost use Rattle.std.specs.Borrow.{sem};
+ghost use Rattle.std.specs.List.Sorted.{IsStrictlySortedBy};
+ghost use Rattle.std.specs.Ordering.{nat_cmp};
+ghost use Rattle.std.specs.Map.{keys_of};
 ghost use Rattle.std.specs.Map.Iter.{ShowsInOrder, deref_pair};
 ghost use Rattle.std.specs.Option.{option_copied_mut};
 ghost use Rattle.iox_domain_slots.specs.Uses.{is_there};
 ghost use Rattle.iox_domain_ports.specs.Ports.{detached_at};
 ghost use Rattle.iox_domain_ports.specs.Publishers.{port_of, with_port, added, connection_in, most_borrowed_in, stands_in, changed};
-ghost use Rattle.iox_domain_ports.specs.Publishers.{ended_if_left, is_over_in, settled, released, AttachesTo};
+ghost use Rattle.iox_domain_ports.specs.Publishers.{ended_if_left, is_over_in, settled, released, AttachesTo, removed};
 ghost use Rattle.iox_domain_ports.specs.Living.{living_publishers};
 ghost use Rattle.iox_domain_ports.specs.Census.{IsCensusOf, publisher_share, share_at};
 ghost use Rattle.iox_domain_ports.specs.Reading.{place_of, taken_at, given_back_at};
@@ -90,7 +93,7 @@ impl<T: Copy, U: Copy> Publishers<T, U> {
     {
         note_lent(&mut self.census, &self.ports, number);
         let share = share_of(&port);
-        self.ports.insert(number, port)?;
+        put_port(&mut self.ports, number, port)?;
         self.census.note(share);
         Ok(())
     }
@@ -186,7 +189,7 @@ impl<T: Copy, U: Copy> Publishers<T, U> {
     {
         if self.is_over(number) {
             note_lent(&mut self.census, &self.ports, number);
-            let _ = self.ports.remove(&number);
+            remove_port(&mut self.ports, number);
             self.census.note(Share { owner: 0, count: 0 });
         }
     }
@@ -280,6 +283,30 @@ fn share_in<T: Copy, U: Copy>(ports: &BTreeMap<u64, PublisherPort<T, U>>, number
         Some(port) => share_of(port),
         None => Share { owner: 0, count: 0 },
     }
+}
+
+// Puts a publisher under a number; one that had it is gone. It fails only where an allocation fails, and then nothing has changed.
+fn put_port<T: Copy, U: Copy>(
+    ports: &mut BTreeMap<u64, PublisherPort<T, U>>,
+    number: u64,
+    port: PublisherPort<T, U>,
+) -> Result<(), AllocError>
+    ensures sorted { IsStrictlySortedBy nat_cmp (keys_of ports.old.entries) }
+    ensures put { OnOk result (ports.new.entries ≡ added number port ports.old.entries) }
+    ensures there { OnOk result (port_of number ports.new.entries ≡ Some port) }
+    ensures stays { OnErr result (ports.new.entries ≡ ports.old.entries) }
+{
+    let before = ports.insert(number, port)?;
+    drop(before);
+    Ok(())
+}
+
+// The publisher of a number is gone.
+fn remove_port<T: Copy, U: Copy>(ports: &mut BTreeMap<u64, PublisherPort<T, U>>, number: u64)
+    ensures removed { ports.new.entries ≡ removed number ports.old.entries }
+    ensures gone { port_of number ports.new.entries ≡ None }
+{
+    drop(ports.remove(&number));
 }
 
 // Notes that a publisher is lent. What the one that was lent before has become is counted.
