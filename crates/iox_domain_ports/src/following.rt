@@ -2,7 +2,8 @@
 ghost use Rattle.std.specs.Prelude.{◌≡◌, ◌≢◌, ◌+◌, ◌<◌, ◌≤◌, ◌==◌, ◌^◌, IfOk, OnErr, length, get_or, [], None, Some, true};
 ghost use Rattle.iox_domain_ports.specs.Subscribing.{attached_at, connection_by, is_idle};
 ghost use Rattle.iox_domain_ports.specs.Receiving.{IsMet};
-ghost use Rattle.iox_domain_ports.specs.Following.{is_unborrowed, is_of, replaced_port, replaced_ports, unplaced, Parts, PartsFull};
+ghost use Rattle.iox_domain_ports.specs.Following.{is_unborrowed, is_of, replaced_port, replaced_ports, unplaced};
+ghost use Rattle.iox_domain_ports.specs.Following.{Parts, PartsFull, PartsBorrowed};
 ghost use Rattle.iox_domain_ports.specs.Following.{KeepsReached, Connects, FollowsListed, FollowsFreed, FollowsNone, AttachesAtOnce};
 
 use crate::attached::Attached;
@@ -39,15 +40,15 @@ impl SubscriberPort {
         self.expired.push(key);
     }
 
-    // The connection of a key whose publisher left expires where the list of expired ones is full; answers whether its place is free then.
-    fn part_full<T: Copy, U: Copy>(&mut self, key: usize, publishers: &mut Publishers<T, U>) -> bool
-        ensures { PartsFull key self.old publishers.old result self.new publishers.new }
+    // The connection of a key ends if nothing is borrowed of it, and else expires if an expired one without borrows makes room; answers
+    // whether its place is free then.
+    fn part_borrowed<T: Copy, U: Copy>(
+        &mut self,
+        key: usize,
+        publishers: &mut Publishers<T, U>,
+    ) -> bool
+        ensures { PartsBorrowed (is_unborrowed self.old publishers.old key) key self.old publishers.old result self.new publishers.new }
     {
-        let idle = self.first_expired(Sought::Idle, publishers);
-        if let Some(out) = self.expired.at(idle) {
-            self.replace(idle, out, key, publishers);
-            return true;
-        }
         if self.is_unborrowed(key, publishers) {
             self.end_key(key, publishers);
             return true;
@@ -58,6 +59,18 @@ impl SubscriberPort {
             return true;
         }
         false
+    }
+
+    // The connection of a key whose publisher left expires where the list of expired ones is full; answers whether its place is free then.
+    fn part_full<T: Copy, U: Copy>(&mut self, key: usize, publishers: &mut Publishers<T, U>) -> bool
+        ensures { PartsFull key self.old publishers.old result self.new publishers.new }
+    {
+        let idle = self.first_expired(Sought::Idle, publishers);
+        if let Some(out) = self.expired.at(idle) {
+            self.replace(idle, out, key, publishers);
+            return true;
+        }
+        self.part_borrowed(key, publishers)
     }
 
     // The publisher of the connection of a key left; answers whether its place is free then.
