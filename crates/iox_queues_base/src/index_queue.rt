@@ -1,21 +1,37 @@
-//! Queues of numbers that refuse a push when they are full.
+//! Queues of numbers of two kinds: when full, one refuses a push and the other hands its oldest number out.
 //!
-//! Ported from `IndexQueue` and `FixedSizeIndexQueue` of iceoryx2.
-ghost use Rattle.std.specs.Prelude.{◌≡◌, ◌<◌, ◌≤◌, ◌==◌, ◌++◌, ◌∷◌, [], length, drop, nat_lt, nat_le, slice_get, if◌then◌else◌, IfOk};
-ghost use Rattle.iox_queues_base.specs.Waiting.{Bounded, put};
+//! Ported from `IndexQueue`, `SafelyOverflowingIndexQueue` and their forms of fixed size of iceoryx2.
+ghost use Rattle.std.specs.Prelude.{◌≡◌, ◌<◌, ◌≤◌, ◌==◌, ◌++◌, ◌∷◌, [], option_to_list, length, drop, nat_lt, nat_le, slice_get};
+ghost use Rattle.std.specs.Prelude.{if◌then◌else◌, IfOk, IfSome};
+ghost use Rattle.iox_queues_base.specs.Waiting.{Bounded, put, put_over, left_out};
 
 use std::alloc::{AllocError, Global};
 use std::collections::VecDeque;
-use std::marker::Model;
+use std::marker::{Model, PhantomData};
 
-/// A queue of numbers whose capacity is set when it is made.
+/// The kind of a queue that refuses a push when it is full.
+#[derive(Clone, Copy, Debug)]
+pub struct Refusing;
+
+/// The kind of a queue that hands its oldest number out when it is full.
+#[derive(Clone, Copy, Debug)]
+pub struct Overflowing;
+
+/// A queue of numbers of kind `K` whose capacity is set when it is made.
 #[derive(Debug, Drop)]
-pub struct IndexQueue {
+pub struct NumberQueue<K> {
     waiting: VecDeque<u64>,
     capacity: usize,
+    kind: PhantomData<K>,
 }
 
-impl Model for IndexQueue {
+/// A queue that refuses a push when it is full, and whose capacity is set when it is made.
+pub type IndexQueue = NumberQueue<Refusing>;
+
+/// A queue that hands its oldest number out when it is full, and whose capacity is set when it is made.
+pub type SafelyOverflowingIndexQueue = NumberQueue<Overflowing>;
+
+impl<K> Model for NumberQueue<K> {
     ghost use Rattle.std.specs.Prelude.{◌≤◌, length};
     ghost use Rattle.std.specs.VecDeque.{deque_capacity};
     ghost use Rattle.iox_queues_base.specs.Waiting.{Bounded};
@@ -27,29 +43,16 @@ impl Model for IndexQueue {
     ghost invariant = { λ q. (length q.waiting.items ≤ q.capacity) × (q.capacity ≤ deque_capacity q.waiting) };
 }
 
-impl IndexQueue {
+impl<K> NumberQueue<K> {
     /// An empty queue, with the memory for `capacity` numbers.
-    pub fn new(alloc: Global, capacity: usize) -> Result<IndexQueue, AllocError>
+    pub fn new(alloc: Global, capacity: usize) -> Result<NumberQueue<K>, AllocError>
         ensures { IfOk result (λ q. q ≡ record { waiting = []; capacity = capacity }) }
     {
-        Ok(IndexQueue {
+        Ok(NumberQueue {
             waiting: VecDeque::with_capacity(alloc, capacity)?,
             capacity,
+            kind: PhantomData,
         })
-    }
-
-    /// Puts the number behind the rest; false if the queue is full, and then it stays as it was.
-    pub fn push(&mut self, value: u64) -> bool
-        ensures answer { result ≡ nat_lt (length self.old.waiting) self.old.capacity }
-        ensures after { self.new ≡ record self.old { waiting = put self.old.capacity self.old.waiting value } }
-        ensures told { self.new.waiting ≡ self.old.waiting ++ (if result then value ∷ [] else []) }
-    {
-        if self.waiting.len() < self.capacity {
-            self.waiting.push_back_reserved(value);
-            true
-        } else {
-            false
-        }
     }
 
     /// Takes the oldest number out; None if the queue is empty.
@@ -75,12 +78,14 @@ impl IndexQueue {
         self.capacity
     }
 
+    /// Whether no number waits.
     pub fn is_empty(&self) -> bool
         ensures { result ≡ (length self.now.waiting == 0) }
     {
         self.waiting.len() == 0
     }
 
+    /// Whether no further number has room.
     pub fn is_full(&self) -> bool
         ensures { result ≡ nat_le self.now.capacity (length self.now.waiting) }
     {
@@ -88,13 +93,59 @@ impl IndexQueue {
     }
 }
 
-/// A queue of numbers of capacity `CAPACITY`. Clauses see the numbers that wait.
-#[derive(Debug, Drop)]
-pub struct FixedSizeIndexQueue<const CAPACITY: usize> {
-    queue: IndexQueue,
+impl NumberQueue<Refusing> {
+    /// Puts the number behind the rest; false if the queue is full, and then it stays as it was.
+    pub fn push(&mut self, value: u64) -> bool
+        ensures answer { result ≡ nat_lt (length self.old.waiting) self.old.capacity }
+        ensures after { self.new ≡ record self.old { waiting = put self.old.capacity self.old.waiting value } }
+        ensures told { self.new.waiting ≡ self.old.waiting ++ (if result then value ∷ [] else []) }
+    {
+        if self.waiting.len() < self.capacity {
+            self.waiting.push_back_reserved(value);
+            true
+        } else {
+            false
+        }
+    }
 }
 
-impl<const CAPACITY: usize> Model for FixedSizeIndexQueue<CAPACITY> {
+impl NumberQueue<Overflowing> {
+    /// Puts the number behind the rest. A full queue hands its oldest number out; one of capacity 0
+    /// hands the new one back.
+    pub fn push(&mut self, value: u64) -> Option<u64>
+        ensures answer { result ≡ left_out self.old.capacity self.old.waiting value }
+        ensures none_lost { option_to_list result ++ self.new.waiting ≡ self.old.waiting ++ value ∷ [] }
+        ensures full { IfSome result (λ oldest. self.old.capacity ≤ length self.old.waiting) }
+        ensures after { self.new ≡ record self.old { waiting = put_over self.old.capacity self.old.waiting value } }
+    {
+        if self.waiting.len() < self.capacity {
+            self.waiting.push_back_reserved(value);
+            return None;
+        }
+        let Some(oldest) = self.waiting.pop_front() else {
+            return Some(value);
+        };
+        self.waiting.push_back_reserved(value);
+        Some(oldest)
+    }
+}
+
+/// A queue of numbers of kind `K` and of capacity `CAPACITY`. Clauses see the numbers that wait.
+#[derive(Debug, Drop)]
+pub struct FixedSizeNumberQueue<K, const CAPACITY: usize> {
+    queue: NumberQueue<K>,
+}
+
+/// A queue of capacity `CAPACITY` that refuses a push when it is full.
+pub type FixedSizeIndexQueue<const CAPACITY: usize> = FixedSizeNumberQueue<Refusing, CAPACITY>;
+
+/// A queue of capacity `CAPACITY` that hands its oldest number out when it is full.
+pub type FixedSizeSafelyOverflowingIndexQueue<const CAPACITY: usize> = FixedSizeNumberQueue<
+    Overflowing,
+    CAPACITY,
+>;
+
+impl<K, const CAPACITY: usize> Model for FixedSizeNumberQueue<K, CAPACITY> {
     ghost use Rattle.std.specs.Prelude.{◌≡◌, ◌≤◌, ℕ, List, length};
 
     ghost Value = { List ℕ };
@@ -104,23 +155,14 @@ impl<const CAPACITY: usize> Model for FixedSizeIndexQueue<CAPACITY> {
     ghost invariant = { λ q. (q.queue.capacity ≡ CAPACITY) × (length q.queue.waiting ≤ CAPACITY) };
 }
 
-impl<const CAPACITY: usize> FixedSizeIndexQueue<CAPACITY> {
+impl<K, const CAPACITY: usize> FixedSizeNumberQueue<K, CAPACITY> {
     /// An empty queue, with all its memory.
-    pub fn new(alloc: Global) -> Result<FixedSizeIndexQueue<CAPACITY>, AllocError>
+    pub fn new(alloc: Global) -> Result<FixedSizeNumberQueue<K, CAPACITY>, AllocError>
         ensures { IfOk result (λ q. q ≡ []) }
     {
-        Ok(FixedSizeIndexQueue {
-            queue: IndexQueue::new(alloc, CAPACITY)?,
+        Ok(FixedSizeNumberQueue {
+            queue: NumberQueue::new(alloc, CAPACITY)?,
         })
-    }
-
-    /// Puts the number behind the rest; false if the queue is full, and then it stays as it was.
-    pub fn push(&mut self, value: u64) -> bool
-        ensures answer { result ≡ nat_lt (length self.old) CAPACITY }
-        ensures after { self.new ≡ put CAPACITY self.old value }
-        ensures told { self.new ≡ self.old ++ (if result then value ∷ [] else []) }
-    {
-        self.queue.push(value)
     }
 
     /// Takes the oldest number out; None if the queue is empty.
@@ -146,15 +188,41 @@ impl<const CAPACITY: usize> FixedSizeIndexQueue<CAPACITY> {
         self.queue.capacity()
     }
 
+    /// Whether no number waits.
     pub fn is_empty(&self) -> bool
         ensures { result ≡ (length self.now == 0) }
     {
         self.queue.is_empty()
     }
 
+    /// Whether no further number has room.
     pub fn is_full(&self) -> bool
         ensures { result ≡ nat_le CAPACITY (length self.now) }
     {
         self.queue.is_full()
+    }
+}
+
+impl<const CAPACITY: usize> FixedSizeNumberQueue<Refusing, CAPACITY> {
+    /// Puts the number behind the rest; false if the queue is full, and then it stays as it was.
+    pub fn push(&mut self, value: u64) -> bool
+        ensures answer { result ≡ nat_lt (length self.old) CAPACITY }
+        ensures after { self.new ≡ put CAPACITY self.old value }
+        ensures told { self.new ≡ self.old ++ (if result then value ∷ [] else []) }
+    {
+        self.queue.push(value)
+    }
+}
+
+impl<const CAPACITY: usize> FixedSizeNumberQueue<Overflowing, CAPACITY> {
+    /// Puts the number behind the rest. A full queue hands its oldest number out; one of capacity 0
+    /// hands the new one back.
+    pub fn push(&mut self, value: u64) -> Option<u64>
+        ensures answer { result ≡ left_out CAPACITY self.old value }
+        ensures none_lost { option_to_list result ++ self.new ≡ self.old ++ value ∷ [] }
+        ensures full { IfSome result (λ oldest. CAPACITY ≤ length self.old) }
+        ensures after { self.new ≡ put_over CAPACITY self.old value }
+    {
+        self.queue.push(value)
     }
 }

@@ -1,8 +1,7 @@
 //! Queues of fixed capacity, sets of bits, counts and single values, for one thread at a time.
 //!
 //! - [`words`]: values that are copied as 64-bit words.
-//! - [`index_queue`]: queues of numbers that refuse a push when they are full.
-//! - [`overflowing`]: queues of numbers that hand the oldest out when they are full.
+//! - [`index_queue`]: queues of numbers; when full, they refuse a push or hand the oldest number out.
 //! - [`value_queue`]: the queue of any copied value.
 //! - [`bits`]: sets of numbers, and counts of them.
 //! - [`atomic`]: a single value that is stored and loaded whole.
@@ -26,13 +25,14 @@
 pub mod atomic;
 pub mod bits;
 pub mod index_queue;
-pub mod overflowing;
 pub mod value_queue;
 pub mod words;
 
 pub use atomic::UnrestrictedAtomic;
 pub use bits::{BitSet, BitState, CountingBitSet, FixedSizeBitSet, FixedSizeCountingBitSet};
-pub use index_queue::{FixedSizeIndexQueue, IndexQueue};
-pub use overflowing::{FixedSizeSafelyOverflowingIndexQueue, SafelyOverflowingIndexQueue};
+pub use index_queue::{
+    FixedSizeIndexQueue, FixedSizeNumberQueue, FixedSizeSafelyOverflowingIndexQueue, IndexQueue,
+    NumberQueue, Overflowing, Refusing, SafelyOverflowingIndexQueue,
+};
 pub use value_queue::Queue;
 pub use words::{OneWord, Words};
