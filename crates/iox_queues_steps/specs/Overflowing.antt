@@ -77,48 +77,23 @@ pop_take (pop.Looked waiting) answer = pop.Idle
 -- no push is under way
 abbrev pub push_is_idle : Push → Bool
 push_is_idle push.Idle = true
-push_is_idle (push.Begun l value) = false
-push_is_idle (push.SawWrite l value write next) = false
-push_is_idle (push.SawRead l value write next seen) = false
-push_is_idle (push.Filled l value write next seen) = false
-push_is_idle (push.Full value seen next) = false
-push_is_idle (push.SawOldest value seen next oldest) = false
-push_is_idle (push.Pushed value answer) = false
+push_is_idle other = false
 
 -- no pop or look is under way
 abbrev pub pop_is_idle : Pop → Bool
 pop_is_idle pop.Idle = true
-pop_is_idle pop.Begun = false
-pop_is_idle (pop.SawRead seen) = false
-pop_is_idle (pop.Nonempty seen next) = false
-pop_is_idle (pop.SawCell seen next value) = false
-pop_is_idle (pop.Popped got) = false
-pop_is_idle pop.LookBegun = false
-pop_is_idle (pop.LookRead seen) = false
-pop_is_idle (pop.Looked waiting) = false
+pop_is_idle other = false
 
 -- the next step of this push is its last
 abbrev pub push_is_over : Push → Bool
-push_is_over push.Idle = false
-push_is_over (push.Begun l value) = false
-push_is_over (push.SawWrite l value write next) = false
-push_is_over (push.SawRead l value write next seen) = false
-push_is_over (push.Filled l value write next seen) = false
-push_is_over (push.Full value seen next) = false
-push_is_over (push.SawOldest value seen next oldest) = false
 push_is_over (push.Pushed value answer) = true
+push_is_over other = false
 
 -- the next step of this pop or look is its last
 abbrev pub pop_is_over : Pop → Bool
-pop_is_over pop.Idle = false
-pop_is_over pop.Begun = false
-pop_is_over (pop.SawRead seen) = false
-pop_is_over (pop.Nonempty seen next) = false
-pop_is_over (pop.SawCell seen next value) = false
 pop_is_over (pop.Popped got) = true
-pop_is_over pop.LookBegun = false
-pop_is_over (pop.LookRead seen) = false
 pop_is_over (pop.Looked waiting) = true
+pop_is_over other = false
 
 -- the number that a push puts
 abbrev pub push_value : Push → ℕ
@@ -133,12 +108,7 @@ push_value (push.Pushed value answer) = value
 
 -- the call is a look, and no pop
 abbrev pub pop_looks : Pop → Bool
-pop_looks pop.Idle = false
-pop_looks pop.Begun = false
-pop_looks (pop.SawRead seen) = false
-pop_looks (pop.Nonempty seen next) = false
-pop_looks (pop.SawCell seen next value) = false
-pop_looks (pop.Popped got) = false
 pop_looks pop.LookBegun = true
 pop_looks (pop.LookRead seen) = true
 pop_looks (pop.Looked waiting) = true
+pop_looks other = false
