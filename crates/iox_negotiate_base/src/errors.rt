@@ -5,6 +5,7 @@
 //! |---|---|
 //! | `publish_subscribe`, `event`, `request_response` | the three errors of a pattern, of the failures of the rounds |
 //! | `close` | the errors of closing a factory |
+//! | `tables` | the tables of names that all patterns share |
 //!
 //! First calls, of a failure of the rounds. The builders of `iox_negotiate` return these errors.
 //!
@@ -17,6 +18,7 @@ pub mod close;
 pub mod event;
 pub mod publish_subscribe;
 pub mod request_response;
+mod tables;
 
 pub use close::CloseError;
 pub use event::{EventCreateError, EventOpenError, EventOpenOrCreateError};

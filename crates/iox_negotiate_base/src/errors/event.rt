@@ -4,10 +4,26 @@ ghost use Rattle.iox_negotiate_base.specs.EventTexts.{open_text, create_text, op
 ghost use Rattle.iox_negotiate_base.specs.EventErrors.{clause_error, open_error, create_error, open_or_create_error};
 ghost use Rattle.iox_negotiate_base.specs.declared.errors.event.EventOpenOrCreateError.TheVariants as either;
 
+use crate::errors::tables::{
+    create_displayed, of_create_failure, of_either_failure, of_open_failure, open_displayed,
+    same_name,
+};
 use crate::{CreateFailure, OpenFailure, OpenOrCreateFailure};
 use iox_describe_verdict::requirement::event::ClauseError;
 use std::fmt;
 use thiserror::Error;
+
+/// A table of the errors of clauses that an event service doesn't meet.
+macro_rules! of_clauses {
+    ($table:ident: $($given:tt)*) => {
+        $table!($($given)*:
+            IncompatibleMessagingPattern IncompatibleAttributes IncompatibleDeadline
+            DoesNotSupportRequestedAmountOfNotifiers DoesNotSupportRequestedAmountOfListeners
+            DoesNotSupportRequestedMaxEventId IncompatibleNotifierCreatedEvent
+            IncompatibleNotifierDroppedEvent IncompatibleNotifierDeadEvent
+            DoesNotSupportRequestedAmountOfNodes)
+    };
+}
 
 /// Why an event service isn't opened. The clauses that it may not meet stand first, in the order in which they are
 /// tested.
@@ -58,34 +74,7 @@ impl EventOpenError {
     pub fn text(&self) -> &'static str
         ensures { result.now ≡ open_text self.now }
     {
-        match self {
-            EventOpenError::IncompatibleMessagingPattern =>
-                "EventOpenError::IncompatibleMessagingPattern",
-            EventOpenError::IncompatibleAttributes => "EventOpenError::IncompatibleAttributes",
-            EventOpenError::IncompatibleDeadline => "EventOpenError::IncompatibleDeadline",
-            EventOpenError::DoesNotSupportRequestedAmountOfNotifiers =>
-                "EventOpenError::DoesNotSupportRequestedAmountOfNotifiers",
-            EventOpenError::DoesNotSupportRequestedAmountOfListeners =>
-                "EventOpenError::DoesNotSupportRequestedAmountOfListeners",
-            EventOpenError::DoesNotSupportRequestedMaxEventId =>
-                "EventOpenError::DoesNotSupportRequestedMaxEventId",
-            EventOpenError::IncompatibleNotifierCreatedEvent =>
-                "EventOpenError::IncompatibleNotifierCreatedEvent",
-            EventOpenError::IncompatibleNotifierDroppedEvent =>
-                "EventOpenError::IncompatibleNotifierDroppedEvent",
-            EventOpenError::IncompatibleNotifierDeadEvent =>
-                "EventOpenError::IncompatibleNotifierDeadEvent",
-            EventOpenError::DoesNotSupportRequestedAmountOfNodes =>
-                "EventOpenError::DoesNotSupportRequestedAmountOfNodes",
-            EventOpenError::DoesNotExist => "EventOpenError::DoesNotExist",
-            EventOpenError::InsufficientPermissions => "EventOpenError::InsufficientPermissions",
-            EventOpenError::ServiceInCorruptedState => "EventOpenError::ServiceInCorruptedState",
-            EventOpenError::InternalFailure => "EventOpenError::InternalFailure",
-            EventOpenError::HangsInCreation => "EventOpenError::HangsInCreation",
-            EventOpenError::ExceedsMaxNumberOfNodes => "EventOpenError::ExceedsMaxNumberOfNodes",
-            EventOpenError::IsMarkedForDestruction => "EventOpenError::IsMarkedForDestruction",
-            EventOpenError::OutOfMemory => "EventOpenError::OutOfMemory",
-        }
+        of_clauses!(open_displayed: self, [EventOpenError])
     }
 }
 
@@ -125,18 +114,7 @@ impl EventCreateError {
     pub fn text(&self) -> &'static str
         ensures { result.now ≡ create_text self.now }
     {
-        match self {
-            EventCreateError::AlreadyExists => "EventCreateError::AlreadyExists",
-            EventCreateError::InsufficientPermissions =>
-                "EventCreateError::InsufficientPermissions",
-            EventCreateError::InternalFailure => "EventCreateError::InternalFailure",
-            EventCreateError::IsBeingCreatedByAnotherInstance =>
-                "EventCreateError::IsBeingCreatedByAnotherInstance",
-            EventCreateError::HangsInCreation => "EventCreateError::HangsInCreation",
-            EventCreateError::ServiceInCorruptedState =>
-                "EventCreateError::ServiceInCorruptedState",
-            EventCreateError::OutOfMemory => "EventCreateError::OutOfMemory",
-        }
+        create_displayed!(self, [EventCreateError]:)
     }
 }
 
@@ -169,63 +147,10 @@ impl EventOpenOrCreateError {
         ensures { result.now ≡ open_or_create_text self.now }
     {
         match self {
-            EventOpenOrCreateError::EventOpenError(EventOpenError::IncompatibleMessagingPattern) =>
-                "EventOpenOrCreateError::EventOpenError(IncompatibleMessagingPattern)",
-            EventOpenOrCreateError::EventOpenError(EventOpenError::IncompatibleAttributes) =>
-                "EventOpenOrCreateError::EventOpenError(IncompatibleAttributes)",
-            EventOpenOrCreateError::EventOpenError(EventOpenError::IncompatibleDeadline) =>
-                "EventOpenOrCreateError::EventOpenError(IncompatibleDeadline)",
-            EventOpenOrCreateError::EventOpenError(
-                EventOpenError::DoesNotSupportRequestedAmountOfNotifiers,
-            ) => "EventOpenOrCreateError::EventOpenError(DoesNotSupportRequestedAmountOfNotifiers)",
-            EventOpenOrCreateError::EventOpenError(
-                EventOpenError::DoesNotSupportRequestedAmountOfListeners,
-            ) => "EventOpenOrCreateError::EventOpenError(DoesNotSupportRequestedAmountOfListeners)",
-            EventOpenOrCreateError::EventOpenError(
-                EventOpenError::DoesNotSupportRequestedMaxEventId,
-            ) => "EventOpenOrCreateError::EventOpenError(DoesNotSupportRequestedMaxEventId)",
-            EventOpenOrCreateError::EventOpenError(
-                EventOpenError::IncompatibleNotifierCreatedEvent,
-            ) => "EventOpenOrCreateError::EventOpenError(IncompatibleNotifierCreatedEvent)",
-            EventOpenOrCreateError::EventOpenError(
-                EventOpenError::IncompatibleNotifierDroppedEvent,
-            ) => "EventOpenOrCreateError::EventOpenError(IncompatibleNotifierDroppedEvent)",
-            EventOpenOrCreateError::EventOpenError(EventOpenError::IncompatibleNotifierDeadEvent) =>
-                "EventOpenOrCreateError::EventOpenError(IncompatibleNotifierDeadEvent)",
-            EventOpenOrCreateError::EventOpenError(
-                EventOpenError::DoesNotSupportRequestedAmountOfNodes,
-            ) => "EventOpenOrCreateError::EventOpenError(DoesNotSupportRequestedAmountOfNodes)",
-            EventOpenOrCreateError::EventOpenError(EventOpenError::DoesNotExist) =>
-                "EventOpenOrCreateError::EventOpenError(DoesNotExist)",
-            EventOpenOrCreateError::EventOpenError(EventOpenError::InsufficientPermissions) =>
-                "EventOpenOrCreateError::EventOpenError(InsufficientPermissions)",
-            EventOpenOrCreateError::EventOpenError(EventOpenError::ServiceInCorruptedState) =>
-                "EventOpenOrCreateError::EventOpenError(ServiceInCorruptedState)",
-            EventOpenOrCreateError::EventOpenError(EventOpenError::InternalFailure) =>
-                "EventOpenOrCreateError::EventOpenError(InternalFailure)",
-            EventOpenOrCreateError::EventOpenError(EventOpenError::HangsInCreation) =>
-                "EventOpenOrCreateError::EventOpenError(HangsInCreation)",
-            EventOpenOrCreateError::EventOpenError(EventOpenError::ExceedsMaxNumberOfNodes) =>
-                "EventOpenOrCreateError::EventOpenError(ExceedsMaxNumberOfNodes)",
-            EventOpenOrCreateError::EventOpenError(EventOpenError::IsMarkedForDestruction) =>
-                "EventOpenOrCreateError::EventOpenError(IsMarkedForDestruction)",
-            EventOpenOrCreateError::EventOpenError(EventOpenError::OutOfMemory) =>
-                "EventOpenOrCreateError::EventOpenError(OutOfMemory)",
-            EventOpenOrCreateError::EventCreateError(EventCreateError::AlreadyExists) =>
-                "EventOpenOrCreateError::EventCreateError(AlreadyExists)",
-            EventOpenOrCreateError::EventCreateError(EventCreateError::InsufficientPermissions) =>
-                "EventOpenOrCreateError::EventCreateError(InsufficientPermissions)",
-            EventOpenOrCreateError::EventCreateError(EventCreateError::InternalFailure) =>
-                "EventOpenOrCreateError::EventCreateError(InternalFailure)",
-            EventOpenOrCreateError::EventCreateError(
-                EventCreateError::IsBeingCreatedByAnotherInstance,
-            ) => "EventOpenOrCreateError::EventCreateError(IsBeingCreatedByAnotherInstance)",
-            EventOpenOrCreateError::EventCreateError(EventCreateError::HangsInCreation) =>
-                "EventOpenOrCreateError::EventCreateError(HangsInCreation)",
-            EventOpenOrCreateError::EventCreateError(EventCreateError::ServiceInCorruptedState) =>
-                "EventOpenOrCreateError::EventCreateError(ServiceInCorruptedState)",
-            EventOpenOrCreateError::EventCreateError(EventCreateError::OutOfMemory) =>
-                "EventOpenOrCreateError::EventCreateError(OutOfMemory)",
+            EventOpenOrCreateError::EventOpenError(error) =>
+                of_clauses!(open_displayed: error, [EventOpenError in EventOpenOrCreateError]),
+            EventOpenOrCreateError::EventCreateError(error) =>
+                create_displayed!(error, [EventCreateError in EventOpenOrCreateError]:),
             EventOpenOrCreateError::SystemInFlux => "EventOpenOrCreateError::SystemInFlux",
         }
     }
@@ -246,26 +171,7 @@ impl From<ClauseError> for EventOpenError {
     ghost from_gives = { λ unmet error. error ≡ clause_error unmet };
 
     fn from(unmet: ClauseError) -> Self {
-        match unmet {
-            ClauseError::IncompatibleMessagingPattern =>
-                EventOpenError::IncompatibleMessagingPattern,
-            ClauseError::IncompatibleAttributes => EventOpenError::IncompatibleAttributes,
-            ClauseError::IncompatibleDeadline => EventOpenError::IncompatibleDeadline,
-            ClauseError::DoesNotSupportRequestedAmountOfNotifiers =>
-                EventOpenError::DoesNotSupportRequestedAmountOfNotifiers,
-            ClauseError::DoesNotSupportRequestedAmountOfListeners =>
-                EventOpenError::DoesNotSupportRequestedAmountOfListeners,
-            ClauseError::DoesNotSupportRequestedMaxEventId =>
-                EventOpenError::DoesNotSupportRequestedMaxEventId,
-            ClauseError::IncompatibleNotifierCreatedEvent =>
-                EventOpenError::IncompatibleNotifierCreatedEvent,
-            ClauseError::IncompatibleNotifierDroppedEvent =>
-                EventOpenError::IncompatibleNotifierDroppedEvent,
-            ClauseError::IncompatibleNotifierDeadEvent =>
-                EventOpenError::IncompatibleNotifierDeadEvent,
-            ClauseError::DoesNotSupportRequestedAmountOfNodes =>
-                EventOpenError::DoesNotSupportRequestedAmountOfNodes,
-        }
+        of_clauses!(same_name: unmet, ClauseError to EventOpenError)
     }
 }
 
@@ -274,17 +180,7 @@ impl From<OpenFailure<ClauseError>> for EventOpenError {
     ghost from_gives = { λ failure error. error ≡ open_error failure };
 
     fn from(failure: OpenFailure<ClauseError>) -> Self {
-        match failure {
-            OpenFailure::Clause(unmet) => EventOpenError::from(unmet),
-            OpenFailure::DoesNotExist => EventOpenError::DoesNotExist,
-            OpenFailure::InsufficientPermissions => EventOpenError::InsufficientPermissions,
-            OpenFailure::ServiceInCorruptedState => EventOpenError::ServiceInCorruptedState,
-            OpenFailure::InternalFailure => EventOpenError::InternalFailure,
-            OpenFailure::HangsInCreation => EventOpenError::HangsInCreation,
-            OpenFailure::ExceedsMaxNumberOfNodes => EventOpenError::ExceedsMaxNumberOfNodes,
-            OpenFailure::IsMarkedForDestruction => EventOpenError::IsMarkedForDestruction,
-            OpenFailure::OutOfMemory => EventOpenError::OutOfMemory,
-        }
+        of_open_failure!(failure, EventOpenError)
     }
 }
 
@@ -293,18 +189,7 @@ impl From<CreateFailure> for EventCreateError {
     ghost from_gives = { λ failure error. error ≡ create_error failure };
 
     fn from(failure: CreateFailure) -> Self {
-        match failure {
-            CreateFailure::AlreadyExists => EventCreateError::AlreadyExists,
-            CreateFailure::InsufficientPermissions => EventCreateError::InsufficientPermissions,
-            CreateFailure::InternalFailure => EventCreateError::InternalFailure,
-            CreateFailure::IsBeingCreatedByAnotherInstance =>
-                EventCreateError::IsBeingCreatedByAnotherInstance,
-            CreateFailure::HangsInCreation => EventCreateError::HangsInCreation,
-            CreateFailure::ServiceInCorruptedState => EventCreateError::ServiceInCorruptedState,
-            CreateFailure::OutOfMemory => EventCreateError::OutOfMemory,
-            CreateFailure::SubscriberBufferMustBeLargerThanHistorySize =>
-                EventCreateError::InternalFailure,
-        }
+        of_create_failure!(failure, EventCreateError, InternalFailure)
     }
 }
 
@@ -331,14 +216,6 @@ impl From<OpenOrCreateFailure<ClauseError>> for EventOpenOrCreateError {
     ghost from_gives = { λ failure error. error ≡ open_or_create_error failure };
 
     fn from(failure: OpenOrCreateFailure<ClauseError>) -> Self {
-        match failure {
-            OpenOrCreateFailure::Open(failure) => EventOpenOrCreateError::EventOpenError(
-                EventOpenError::from(failure),
-            ),
-            OpenOrCreateFailure::Create(failure) => EventOpenOrCreateError::EventCreateError(
-                EventCreateError::from(failure),
-            ),
-            OpenOrCreateFailure::SystemInFlux => EventOpenOrCreateError::SystemInFlux,
-        }
+        of_either_failure!(failure, EventOpenOrCreateError of EventOpenError, EventCreateError)
     }
 }

@@ -4,10 +4,27 @@ ghost use Rattle.iox_negotiate_base.specs.PublishSubscribeTexts.{open_text, crea
 ghost use Rattle.iox_negotiate_base.specs.PublishSubscribeErrors.{clause_error, open_error, create_error, open_or_create_error};
 ghost use Rattle.iox_negotiate_base.specs.declared.errors.publish_subscribe.PublishSubscribeOpenOrCreateError.TheVariants as either;
 
+use crate::errors::tables::{
+    create_displayed, of_create_failure, of_either_failure, of_open_failure, open_displayed,
+    same_name,
+};
 use crate::{CreateFailure, OpenFailure, OpenOrCreateFailure};
 use iox_describe_verdict::requirement::publish_subscribe::ClauseError;
 use std::fmt;
 use thiserror::Error;
+
+/// A table of the errors of clauses that a publish-subscribe service doesn't meet.
+macro_rules! of_clauses {
+    ($table:ident: $($given:tt)*) => {
+        $table!($($given)*:
+            IncompatibleMessagingPattern IncompatibleTypes IncompatibleAttributes
+            IncompatibleOverflowBehavior IncompatibleSequenceNumbers
+            DoesNotSupportRequestedAmountOfPublishers DoesNotSupportRequestedAmountOfSubscribers
+            DoesNotSupportRequestedMinBufferSize DoesNotSupportRequestedMinHistorySize
+            DoesNotSupportRequestedMinSubscriberBorrowedSamples
+            DoesNotSupportRequestedAmountOfNodes)
+    };
+}
 
 /// Why a publish-subscribe service isn't opened. The clauses that it may not meet stand first, in the order in
 /// which they are tested.
@@ -60,44 +77,7 @@ impl PublishSubscribeOpenError {
     pub fn text(&self) -> &'static str
         ensures { result.now ≡ open_text self.now }
     {
-        match self {
-            PublishSubscribeOpenError::IncompatibleMessagingPattern =>
-                "PublishSubscribeOpenError::IncompatibleMessagingPattern",
-            PublishSubscribeOpenError::IncompatibleTypes =>
-                "PublishSubscribeOpenError::IncompatibleTypes",
-            PublishSubscribeOpenError::IncompatibleAttributes =>
-                "PublishSubscribeOpenError::IncompatibleAttributes",
-            PublishSubscribeOpenError::IncompatibleOverflowBehavior =>
-                "PublishSubscribeOpenError::IncompatibleOverflowBehavior",
-            PublishSubscribeOpenError::IncompatibleSequenceNumbers =>
-                "PublishSubscribeOpenError::IncompatibleSequenceNumbers",
-            PublishSubscribeOpenError::DoesNotSupportRequestedAmountOfPublishers =>
-                "PublishSubscribeOpenError::DoesNotSupportRequestedAmountOfPublishers",
-            PublishSubscribeOpenError::DoesNotSupportRequestedAmountOfSubscribers =>
-                "PublishSubscribeOpenError::DoesNotSupportRequestedAmountOfSubscribers",
-            PublishSubscribeOpenError::DoesNotSupportRequestedMinBufferSize =>
-                "PublishSubscribeOpenError::DoesNotSupportRequestedMinBufferSize",
-            PublishSubscribeOpenError::DoesNotSupportRequestedMinHistorySize =>
-                "PublishSubscribeOpenError::DoesNotSupportRequestedMinHistorySize",
-            PublishSubscribeOpenError::DoesNotSupportRequestedMinSubscriberBorrowedSamples =>
-                "PublishSubscribeOpenError::DoesNotSupportRequestedMinSubscriberBorrowedSamples",
-            PublishSubscribeOpenError::DoesNotSupportRequestedAmountOfNodes =>
-                "PublishSubscribeOpenError::DoesNotSupportRequestedAmountOfNodes",
-            PublishSubscribeOpenError::DoesNotExist => "PublishSubscribeOpenError::DoesNotExist",
-            PublishSubscribeOpenError::InsufficientPermissions =>
-                "PublishSubscribeOpenError::InsufficientPermissions",
-            PublishSubscribeOpenError::ServiceInCorruptedState =>
-                "PublishSubscribeOpenError::ServiceInCorruptedState",
-            PublishSubscribeOpenError::InternalFailure =>
-                "PublishSubscribeOpenError::InternalFailure",
-            PublishSubscribeOpenError::HangsInCreation =>
-                "PublishSubscribeOpenError::HangsInCreation",
-            PublishSubscribeOpenError::ExceedsMaxNumberOfNodes =>
-                "PublishSubscribeOpenError::ExceedsMaxNumberOfNodes",
-            PublishSubscribeOpenError::IsMarkedForDestruction =>
-                "PublishSubscribeOpenError::IsMarkedForDestruction",
-            PublishSubscribeOpenError::OutOfMemory => "PublishSubscribeOpenError::OutOfMemory",
-        }
+        of_clauses!(open_displayed: self, [PublishSubscribeOpenError])
     }
 }
 
@@ -139,23 +119,7 @@ impl PublishSubscribeCreateError {
     pub fn text(&self) -> &'static str
         ensures { result.now ≡ create_text self.now }
     {
-        match self {
-            PublishSubscribeCreateError::AlreadyExists =>
-                "PublishSubscribeCreateError::AlreadyExists",
-            PublishSubscribeCreateError::InsufficientPermissions =>
-                "PublishSubscribeCreateError::InsufficientPermissions",
-            PublishSubscribeCreateError::InternalFailure =>
-                "PublishSubscribeCreateError::InternalFailure",
-            PublishSubscribeCreateError::IsBeingCreatedByAnotherInstance =>
-                "PublishSubscribeCreateError::IsBeingCreatedByAnotherInstance",
-            PublishSubscribeCreateError::HangsInCreation =>
-                "PublishSubscribeCreateError::HangsInCreation",
-            PublishSubscribeCreateError::ServiceInCorruptedState =>
-                "PublishSubscribeCreateError::ServiceInCorruptedState",
-            PublishSubscribeCreateError::SubscriberBufferMustBeLargerThanHistorySize =>
-                "PublishSubscribeCreateError::SubscriberBufferMustBeLargerThanHistorySize",
-            PublishSubscribeCreateError::OutOfMemory => "PublishSubscribeCreateError::OutOfMemory",
-        }
+        create_displayed!(self, [PublishSubscribeCreateError]: SubscriberBufferMustBeLargerThanHistorySize)
     }
 }
 
@@ -188,105 +152,11 @@ impl PublishSubscribeOpenOrCreateError {
         ensures { result.now ≡ open_or_create_text self.now }
     {
         match self {
-            PublishSubscribeOpenOrCreateError::PublishSubscribeOpenError(
-                PublishSubscribeOpenError::IncompatibleMessagingPattern,
-            ) =>
-                "PublishSubscribeOpenOrCreateError::PublishSubscribeOpenError(IncompatibleMessagingPattern)",
-            PublishSubscribeOpenOrCreateError::PublishSubscribeOpenError(
-                PublishSubscribeOpenError::IncompatibleTypes,
-            ) => "PublishSubscribeOpenOrCreateError::PublishSubscribeOpenError(IncompatibleTypes)",
-            PublishSubscribeOpenOrCreateError::PublishSubscribeOpenError(
-                PublishSubscribeOpenError::IncompatibleAttributes,
-            ) =>
-                "PublishSubscribeOpenOrCreateError::PublishSubscribeOpenError(IncompatibleAttributes)",
-            PublishSubscribeOpenOrCreateError::PublishSubscribeOpenError(
-                PublishSubscribeOpenError::IncompatibleOverflowBehavior,
-            ) =>
-                "PublishSubscribeOpenOrCreateError::PublishSubscribeOpenError(IncompatibleOverflowBehavior)",
-            PublishSubscribeOpenOrCreateError::PublishSubscribeOpenError(
-                PublishSubscribeOpenError::IncompatibleSequenceNumbers,
-            ) =>
-                "PublishSubscribeOpenOrCreateError::PublishSubscribeOpenError(IncompatibleSequenceNumbers)",
-            PublishSubscribeOpenOrCreateError::PublishSubscribeOpenError(
-                PublishSubscribeOpenError::DoesNotSupportRequestedAmountOfPublishers,
-            ) =>
-                "PublishSubscribeOpenOrCreateError::PublishSubscribeOpenError(DoesNotSupportRequestedAmountOfPublishers)",
-            PublishSubscribeOpenOrCreateError::PublishSubscribeOpenError(
-                PublishSubscribeOpenError::DoesNotSupportRequestedAmountOfSubscribers,
-            ) =>
-                "PublishSubscribeOpenOrCreateError::PublishSubscribeOpenError(DoesNotSupportRequestedAmountOfSubscribers)",
-            PublishSubscribeOpenOrCreateError::PublishSubscribeOpenError(
-                PublishSubscribeOpenError::DoesNotSupportRequestedMinBufferSize,
-            ) =>
-                "PublishSubscribeOpenOrCreateError::PublishSubscribeOpenError(DoesNotSupportRequestedMinBufferSize)",
-            PublishSubscribeOpenOrCreateError::PublishSubscribeOpenError(
-                PublishSubscribeOpenError::DoesNotSupportRequestedMinHistorySize,
-            ) =>
-                "PublishSubscribeOpenOrCreateError::PublishSubscribeOpenError(DoesNotSupportRequestedMinHistorySize)",
-            PublishSubscribeOpenOrCreateError::PublishSubscribeOpenError(
-                PublishSubscribeOpenError::DoesNotSupportRequestedMinSubscriberBorrowedSamples,
-            ) =>
-                "PublishSubscribeOpenOrCreateError::PublishSubscribeOpenError(DoesNotSupportRequestedMinSubscriberBorrowedSamples)",
-            PublishSubscribeOpenOrCreateError::PublishSubscribeOpenError(
-                PublishSubscribeOpenError::DoesNotSupportRequestedAmountOfNodes,
-            ) =>
-                "PublishSubscribeOpenOrCreateError::PublishSubscribeOpenError(DoesNotSupportRequestedAmountOfNodes)",
-            PublishSubscribeOpenOrCreateError::PublishSubscribeOpenError(
-                PublishSubscribeOpenError::DoesNotExist,
-            ) => "PublishSubscribeOpenOrCreateError::PublishSubscribeOpenError(DoesNotExist)",
-            PublishSubscribeOpenOrCreateError::PublishSubscribeOpenError(
-                PublishSubscribeOpenError::InsufficientPermissions,
-            ) =>
-                "PublishSubscribeOpenOrCreateError::PublishSubscribeOpenError(InsufficientPermissions)",
-            PublishSubscribeOpenOrCreateError::PublishSubscribeOpenError(
-                PublishSubscribeOpenError::ServiceInCorruptedState,
-            ) =>
-                "PublishSubscribeOpenOrCreateError::PublishSubscribeOpenError(ServiceInCorruptedState)",
-            PublishSubscribeOpenOrCreateError::PublishSubscribeOpenError(
-                PublishSubscribeOpenError::InternalFailure,
-            ) => "PublishSubscribeOpenOrCreateError::PublishSubscribeOpenError(InternalFailure)",
-            PublishSubscribeOpenOrCreateError::PublishSubscribeOpenError(
-                PublishSubscribeOpenError::HangsInCreation,
-            ) => "PublishSubscribeOpenOrCreateError::PublishSubscribeOpenError(HangsInCreation)",
-            PublishSubscribeOpenOrCreateError::PublishSubscribeOpenError(
-                PublishSubscribeOpenError::ExceedsMaxNumberOfNodes,
-            ) =>
-                "PublishSubscribeOpenOrCreateError::PublishSubscribeOpenError(ExceedsMaxNumberOfNodes)",
-            PublishSubscribeOpenOrCreateError::PublishSubscribeOpenError(
-                PublishSubscribeOpenError::IsMarkedForDestruction,
-            ) =>
-                "PublishSubscribeOpenOrCreateError::PublishSubscribeOpenError(IsMarkedForDestruction)",
-            PublishSubscribeOpenOrCreateError::PublishSubscribeOpenError(
-                PublishSubscribeOpenError::OutOfMemory,
-            ) => "PublishSubscribeOpenOrCreateError::PublishSubscribeOpenError(OutOfMemory)",
-            PublishSubscribeOpenOrCreateError::PublishSubscribeCreateError(
-                PublishSubscribeCreateError::AlreadyExists,
-            ) => "PublishSubscribeOpenOrCreateError::PublishSubscribeCreateError(AlreadyExists)",
-            PublishSubscribeOpenOrCreateError::PublishSubscribeCreateError(
-                PublishSubscribeCreateError::InsufficientPermissions,
-            ) =>
-                "PublishSubscribeOpenOrCreateError::PublishSubscribeCreateError(InsufficientPermissions)",
-            PublishSubscribeOpenOrCreateError::PublishSubscribeCreateError(
-                PublishSubscribeCreateError::InternalFailure,
-            ) => "PublishSubscribeOpenOrCreateError::PublishSubscribeCreateError(InternalFailure)",
-            PublishSubscribeOpenOrCreateError::PublishSubscribeCreateError(
-                PublishSubscribeCreateError::IsBeingCreatedByAnotherInstance,
-            ) =>
-                "PublishSubscribeOpenOrCreateError::PublishSubscribeCreateError(IsBeingCreatedByAnotherInstance)",
-            PublishSubscribeOpenOrCreateError::PublishSubscribeCreateError(
-                PublishSubscribeCreateError::HangsInCreation,
-            ) => "PublishSubscribeOpenOrCreateError::PublishSubscribeCreateError(HangsInCreation)",
-            PublishSubscribeOpenOrCreateError::PublishSubscribeCreateError(
-                PublishSubscribeCreateError::ServiceInCorruptedState,
-            ) =>
-                "PublishSubscribeOpenOrCreateError::PublishSubscribeCreateError(ServiceInCorruptedState)",
-            PublishSubscribeOpenOrCreateError::PublishSubscribeCreateError(
-                PublishSubscribeCreateError::SubscriberBufferMustBeLargerThanHistorySize,
-            ) =>
-                "PublishSubscribeOpenOrCreateError::PublishSubscribeCreateError(SubscriberBufferMustBeLargerThanHistorySize)",
-            PublishSubscribeOpenOrCreateError::PublishSubscribeCreateError(
-                PublishSubscribeCreateError::OutOfMemory,
-            ) => "PublishSubscribeOpenOrCreateError::PublishSubscribeCreateError(OutOfMemory)",
+            PublishSubscribeOpenOrCreateError::PublishSubscribeOpenError(error) =>
+                of_clauses!(open_displayed: error, [PublishSubscribeOpenError in PublishSubscribeOpenOrCreateError]),
+            PublishSubscribeOpenOrCreateError::PublishSubscribeCreateError(error) =>
+                create_displayed!(error, [PublishSubscribeCreateError in PublishSubscribeOpenOrCreateError]:
+                    SubscriberBufferMustBeLargerThanHistorySize),
             PublishSubscribeOpenOrCreateError::SystemInFlux =>
                 "PublishSubscribeOpenOrCreateError::SystemInFlux",
         }
@@ -308,29 +178,7 @@ impl From<ClauseError> for PublishSubscribeOpenError {
     ghost from_gives = { λ unmet error. error ≡ clause_error unmet };
 
     fn from(unmet: ClauseError) -> Self {
-        match unmet {
-            ClauseError::IncompatibleMessagingPattern =>
-                PublishSubscribeOpenError::IncompatibleMessagingPattern,
-            ClauseError::IncompatibleTypes => PublishSubscribeOpenError::IncompatibleTypes,
-            ClauseError::IncompatibleAttributes =>
-                PublishSubscribeOpenError::IncompatibleAttributes,
-            ClauseError::IncompatibleOverflowBehavior =>
-                PublishSubscribeOpenError::IncompatibleOverflowBehavior,
-            ClauseError::IncompatibleSequenceNumbers =>
-                PublishSubscribeOpenError::IncompatibleSequenceNumbers,
-            ClauseError::DoesNotSupportRequestedAmountOfPublishers =>
-                PublishSubscribeOpenError::DoesNotSupportRequestedAmountOfPublishers,
-            ClauseError::DoesNotSupportRequestedAmountOfSubscribers =>
-                PublishSubscribeOpenError::DoesNotSupportRequestedAmountOfSubscribers,
-            ClauseError::DoesNotSupportRequestedMinBufferSize =>
-                PublishSubscribeOpenError::DoesNotSupportRequestedMinBufferSize,
-            ClauseError::DoesNotSupportRequestedMinHistorySize =>
-                PublishSubscribeOpenError::DoesNotSupportRequestedMinHistorySize,
-            ClauseError::DoesNotSupportRequestedMinSubscriberBorrowedSamples =>
-                PublishSubscribeOpenError::DoesNotSupportRequestedMinSubscriberBorrowedSamples,
-            ClauseError::DoesNotSupportRequestedAmountOfNodes =>
-                PublishSubscribeOpenError::DoesNotSupportRequestedAmountOfNodes,
-        }
+        of_clauses!(same_name: unmet, ClauseError to PublishSubscribeOpenError)
     }
 }
 
@@ -339,21 +187,7 @@ impl From<OpenFailure<ClauseError>> for PublishSubscribeOpenError {
     ghost from_gives = { λ failure error. error ≡ open_error failure };
 
     fn from(failure: OpenFailure<ClauseError>) -> Self {
-        match failure {
-            OpenFailure::Clause(unmet) => PublishSubscribeOpenError::from(unmet),
-            OpenFailure::DoesNotExist => PublishSubscribeOpenError::DoesNotExist,
-            OpenFailure::InsufficientPermissions =>
-                PublishSubscribeOpenError::InsufficientPermissions,
-            OpenFailure::ServiceInCorruptedState =>
-                PublishSubscribeOpenError::ServiceInCorruptedState,
-            OpenFailure::InternalFailure => PublishSubscribeOpenError::InternalFailure,
-            OpenFailure::HangsInCreation => PublishSubscribeOpenError::HangsInCreation,
-            OpenFailure::ExceedsMaxNumberOfNodes =>
-                PublishSubscribeOpenError::ExceedsMaxNumberOfNodes,
-            OpenFailure::IsMarkedForDestruction =>
-                PublishSubscribeOpenError::IsMarkedForDestruction,
-            OpenFailure::OutOfMemory => PublishSubscribeOpenError::OutOfMemory,
-        }
+        of_open_failure!(failure, PublishSubscribeOpenError)
     }
 }
 
@@ -362,20 +196,11 @@ impl From<CreateFailure> for PublishSubscribeCreateError {
     ghost from_gives = { λ failure error. error ≡ create_error failure };
 
     fn from(failure: CreateFailure) -> Self {
-        match failure {
-            CreateFailure::AlreadyExists => PublishSubscribeCreateError::AlreadyExists,
-            CreateFailure::InsufficientPermissions =>
-                PublishSubscribeCreateError::InsufficientPermissions,
-            CreateFailure::InternalFailure => PublishSubscribeCreateError::InternalFailure,
-            CreateFailure::IsBeingCreatedByAnotherInstance =>
-                PublishSubscribeCreateError::IsBeingCreatedByAnotherInstance,
-            CreateFailure::HangsInCreation => PublishSubscribeCreateError::HangsInCreation,
-            CreateFailure::ServiceInCorruptedState =>
-                PublishSubscribeCreateError::ServiceInCorruptedState,
-            CreateFailure::SubscriberBufferMustBeLargerThanHistorySize =>
-                PublishSubscribeCreateError::SubscriberBufferMustBeLargerThanHistorySize,
-            CreateFailure::OutOfMemory => PublishSubscribeCreateError::OutOfMemory,
-        }
+        of_create_failure!(
+            failure,
+            PublishSubscribeCreateError,
+            SubscriberBufferMustBeLargerThanHistorySize
+        )
     }
 }
 
@@ -402,16 +227,6 @@ impl From<OpenOrCreateFailure<ClauseError>> for PublishSubscribeOpenOrCreateErro
     ghost from_gives = { λ failure error. error ≡ open_or_create_error failure };
 
     fn from(failure: OpenOrCreateFailure<ClauseError>) -> Self {
-        match failure {
-            OpenOrCreateFailure::Open(failure) =>
-                PublishSubscribeOpenOrCreateError::PublishSubscribeOpenError(
-                    PublishSubscribeOpenError::from(failure),
-                ),
-            OpenOrCreateFailure::Create(failure) =>
-                PublishSubscribeOpenOrCreateError::PublishSubscribeCreateError(
-                    PublishSubscribeCreateError::from(failure),
-                ),
-            OpenOrCreateFailure::SystemInFlux => PublishSubscribeOpenOrCreateError::SystemInFlux,
-        }
+        of_either_failure!(failure, PublishSubscribeOpenOrCreateError of PublishSubscribeOpenError, PublishSubscribeCreateError)
     }
 }

@@ -4,10 +4,31 @@ ghost use Rattle.iox_negotiate_base.specs.RequestResponseTexts.{open_text, creat
 ghost use Rattle.iox_negotiate_base.specs.RequestResponseErrors.{clause_error, open_error, create_error, open_or_create_error};
 ghost use Rattle.iox_negotiate_base.specs.declared.errors.request_response.RequestResponseOpenOrCreateError.TheVariants as either;
 
+use crate::errors::tables::{
+    create_displayed, of_create_failure, of_either_failure, of_open_failure, open_displayed,
+    same_name,
+};
 use crate::{CreateFailure, OpenFailure, OpenOrCreateFailure};
 use iox_describe_verdict::requirement::request_response::ClauseError;
 use std::fmt;
 use thiserror::Error;
+
+/// A table of the errors of clauses that a request-response service doesn't meet.
+macro_rules! of_clauses {
+    ($table:ident: $($given:tt)*) => {
+        $table!($($given)*:
+            IncompatibleMessagingPattern IncompatibleRequestType IncompatibleResponseType
+            IncompatibleAttributes IncompatibleOverflowBehaviorForRequests
+            IncompatibleOverflowBehaviorForResponses
+            IncompatibleBehaviorForFireAndForgetRequests
+            DoesNotSupportRequestedAmountOfClientRequestLoans
+            DoesNotSupportRequestedAmountOfActiveRequestsPerClient
+            DoesNotSupportRequestedResponseBufferSize DoesNotSupportRequestedAmountOfServers
+            DoesNotSupportRequestedAmountOfClients
+            DoesNotSupportRequestedAmountOfBorrowedResponsesPerPendingResponse
+            DoesNotSupportRequestedAmountOfNodes)
+    };
+}
 
 /// Why a request-response service isn't opened. The clauses that it may not meet stand first, in the order in which
 /// they are tested.
@@ -66,50 +87,7 @@ impl RequestResponseOpenError {
     pub fn text(&self) -> &'static str
         ensures { result.now ≡ open_text self.now }
     {
-        match self {
-            RequestResponseOpenError::IncompatibleMessagingPattern =>
-                "RequestResponseOpenError::IncompatibleMessagingPattern",
-            RequestResponseOpenError::IncompatibleRequestType =>
-                "RequestResponseOpenError::IncompatibleRequestType",
-            RequestResponseOpenError::IncompatibleResponseType =>
-                "RequestResponseOpenError::IncompatibleResponseType",
-            RequestResponseOpenError::IncompatibleAttributes =>
-                "RequestResponseOpenError::IncompatibleAttributes",
-            RequestResponseOpenError::IncompatibleOverflowBehaviorForRequests =>
-                "RequestResponseOpenError::IncompatibleOverflowBehaviorForRequests",
-            RequestResponseOpenError::IncompatibleOverflowBehaviorForResponses =>
-                "RequestResponseOpenError::IncompatibleOverflowBehaviorForResponses",
-            RequestResponseOpenError::IncompatibleBehaviorForFireAndForgetRequests =>
-                "RequestResponseOpenError::IncompatibleBehaviorForFireAndForgetRequests",
-            RequestResponseOpenError::DoesNotSupportRequestedAmountOfClientRequestLoans =>
-                "RequestResponseOpenError::DoesNotSupportRequestedAmountOfClientRequestLoans",
-            RequestResponseOpenError::DoesNotSupportRequestedAmountOfActiveRequestsPerClient =>
-                "RequestResponseOpenError::DoesNotSupportRequestedAmountOfActiveRequestsPerClient",
-            RequestResponseOpenError::DoesNotSupportRequestedResponseBufferSize =>
-                "RequestResponseOpenError::DoesNotSupportRequestedResponseBufferSize",
-            RequestResponseOpenError::DoesNotSupportRequestedAmountOfServers =>
-                "RequestResponseOpenError::DoesNotSupportRequestedAmountOfServers",
-            RequestResponseOpenError::DoesNotSupportRequestedAmountOfClients =>
-                "RequestResponseOpenError::DoesNotSupportRequestedAmountOfClients",
-            RequestResponseOpenError::DoesNotSupportRequestedAmountOfBorrowedResponsesPerPendingResponse =>
-                "RequestResponseOpenError::DoesNotSupportRequestedAmountOfBorrowedResponsesPerPendingResponse",
-            RequestResponseOpenError::DoesNotSupportRequestedAmountOfNodes =>
-                "RequestResponseOpenError::DoesNotSupportRequestedAmountOfNodes",
-            RequestResponseOpenError::DoesNotExist => "RequestResponseOpenError::DoesNotExist",
-            RequestResponseOpenError::InsufficientPermissions =>
-                "RequestResponseOpenError::InsufficientPermissions",
-            RequestResponseOpenError::ServiceInCorruptedState =>
-                "RequestResponseOpenError::ServiceInCorruptedState",
-            RequestResponseOpenError::InternalFailure =>
-                "RequestResponseOpenError::InternalFailure",
-            RequestResponseOpenError::HangsInCreation =>
-                "RequestResponseOpenError::HangsInCreation",
-            RequestResponseOpenError::ExceedsMaxNumberOfNodes =>
-                "RequestResponseOpenError::ExceedsMaxNumberOfNodes",
-            RequestResponseOpenError::IsMarkedForDestruction =>
-                "RequestResponseOpenError::IsMarkedForDestruction",
-            RequestResponseOpenError::OutOfMemory => "RequestResponseOpenError::OutOfMemory",
-        }
+        of_clauses!(open_displayed: self, [RequestResponseOpenError])
     }
 }
 
@@ -149,21 +127,7 @@ impl RequestResponseCreateError {
     pub fn text(&self) -> &'static str
         ensures { result.now ≡ create_text self.now }
     {
-        match self {
-            RequestResponseCreateError::AlreadyExists =>
-                "RequestResponseCreateError::AlreadyExists",
-            RequestResponseCreateError::InsufficientPermissions =>
-                "RequestResponseCreateError::InsufficientPermissions",
-            RequestResponseCreateError::InternalFailure =>
-                "RequestResponseCreateError::InternalFailure",
-            RequestResponseCreateError::IsBeingCreatedByAnotherInstance =>
-                "RequestResponseCreateError::IsBeingCreatedByAnotherInstance",
-            RequestResponseCreateError::HangsInCreation =>
-                "RequestResponseCreateError::HangsInCreation",
-            RequestResponseCreateError::ServiceInCorruptedState =>
-                "RequestResponseCreateError::ServiceInCorruptedState",
-            RequestResponseCreateError::OutOfMemory => "RequestResponseCreateError::OutOfMemory",
-        }
+        create_displayed!(self, [RequestResponseCreateError]:)
     }
 }
 
@@ -196,114 +160,10 @@ impl RequestResponseOpenOrCreateError {
         ensures { result.now ≡ open_or_create_text self.now }
     {
         match self {
-            RequestResponseOpenOrCreateError::RequestResponseOpenError(
-                RequestResponseOpenError::IncompatibleMessagingPattern,
-            ) =>
-                "RequestResponseOpenOrCreateError::RequestResponseOpenError(IncompatibleMessagingPattern)",
-            RequestResponseOpenOrCreateError::RequestResponseOpenError(
-                RequestResponseOpenError::IncompatibleRequestType,
-            ) =>
-                "RequestResponseOpenOrCreateError::RequestResponseOpenError(IncompatibleRequestType)",
-            RequestResponseOpenOrCreateError::RequestResponseOpenError(
-                RequestResponseOpenError::IncompatibleResponseType,
-            ) =>
-                "RequestResponseOpenOrCreateError::RequestResponseOpenError(IncompatibleResponseType)",
-            RequestResponseOpenOrCreateError::RequestResponseOpenError(
-                RequestResponseOpenError::IncompatibleAttributes,
-            ) =>
-                "RequestResponseOpenOrCreateError::RequestResponseOpenError(IncompatibleAttributes)",
-            RequestResponseOpenOrCreateError::RequestResponseOpenError(
-                RequestResponseOpenError::IncompatibleOverflowBehaviorForRequests,
-            ) =>
-                "RequestResponseOpenOrCreateError::RequestResponseOpenError(IncompatibleOverflowBehaviorForRequests)",
-            RequestResponseOpenOrCreateError::RequestResponseOpenError(
-                RequestResponseOpenError::IncompatibleOverflowBehaviorForResponses,
-            ) =>
-                "RequestResponseOpenOrCreateError::RequestResponseOpenError(IncompatibleOverflowBehaviorForResponses)",
-            RequestResponseOpenOrCreateError::RequestResponseOpenError(
-                RequestResponseOpenError::IncompatibleBehaviorForFireAndForgetRequests,
-            ) =>
-                "RequestResponseOpenOrCreateError::RequestResponseOpenError(IncompatibleBehaviorForFireAndForgetRequests)",
-            RequestResponseOpenOrCreateError::RequestResponseOpenError(
-                RequestResponseOpenError::DoesNotSupportRequestedAmountOfClientRequestLoans,
-            ) =>
-                "RequestResponseOpenOrCreateError::RequestResponseOpenError(DoesNotSupportRequestedAmountOfClientRequestLoans)",
-            RequestResponseOpenOrCreateError::RequestResponseOpenError(
-                RequestResponseOpenError::DoesNotSupportRequestedAmountOfActiveRequestsPerClient,
-            ) =>
-                "RequestResponseOpenOrCreateError::RequestResponseOpenError(DoesNotSupportRequestedAmountOfActiveRequestsPerClient)",
-            RequestResponseOpenOrCreateError::RequestResponseOpenError(
-                RequestResponseOpenError::DoesNotSupportRequestedResponseBufferSize,
-            ) =>
-                "RequestResponseOpenOrCreateError::RequestResponseOpenError(DoesNotSupportRequestedResponseBufferSize)",
-            RequestResponseOpenOrCreateError::RequestResponseOpenError(
-                RequestResponseOpenError::DoesNotSupportRequestedAmountOfServers,
-            ) =>
-                "RequestResponseOpenOrCreateError::RequestResponseOpenError(DoesNotSupportRequestedAmountOfServers)",
-            RequestResponseOpenOrCreateError::RequestResponseOpenError(
-                RequestResponseOpenError::DoesNotSupportRequestedAmountOfClients,
-            ) =>
-                "RequestResponseOpenOrCreateError::RequestResponseOpenError(DoesNotSupportRequestedAmountOfClients)",
-            RequestResponseOpenOrCreateError::RequestResponseOpenError(
-                RequestResponseOpenError::DoesNotSupportRequestedAmountOfBorrowedResponsesPerPendingResponse,
-            ) =>
-                "RequestResponseOpenOrCreateError::RequestResponseOpenError(DoesNotSupportRequestedAmountOfBorrowedResponsesPerPendingResponse)",
-            RequestResponseOpenOrCreateError::RequestResponseOpenError(
-                RequestResponseOpenError::DoesNotSupportRequestedAmountOfNodes,
-            ) =>
-                "RequestResponseOpenOrCreateError::RequestResponseOpenError(DoesNotSupportRequestedAmountOfNodes)",
-            RequestResponseOpenOrCreateError::RequestResponseOpenError(
-                RequestResponseOpenError::DoesNotExist,
-            ) => "RequestResponseOpenOrCreateError::RequestResponseOpenError(DoesNotExist)",
-            RequestResponseOpenOrCreateError::RequestResponseOpenError(
-                RequestResponseOpenError::InsufficientPermissions,
-            ) =>
-                "RequestResponseOpenOrCreateError::RequestResponseOpenError(InsufficientPermissions)",
-            RequestResponseOpenOrCreateError::RequestResponseOpenError(
-                RequestResponseOpenError::ServiceInCorruptedState,
-            ) =>
-                "RequestResponseOpenOrCreateError::RequestResponseOpenError(ServiceInCorruptedState)",
-            RequestResponseOpenOrCreateError::RequestResponseOpenError(
-                RequestResponseOpenError::InternalFailure,
-            ) => "RequestResponseOpenOrCreateError::RequestResponseOpenError(InternalFailure)",
-            RequestResponseOpenOrCreateError::RequestResponseOpenError(
-                RequestResponseOpenError::HangsInCreation,
-            ) => "RequestResponseOpenOrCreateError::RequestResponseOpenError(HangsInCreation)",
-            RequestResponseOpenOrCreateError::RequestResponseOpenError(
-                RequestResponseOpenError::ExceedsMaxNumberOfNodes,
-            ) =>
-                "RequestResponseOpenOrCreateError::RequestResponseOpenError(ExceedsMaxNumberOfNodes)",
-            RequestResponseOpenOrCreateError::RequestResponseOpenError(
-                RequestResponseOpenError::IsMarkedForDestruction,
-            ) =>
-                "RequestResponseOpenOrCreateError::RequestResponseOpenError(IsMarkedForDestruction)",
-            RequestResponseOpenOrCreateError::RequestResponseOpenError(
-                RequestResponseOpenError::OutOfMemory,
-            ) => "RequestResponseOpenOrCreateError::RequestResponseOpenError(OutOfMemory)",
-            RequestResponseOpenOrCreateError::RequestResponseCreateError(
-                RequestResponseCreateError::AlreadyExists,
-            ) => "RequestResponseOpenOrCreateError::RequestResponseCreateError(AlreadyExists)",
-            RequestResponseOpenOrCreateError::RequestResponseCreateError(
-                RequestResponseCreateError::InsufficientPermissions,
-            ) =>
-                "RequestResponseOpenOrCreateError::RequestResponseCreateError(InsufficientPermissions)",
-            RequestResponseOpenOrCreateError::RequestResponseCreateError(
-                RequestResponseCreateError::InternalFailure,
-            ) => "RequestResponseOpenOrCreateError::RequestResponseCreateError(InternalFailure)",
-            RequestResponseOpenOrCreateError::RequestResponseCreateError(
-                RequestResponseCreateError::IsBeingCreatedByAnotherInstance,
-            ) =>
-                "RequestResponseOpenOrCreateError::RequestResponseCreateError(IsBeingCreatedByAnotherInstance)",
-            RequestResponseOpenOrCreateError::RequestResponseCreateError(
-                RequestResponseCreateError::HangsInCreation,
-            ) => "RequestResponseOpenOrCreateError::RequestResponseCreateError(HangsInCreation)",
-            RequestResponseOpenOrCreateError::RequestResponseCreateError(
-                RequestResponseCreateError::ServiceInCorruptedState,
-            ) =>
-                "RequestResponseOpenOrCreateError::RequestResponseCreateError(ServiceInCorruptedState)",
-            RequestResponseOpenOrCreateError::RequestResponseCreateError(
-                RequestResponseCreateError::OutOfMemory,
-            ) => "RequestResponseOpenOrCreateError::RequestResponseCreateError(OutOfMemory)",
+            RequestResponseOpenOrCreateError::RequestResponseOpenError(error) =>
+                of_clauses!(open_displayed: error, [RequestResponseOpenError in RequestResponseOpenOrCreateError]),
+            RequestResponseOpenOrCreateError::RequestResponseCreateError(error) =>
+                create_displayed!(error, [RequestResponseCreateError in RequestResponseOpenOrCreateError]:),
             RequestResponseOpenOrCreateError::SystemInFlux =>
                 "RequestResponseOpenOrCreateError::SystemInFlux",
         }
@@ -325,35 +185,7 @@ impl From<ClauseError> for RequestResponseOpenError {
     ghost from_gives = { λ unmet error. error ≡ clause_error unmet };
 
     fn from(unmet: ClauseError) -> Self {
-        match unmet {
-            ClauseError::IncompatibleMessagingPattern =>
-                RequestResponseOpenError::IncompatibleMessagingPattern,
-            ClauseError::IncompatibleRequestType =>
-                RequestResponseOpenError::IncompatibleRequestType,
-            ClauseError::IncompatibleResponseType =>
-                RequestResponseOpenError::IncompatibleResponseType,
-            ClauseError::IncompatibleAttributes => RequestResponseOpenError::IncompatibleAttributes,
-            ClauseError::IncompatibleOverflowBehaviorForRequests =>
-                RequestResponseOpenError::IncompatibleOverflowBehaviorForRequests,
-            ClauseError::IncompatibleOverflowBehaviorForResponses =>
-                RequestResponseOpenError::IncompatibleOverflowBehaviorForResponses,
-            ClauseError::IncompatibleBehaviorForFireAndForgetRequests =>
-                RequestResponseOpenError::IncompatibleBehaviorForFireAndForgetRequests,
-            ClauseError::DoesNotSupportRequestedAmountOfClientRequestLoans =>
-                RequestResponseOpenError::DoesNotSupportRequestedAmountOfClientRequestLoans,
-            ClauseError::DoesNotSupportRequestedAmountOfActiveRequestsPerClient =>
-                RequestResponseOpenError::DoesNotSupportRequestedAmountOfActiveRequestsPerClient,
-            ClauseError::DoesNotSupportRequestedResponseBufferSize =>
-                RequestResponseOpenError::DoesNotSupportRequestedResponseBufferSize,
-            ClauseError::DoesNotSupportRequestedAmountOfServers =>
-                RequestResponseOpenError::DoesNotSupportRequestedAmountOfServers,
-            ClauseError::DoesNotSupportRequestedAmountOfClients =>
-                RequestResponseOpenError::DoesNotSupportRequestedAmountOfClients,
-            ClauseError::DoesNotSupportRequestedAmountOfBorrowedResponsesPerPendingResponse =>
-                RequestResponseOpenError::DoesNotSupportRequestedAmountOfBorrowedResponsesPerPendingResponse,
-            ClauseError::DoesNotSupportRequestedAmountOfNodes =>
-                RequestResponseOpenError::DoesNotSupportRequestedAmountOfNodes,
-        }
+        of_clauses!(same_name: unmet, ClauseError to RequestResponseOpenError)
     }
 }
 
@@ -362,20 +194,7 @@ impl From<OpenFailure<ClauseError>> for RequestResponseOpenError {
     ghost from_gives = { λ failure error. error ≡ open_error failure };
 
     fn from(failure: OpenFailure<ClauseError>) -> Self {
-        match failure {
-            OpenFailure::Clause(unmet) => RequestResponseOpenError::from(unmet),
-            OpenFailure::DoesNotExist => RequestResponseOpenError::DoesNotExist,
-            OpenFailure::InsufficientPermissions =>
-                RequestResponseOpenError::InsufficientPermissions,
-            OpenFailure::ServiceInCorruptedState =>
-                RequestResponseOpenError::ServiceInCorruptedState,
-            OpenFailure::InternalFailure => RequestResponseOpenError::InternalFailure,
-            OpenFailure::HangsInCreation => RequestResponseOpenError::HangsInCreation,
-            OpenFailure::ExceedsMaxNumberOfNodes =>
-                RequestResponseOpenError::ExceedsMaxNumberOfNodes,
-            OpenFailure::IsMarkedForDestruction => RequestResponseOpenError::IsMarkedForDestruction,
-            OpenFailure::OutOfMemory => RequestResponseOpenError::OutOfMemory,
-        }
+        of_open_failure!(failure, RequestResponseOpenError)
     }
 }
 
@@ -384,20 +203,7 @@ impl From<CreateFailure> for RequestResponseCreateError {
     ghost from_gives = { λ failure error. error ≡ create_error failure };
 
     fn from(failure: CreateFailure) -> Self {
-        match failure {
-            CreateFailure::AlreadyExists => RequestResponseCreateError::AlreadyExists,
-            CreateFailure::InsufficientPermissions =>
-                RequestResponseCreateError::InsufficientPermissions,
-            CreateFailure::InternalFailure => RequestResponseCreateError::InternalFailure,
-            CreateFailure::IsBeingCreatedByAnotherInstance =>
-                RequestResponseCreateError::IsBeingCreatedByAnotherInstance,
-            CreateFailure::HangsInCreation => RequestResponseCreateError::HangsInCreation,
-            CreateFailure::ServiceInCorruptedState =>
-                RequestResponseCreateError::ServiceInCorruptedState,
-            CreateFailure::OutOfMemory => RequestResponseCreateError::OutOfMemory,
-            CreateFailure::SubscriberBufferMustBeLargerThanHistorySize =>
-                RequestResponseCreateError::InternalFailure,
-        }
+        of_create_failure!(failure, RequestResponseCreateError, InternalFailure)
     }
 }
 
@@ -424,16 +230,6 @@ impl From<OpenOrCreateFailure<ClauseError>> for RequestResponseOpenOrCreateError
     ghost from_gives = { λ failure error. error ≡ open_or_create_error failure };
 
     fn from(failure: OpenOrCreateFailure<ClauseError>) -> Self {
-        match failure {
-            OpenOrCreateFailure::Open(failure) =>
-                RequestResponseOpenOrCreateError::RequestResponseOpenError(
-                    RequestResponseOpenError::from(failure),
-                ),
-            OpenOrCreateFailure::Create(failure) =>
-                RequestResponseOpenOrCreateError::RequestResponseCreateError(
-                    RequestResponseCreateError::from(failure),
-                ),
-            OpenOrCreateFailure::SystemInFlux => RequestResponseOpenOrCreateError::SystemInFlux,
-        }
+        of_either_failure!(failure, RequestResponseOpenOrCreateError of RequestResponseOpenError, RequestResponseCreateError)
     }
 }
