@@ -14,7 +14,7 @@
 //!     ensures first { IfSome result (λ clause. first_unmet (clauses requirement.now description.now) ≡ Err clause) }
 //!     ensures none { IfNone result (IsOk (first_unmet (clauses requirement.now description.now))) }
 //! {
-//!     requirement.verdict(description).err()
+//!     Event::verdict(requirement, description).err()
 //! }
 //! ```
 #![tactic(auto)]

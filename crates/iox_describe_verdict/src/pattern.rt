@@ -6,19 +6,16 @@ ghost use Rattle.iox_describe_settings.specs.DescribeBase.Hash.{service_hash_of}
 ghost use Rattle.iox_describe_settings.specs.declared.static_config.Settings.{Settings};
 ghost use Rattle.iox_describe_settings.specs.Agreement.{Agreement, agreement, max_nodes_of, pattern_of, AreWithinLimits};
 
-use crate::requirement::{event, publish_subscribe, request_response};
 use iox_describe_base::attribute::AttributeSpecifier;
 use iox_describe_base::name::ServiceName;
 use iox_describe_base::pattern::MessagingPattern;
 use iox_describe_base::verifier::AttributeVerifier;
 use iox_describe_settings::description::Description;
-use iox_describe_settings::static_config::{self, Settings};
+use iox_describe_settings::static_config::Settings;
 use std::alloc::{AllocError, Global};
 
-/// A messaging pattern: what is agreed for a service of it, and what an opener may require.
-///
-/// It is what a builder is written over, so that one builder serves all patterns.
-pub trait Pattern {
+/// A messaging pattern, with what is asked of a service of it, by an opener or by who makes it.
+pub trait RequiredPattern {
     /// What the nodes of a service agree on.
     type StaticConfig: Copy;
 
@@ -28,29 +25,14 @@ pub trait Pattern {
     /// Why a service can't be opened as required: the first clause that is not met.
     type ClauseError: Copy;
 
-    // the pattern
-    ghost pattern: { MessagingPattern };
-
-    // what is agreed, as the settings of any pattern
-    ghost settings: { Self.StaticConfig → Settings };
-
-    // what is agreed, where the settings are of this pattern
-    ghost static_config: { Settings → Option Self.StaticConfig };
-
     // the attributes that a service must have
     ghost attributes: { Self.Requirement → Required };
 
+    // the requirement with these attributes, and all else as it is
+    ghost with_attributes: { Self.Requirement → Required → Self.Requirement };
+
     // the settings that are asked for: each as it was named, each other one at its default
     ghost asked: { Self.Requirement → Self.StaticConfig };
-
-    // the settings that a service is created with: each number at least the least that can serve
-    ghost adjusted: { Self.StaticConfig → Self.StaticConfig };
-
-    // the numbers that a description may have
-    ghost IsWithinLimits: { Self.StaticConfig → Type 0 };
-
-    // a full buffer holds the publisher up, and has no room for the history
-    ghost IsHistoryTooLong: { Self.StaticConfig → Type 0 };
 
     // the error of the first clause that is not met
     ghost verdict: { Self.Requirement → Agreement → Result (Unit {0}) Self.ClauseError };
@@ -58,38 +40,21 @@ pub trait Pattern {
     // the first requirement asks at most what the second asks
     ghost IsWeaker: { Self.Requirement → Self.Requirement → Type 0 };
 
-    /// The pattern.
-    fn pattern() -> MessagingPattern
-        ensures { result ≡ pattern };
-
-    /// What is agreed, as the settings of any pattern.
-    fn settings(config: Self::StaticConfig) -> Settings
-        ensures { result ≡ settings config };
-
-    /// What is agreed, where the settings are of this pattern; else `None`.
-    fn static_config(given: &Settings) -> Option<Self::StaticConfig>
-        ensures { result ≡ static_config given.now };
-
     /// The attributes that a service must have; a service that is made has the required pairs.
     fn attributes(requirement: &Self::Requirement) -> &AttributeVerifier
         ensures { result.now ≡ attributes requirement.now };
 
+    /// The requirement with these attributes, and all else as it is.
+    /// Example: `PublishSubscribe::with_attributes(requirement, attributes)`
+    fn with_attributes(
+        requirement: Self::Requirement,
+        verifier: AttributeVerifier,
+    ) -> Self::Requirement
+        ensures { result ≡ with_attributes requirement verifier };
+
     /// The settings that are asked for: each as it was named, each other one at its default.
     fn asked(requirement: &Self::Requirement) -> Self::StaticConfig
         ensures { result ≡ asked requirement.now };
-
-    /// The settings that a service is created with: a 0 that can't serve becomes 1.
-    fn adjusted(config: Self::StaticConfig) -> Self::StaticConfig
-        ensures { result ≡ adjusted config };
-
-    /// Whether the numbers are within the limits of a description, so that a service may be created with them.
-    fn is_within_limits(config: &Self::StaticConfig) -> bool
-        ensures { IsTrue result ↔ IsWithinLimits config.now };
-
-    /// Whether a full buffer would hold the publisher up and has no room for the history: such a service isn't
-    /// created. Always false of a pattern without a history.
-    fn is_history_too_long(config: &Self::StaticConfig) -> bool
-        ensures { IsTrue result ↔ IsHistoryTooLong config.now };
 
     /// Whether the service that is described meets every clause. The error is that of the first that is not met.
     fn verdict(
@@ -105,6 +70,54 @@ pub trait Pattern {
     ) -> Result<Self::Requirement, AllocError>
         ensures same { IfOk result (λ copy. copy ≡ requirement.now) }
         ensures empty { attributes requirement.now ≡ required [] [] → IsOk result };
+
+    // a service that meets a requirement meets every weaker one
+    ghost weaker_is_met: { (weak strong : Self.Requirement) (a : Agreement) → IsWeaker weak strong → verdict strong a ≡ Ok tt
+        → verdict weak a ≡ Ok tt };
+}
+
+/// A messaging pattern: what is agreed for a service of it, and what an opener may require.
+///
+/// It is what a builder is written over, so that one builder serves all patterns.
+pub trait Pattern: RequiredPattern {
+    // the pattern
+    ghost pattern: { MessagingPattern };
+
+    // what is agreed, as the settings of any pattern
+    ghost settings: { Self.StaticConfig → Settings };
+
+    // what is agreed, where the settings are of this pattern
+    ghost static_config: { Settings → Option Self.StaticConfig };
+
+    // the settings that a service is created with: each number at least the least that can serve
+    ghost adjusted: { Self.StaticConfig → Self.StaticConfig };
+
+    // the numbers that a description may have
+    ghost IsWithinLimits: { Self.StaticConfig → Type 0 };
+
+    // a full buffer holds the publisher up, and has no room for the history
+    ghost IsHistoryTooLong: { Self.StaticConfig → Type 0 };
+
+    /// The pattern.
+    fn pattern() -> MessagingPattern
+        ensures { result ≡ pattern };
+
+    /// What is agreed, as the settings of any pattern.
+    fn settings(config: Self::StaticConfig) -> Settings
+        ensures { result ≡ settings config };
+
+    /// What is agreed, where the settings are of this pattern; else `None`.
+    fn static_config(given: &Settings) -> Option<Self::StaticConfig>
+        ensures { result ≡ static_config given.now };
+
+    /// The settings that a service is created with: a 0 that can't serve becomes 1.
+    fn adjusted(config: Self::StaticConfig) -> Self::StaticConfig
+        ensures { result ≡ adjusted config };
+
+    /// Whether a full buffer would hold the publisher up and has no room for the history: such a service isn't
+    /// created. Always false of a pattern without a history.
+    fn is_history_too_long(config: &Self::StaticConfig) -> bool
+        ensures { IsTrue result ↔ IsHistoryTooLong config.now };
 
     // settings are of the pattern that they are made of
     ghost settings_are_of_pattern: { (config : Self.StaticConfig) → pattern_of (settings config) ≡ pattern };
@@ -123,12 +136,15 @@ pub trait Pattern {
         × (max_nodes_of (settings config) < 2 ^ 24) };
 
     // only a service of the pattern meets a requirement
-    ghost met_is_of_pattern: { (requirement : Self.Requirement) (a : Agreement) → verdict requirement a ≡ Ok tt
+    ghost met_is_of_pattern: { (requirement : Self.Requirement) (a : Agreement) → Self.verdict requirement a ≡ Ok tt
         → IsSome (static_config a.settings) };
 
-    // a service that meets a requirement meets every weaker one
-    ghost weaker_is_met: { (weak strong : Self.Requirement) (a : Agreement) → IsWeaker weak strong → verdict strong a ≡ Ok tt
-        → verdict weak a ≡ Ok tt };
+    /// Whether the numbers are within the limits of a description, so that a service may be created with them.
+    final fn is_within_limits(config: &Self::StaticConfig) -> bool
+        ensures { IsTrue result ↔ IsWithinLimits config.now }
+    {
+        Self::settings(*config).are_within_limits()
+    }
 }
 
 /// The description of a service of the pattern, with the hash that belongs to the pattern and the name.
@@ -161,15 +177,7 @@ impl Pattern for PublishSubscribe {
     ghost use Rattle.iox_describe_settings.specs.declared.static_config.Settings.TheVariants as settings_of;
     ghost use Rattle.iox_describe_settings.specs.PublishSubscribeSettings as config_of;
     ghost use Rattle.iox_describe_verdict.specs.Patterns.{publish_subscribe_of, found_publish_subscribe};
-    ghost use Rattle.iox_describe_verdict.specs.Verdict.{first_unmet};
-    ghost use Rattle.iox_describe_verdict.specs.PublishSubscribeClauses as requirement_of;
-    ghost use Rattle.iox_describe_verdict.specs.PublishSubscribeLaws.{met_is_of_pattern, weaker};
-
-    type StaticConfig = static_config::publish_subscribe::StaticConfig;
-
-    type Requirement = publish_subscribe::Requirement;
-
-    type ClauseError = publish_subscribe::ClauseError;
+    ghost use Rattle.iox_describe_verdict.specs.PublishSubscribeLaws.{met_is_of_pattern};
 
     ghost pattern = { messaging_pattern.PublishSubscribe };
 
@@ -177,19 +185,11 @@ impl Pattern for PublishSubscribe {
 
     ghost static_config = { publish_subscribe_of };
 
-    ghost attributes = { λ r. r.attributes };
-
-    ghost asked = { requirement_of.asked };
-
     ghost adjusted = { config_of.adjusted };
 
     ghost IsWithinLimits = { config_of.IsWithinLimits };
 
     ghost IsHistoryTooLong = { config_of.IsHistoryTooLong };
-
-    ghost verdict = { λ r a. first_unmet (requirement_of.clauses r a) };
-
-    ghost IsWeaker = { requirement_of.IsWeaker };
 
     fn pattern() -> MessagingPattern {
         MessagingPattern::PublishSubscribe
@@ -206,38 +206,12 @@ impl Pattern for PublishSubscribe {
         }
     }
 
-    fn attributes(requirement: &Self::Requirement) -> &AttributeVerifier {
-        &requirement.attributes
-    }
-
-    fn asked(requirement: &Self::Requirement) -> Self::StaticConfig {
-        requirement.asked()
-    }
-
     fn adjusted(config: Self::StaticConfig) -> Self::StaticConfig {
         config.adjusted()
     }
 
-    fn is_within_limits(config: &Self::StaticConfig) -> bool {
-        config.is_within_limits()
-    }
-
     fn is_history_too_long(config: &Self::StaticConfig) -> bool {
         config.is_history_too_long()
-    }
-
-    fn verdict(
-        requirement: &Self::Requirement,
-        description: &Description,
-    ) -> Result<(), Self::ClauseError> {
-        requirement.verdict(description)
-    }
-
-    fn try_clone(
-        requirement: &Self::Requirement,
-        alloc: Global,
-    ) -> Result<Self::Requirement, AllocError> {
-        requirement.try_clone(alloc)
     }
 
     ghost settings_are_of_pattern = { λ config. refl };
@@ -251,8 +225,6 @@ impl Pattern for PublishSubscribe {
     ghost has_nodes = { λ config h. h 2 MaxNodes (Prim.omega arith) };
 
     ghost met_is_of_pattern = { λ r a. met_is_of_pattern r a.attributes a.settings };
-
-    ghost weaker_is_met = { λ weak strong a. weaker weak strong a.attributes a.settings };
 }
 
 /// Notifiers wake listeners.
@@ -267,15 +239,7 @@ impl Pattern for Event {
     ghost use Rattle.iox_describe_settings.specs.declared.static_config.Settings.TheVariants as settings_of;
     ghost use Rattle.iox_describe_settings.specs.EventSettings as config_of;
     ghost use Rattle.iox_describe_verdict.specs.Patterns.{event_of, found_event};
-    ghost use Rattle.iox_describe_verdict.specs.Verdict.{first_unmet};
-    ghost use Rattle.iox_describe_verdict.specs.EventClauses as requirement_of;
-    ghost use Rattle.iox_describe_verdict.specs.EventLaws.{met_is_of_pattern, weaker};
-
-    type StaticConfig = static_config::event::StaticConfig;
-
-    type Requirement = event::Requirement;
-
-    type ClauseError = event::ClauseError;
+    ghost use Rattle.iox_describe_verdict.specs.EventLaws.{met_is_of_pattern};
 
     ghost pattern = { messaging_pattern.Event };
 
@@ -283,19 +247,11 @@ impl Pattern for Event {
 
     ghost static_config = { event_of };
 
-    ghost attributes = { λ r. r.attributes };
-
-    ghost asked = { requirement_of.asked };
-
     ghost adjusted = { config_of.adjusted };
 
     ghost IsWithinLimits = { config_of.IsWithinLimits };
 
     ghost IsHistoryTooLong = { λ _. ⊥ };
-
-    ghost verdict = { λ r a. first_unmet (requirement_of.clauses r a) };
-
-    ghost IsWeaker = { requirement_of.IsWeaker };
 
     fn pattern() -> MessagingPattern {
         MessagingPattern::Event
@@ -312,38 +268,12 @@ impl Pattern for Event {
         }
     }
 
-    fn attributes(requirement: &Self::Requirement) -> &AttributeVerifier {
-        &requirement.attributes
-    }
-
-    fn asked(requirement: &Self::Requirement) -> Self::StaticConfig {
-        requirement.asked()
-    }
-
     fn adjusted(config: Self::StaticConfig) -> Self::StaticConfig {
         config.adjusted()
     }
 
-    fn is_within_limits(config: &Self::StaticConfig) -> bool {
-        config.is_within_limits()
-    }
-
     fn is_history_too_long(_config: &Self::StaticConfig) -> bool {
         false
-    }
-
-    fn verdict(
-        requirement: &Self::Requirement,
-        description: &Description,
-    ) -> Result<(), Self::ClauseError> {
-        requirement.verdict(description)
-    }
-
-    fn try_clone(
-        requirement: &Self::Requirement,
-        alloc: Global,
-    ) -> Result<Self::Requirement, AllocError> {
-        requirement.try_clone(alloc)
     }
 
     ghost settings_are_of_pattern = { λ config. refl };
@@ -357,8 +287,6 @@ impl Pattern for Event {
     ghost has_nodes = { λ config h. h 3 MaxNodes (Prim.omega arith) };
 
     ghost met_is_of_pattern = { λ r a. met_is_of_pattern r a.attributes a.settings };
-
-    ghost weaker_is_met = { λ weak strong a. weaker weak strong a.attributes a.settings };
 }
 
 /// Clients send requests, and servers answer them.
@@ -373,15 +301,7 @@ impl Pattern for RequestResponse {
     ghost use Rattle.iox_describe_settings.specs.declared.static_config.Settings.TheVariants as settings_of;
     ghost use Rattle.iox_describe_settings.specs.RequestResponseSettings as config_of;
     ghost use Rattle.iox_describe_verdict.specs.Patterns.{request_response_of, found_request_response};
-    ghost use Rattle.iox_describe_verdict.specs.Verdict.{first_unmet};
-    ghost use Rattle.iox_describe_verdict.specs.RequestResponseClauses as requirement_of;
-    ghost use Rattle.iox_describe_verdict.specs.RequestResponseLaws.{met_is_of_pattern, weaker};
-
-    type StaticConfig = static_config::request_response::StaticConfig;
-
-    type Requirement = request_response::Requirement;
-
-    type ClauseError = request_response::ClauseError;
+    ghost use Rattle.iox_describe_verdict.specs.RequestResponseLaws.{met_is_of_pattern};
 
     ghost pattern = { messaging_pattern.RequestResponse };
 
@@ -389,19 +309,11 @@ impl Pattern for RequestResponse {
 
     ghost static_config = { request_response_of };
 
-    ghost attributes = { λ r. r.attributes };
-
-    ghost asked = { requirement_of.asked };
-
     ghost adjusted = { config_of.adjusted };
 
     ghost IsWithinLimits = { config_of.IsWithinLimits };
 
     ghost IsHistoryTooLong = { λ _. ⊥ };
-
-    ghost verdict = { λ r a. first_unmet (requirement_of.clauses r a) };
-
-    ghost IsWeaker = { requirement_of.IsWeaker };
 
     fn pattern() -> MessagingPattern {
         MessagingPattern::RequestResponse
@@ -418,38 +330,12 @@ impl Pattern for RequestResponse {
         }
     }
 
-    fn attributes(requirement: &Self::Requirement) -> &AttributeVerifier {
-        &requirement.attributes
-    }
-
-    fn asked(requirement: &Self::Requirement) -> Self::StaticConfig {
-        requirement.asked()
-    }
-
     fn adjusted(config: Self::StaticConfig) -> Self::StaticConfig {
         config.adjusted()
     }
 
-    fn is_within_limits(config: &Self::StaticConfig) -> bool {
-        config.is_within_limits()
-    }
-
     fn is_history_too_long(_config: &Self::StaticConfig) -> bool {
         false
-    }
-
-    fn verdict(
-        requirement: &Self::Requirement,
-        description: &Description,
-    ) -> Result<(), Self::ClauseError> {
-        requirement.verdict(description)
-    }
-
-    fn try_clone(
-        requirement: &Self::Requirement,
-        alloc: Global,
-    ) -> Result<Self::Requirement, AllocError> {
-        requirement.try_clone(alloc)
     }
 
     ghost settings_are_of_pattern = { λ config. refl };
@@ -463,6 +349,4 @@ impl Pattern for RequestResponse {
     ghost has_nodes = { λ config h. h 7 MaxNodes (Prim.omega arith) };
 
     ghost met_is_of_pattern = { λ r a. met_is_of_pattern r a.attributes a.settings };
-
-    ghost weaker_is_met = { λ weak strong a. weaker weak strong a.attributes a.settings };
 }

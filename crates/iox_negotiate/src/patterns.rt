@@ -1,11 +1,9 @@
 //! The patterns with their errors, so that one builder serves all of them.
 ghost use Rattle.std.specs.Prelude.{◌≡◌};
-ghost use Rattle.iox_negotiate_base.specs.DescribeBase.Attributes.{Required};
 ghost use Rattle.iox_negotiate_base.specs.declared.failure.CreateFailure.{CreateFailure};
 ghost use Rattle.iox_negotiate_base.specs.declared.failure.OpenFailure.{OpenFailure};
 ghost use Rattle.iox_negotiate_base.specs.declared.failure.OpenOrCreateFailure.{OpenOrCreateFailure};
 
-use iox_describe::AttributeVerifier;
 use iox_describe::pattern::{Event, Pattern, PublishSubscribe, RequestResponse};
 use iox_negotiate_base::errors::{
     EventCreateError, EventOpenError, EventOpenOrCreateError, PublishSubscribeCreateError,
@@ -33,17 +31,6 @@ pub trait Negotiated: Pattern {
 
     // the error of a failure to do either
     ghost open_or_create_error: { OpenOrCreateFailure Self.ClauseError → Self.OpenOrCreateError };
-
-    // the requirement with these attributes, and all else as it is
-    ghost with_attributes: { Self.Requirement → Required → Self.Requirement };
-
-    /// The requirement with these attributes, and all else as it is.
-    /// Example: `PublishSubscribe::with_attributes(requirement, attributes)`
-    fn with_attributes(
-        requirement: Self::Requirement,
-        attributes: AttributeVerifier,
-    ) -> Self::Requirement
-        ensures { result ≡ with_attributes requirement attributes };
 
     // what the error of opening is made of says which it is
     ghost opens_from: { (failure : OpenFailure Self.ClauseError) (error : Self.OpenError) → Self.OpenError.from_gives failure error
@@ -99,16 +86,6 @@ impl Negotiated for PublishSubscribe {
 
     ghost open_or_create_error = { error_of.open_or_create_error };
 
-    ghost with_attributes = { λ r a. record r { attributes = a } };
-
-    fn with_attributes(
-        mut requirement: Self::Requirement,
-        attributes: AttributeVerifier,
-    ) -> Self::Requirement {
-        requirement.attributes = attributes;
-        requirement
-    }
-
     ghost opens_from = { λ failure error made. made };
 
     ghost creates_from = { λ failure error made. made };
@@ -131,16 +108,6 @@ impl Negotiated for Event {
 
     ghost open_or_create_error = { error_of.open_or_create_error };
 
-    ghost with_attributes = { λ r a. record r { attributes = a } };
-
-    fn with_attributes(
-        mut requirement: Self::Requirement,
-        attributes: AttributeVerifier,
-    ) -> Self::Requirement {
-        requirement.attributes = attributes;
-        requirement
-    }
-
     ghost opens_from = { λ failure error made. made };
 
     ghost creates_from = { λ failure error made. made };
@@ -162,16 +129,6 @@ impl Negotiated for RequestResponse {
     ghost create_error = { error_of.create_error };
 
     ghost open_or_create_error = { error_of.open_or_create_error };
-
-    ghost with_attributes = { λ r a. record r { attributes = a } };
-
-    fn with_attributes(
-        mut requirement: Self::Requirement,
-        attributes: AttributeVerifier,
-    ) -> Self::Requirement {
-        requirement.attributes = attributes;
-        requirement
-    }
 
     ghost opens_from = { λ failure error made. made };
 

@@ -1,7 +1,7 @@
 //! What an opener requires of an event service.
-ghost use Rattle.std.specs.Prelude.{◌≡◌, [], None, IsOk, IfOk};
-ghost use Rattle.iox_describe_settings.specs.DescribeBase.Attributes.{required};
+ghost use Rattle.std.specs.Prelude.{◌≡◌};
 
+use crate::pattern::{Event, RequiredPattern};
 use crate::requirement::{RequiredSetting, asked, first_unmet};
 use iox_describe_base::attribute::AttributeSpecifier;
 use iox_describe_base::verifier::AttributeVerifier;
@@ -73,7 +73,7 @@ pub struct Requirement {
 
 impl Requirement {
     ghost use Rattle.iox_describe_verdict.specs.Verdict.{first_unmet};
-    ghost use Rattle.iox_describe_verdict.specs.EventClauses.{asked, asked_fields, clauses, clauses_on, unnamed};
+    ghost use Rattle.iox_describe_verdict.specs.EventClauses.{clauses_on, unnamed};
 
     /// A requirement that names no setting.
     pub fn new(attributes: AttributeVerifier) -> Self
@@ -92,45 +92,6 @@ impl Requirement {
         }
     }
 
-    /// The same requirement, in memory of its own. Refused only where an allocation fails; for no attributes there is none.
-    pub fn try_clone(&self, alloc: Global) -> Result<Self, AllocError>
-        ensures same { IfOk result (λ requirement. requirement ≡ self.now) }
-        ensures empty { self.now.attributes ≡ required [] [] → IsOk result }
-    {
-        Ok(Requirement {
-            attributes: self.attributes.try_clone(alloc)?,
-            deadline: self.deadline,
-            max_notifiers: self.max_notifiers,
-            max_listeners: self.max_listeners,
-            event_id_max_value: self.event_id_max_value,
-            notifier_created_event: self.notifier_created_event,
-            notifier_dropped_event: self.notifier_dropped_event,
-            notifier_dead_event: self.notifier_dead_event,
-            max_nodes: self.max_nodes,
-        })
-    }
-
-    /// The settings that are asked for: each as it was named, each other one at its default.
-    pub fn asked(&self) -> StaticConfig
-        ensures over_the_list { result ≡ asked self.now }
-        ensures fields { result ≡ asked_fields self.now }
-    {
-        asked::<Setting>(self, StaticConfig::new())
-    }
-
-    /// Whether the service that is described meets every clause.
-    ///
-    /// The error is that of the first clause that is not met.
-    #[tactic(auto, unfolding(crate::specs::Verdict::unmet_clause))]
-    pub fn verdict(&self, description: &Description) -> Result<(), ClauseError>
-        ensures { result ≡ first_unmet (clauses self.now description.now) }
-    {
-        match description.settings() {
-            Settings::Event(given) => self.judge(description.attributes(), given),
-            _ => Err(ClauseError::IncompatibleMessagingPattern),
-        }
-    }
-
     /// The verdict on a service of this pattern.
     fn judge(
         &self,
@@ -145,6 +106,68 @@ impl Requirement {
         );
         first_unmet::<Setting>(attributes, self, given)
     }
+}
+
+impl RequiredPattern for Event {
+    ghost use Rattle.iox_describe_verdict.specs.Verdict.{first_unmet};
+    ghost use Rattle.iox_describe_verdict.specs.EventClauses.{asked, asked_fields, clauses, IsWeaker};
+    ghost use Rattle.iox_describe_verdict.specs.EventLaws.{weaker};
+
+    type StaticConfig = StaticConfig;
+
+    type Requirement = Requirement;
+
+    type ClauseError = ClauseError;
+
+    ghost attributes = { λ r. r.attributes };
+
+    ghost with_attributes = { λ r a. record r { attributes = a } };
+
+    ghost asked = { asked };
+
+    ghost verdict = { λ r a. first_unmet (clauses r a) };
+
+    ghost IsWeaker = { IsWeaker };
+
+    fn attributes(requirement: &Requirement) -> &AttributeVerifier {
+        &requirement.attributes
+    }
+
+    fn with_attributes(mut requirement: Requirement, verifier: AttributeVerifier) -> Requirement {
+        requirement.attributes = verifier;
+        requirement
+    }
+
+    fn asked(requirement: &Requirement) -> StaticConfig
+        ensures over_the_list { result ≡ asked requirement.now }
+        ensures fields { result ≡ asked_fields requirement.now }
+    {
+        asked::<Setting>(requirement, StaticConfig::new())
+    }
+
+    #[tactic(auto, unfolding(crate::specs::Verdict::unmet_clause))]
+    fn verdict(requirement: &Requirement, description: &Description) -> Result<(), ClauseError> {
+        match description.settings() {
+            Settings::Event(given) => requirement.judge(description.attributes(), given),
+            _ => Err(ClauseError::IncompatibleMessagingPattern),
+        }
+    }
+
+    fn try_clone(requirement: &Requirement, alloc: Global) -> Result<Requirement, AllocError> {
+        Ok(Requirement {
+            attributes: requirement.attributes.try_clone(alloc)?,
+            deadline: requirement.deadline,
+            max_notifiers: requirement.max_notifiers,
+            max_listeners: requirement.max_listeners,
+            event_id_max_value: requirement.event_id_max_value,
+            notifier_created_event: requirement.notifier_created_event,
+            notifier_dropped_event: requirement.notifier_dropped_event,
+            notifier_dead_event: requirement.notifier_dead_event,
+            max_nodes: requirement.max_nodes,
+        })
+    }
+
+    ghost weaker_is_met = { λ weak strong a. weaker weak strong a.attributes a.settings };
 }
 
 impl RequiredSetting for Setting {

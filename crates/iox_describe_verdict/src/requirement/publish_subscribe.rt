@@ -1,7 +1,7 @@
 //! What an opener requires of a publish-subscribe service.
-ghost use Rattle.std.specs.Prelude.{◌≡◌, [], None, IsOk, IfOk};
-ghost use Rattle.iox_describe_settings.specs.DescribeBase.Attributes.{required};
+ghost use Rattle.std.specs.Prelude.{◌≡◌};
 
+use crate::pattern::{PublishSubscribe, RequiredPattern};
 use crate::requirement::{RequiredSetting, asked, first_unmet};
 use iox_describe_base::attribute::AttributeSpecifier;
 use iox_describe_base::message_type::MessageTypeDetails;
@@ -79,7 +79,7 @@ pub struct Requirement {
 
 impl Requirement {
     ghost use Rattle.iox_describe_verdict.specs.Verdict.{first_unmet};
-    ghost use Rattle.iox_describe_verdict.specs.PublishSubscribeClauses.{asked, asked_fields, clauses, clauses_on, unnamed};
+    ghost use Rattle.iox_describe_verdict.specs.PublishSubscribeClauses.{clauses_on, unnamed};
 
     /// A requirement that names no setting.
     pub fn new(types: MessageTypeDetails, attributes: AttributeVerifier) -> Self
@@ -99,46 +99,6 @@ impl Requirement {
         }
     }
 
-    /// The same requirement, in memory of its own. Refused only where an allocation fails; for no attributes there is none.
-    pub fn try_clone(&self, alloc: Global) -> Result<Self, AllocError>
-        ensures same { IfOk result (λ requirement. requirement ≡ self.now) }
-        ensures empty { self.now.attributes ≡ required [] [] → IsOk result }
-    {
-        Ok(Requirement {
-            types: self.types,
-            attributes: self.attributes.try_clone(alloc)?,
-            enable_safe_overflow: self.enable_safe_overflow,
-            sequence_numbers: self.sequence_numbers,
-            max_publishers: self.max_publishers,
-            max_subscribers: self.max_subscribers,
-            subscriber_max_buffer_size: self.subscriber_max_buffer_size,
-            history_size: self.history_size,
-            subscriber_max_borrowed_samples: self.subscriber_max_borrowed_samples,
-            max_nodes: self.max_nodes,
-        })
-    }
-
-    /// The settings that are asked for: each as it was named, each other one at its default.
-    pub fn asked(&self) -> StaticConfig
-        ensures over_the_list { result ≡ asked self.now }
-        ensures fields { result ≡ asked_fields self.now }
-    {
-        asked::<Setting>(self, StaticConfig::new(self.types))
-    }
-
-    /// Whether the service that is described meets every clause.
-    ///
-    /// The error is that of the first clause that is not met.
-    #[tactic(auto, unfolding(crate::specs::Verdict::unmet_clause))]
-    pub fn verdict(&self, description: &Description) -> Result<(), ClauseError>
-        ensures { result ≡ first_unmet (clauses self.now description.now) }
-    {
-        match description.settings() {
-            Settings::PublishSubscribe(given) => self.judge(description.attributes(), given),
-            _ => Err(ClauseError::IncompatibleMessagingPattern),
-        }
-    }
-
     /// The verdict on a service of this pattern.
     fn judge(
         &self,
@@ -153,6 +113,69 @@ impl Requirement {
         );
         first_unmet::<Setting>(attributes, self, given)
     }
+}
+
+impl RequiredPattern for PublishSubscribe {
+    ghost use Rattle.iox_describe_verdict.specs.Verdict.{first_unmet};
+    ghost use Rattle.iox_describe_verdict.specs.PublishSubscribeClauses.{asked, asked_fields, clauses, IsWeaker};
+    ghost use Rattle.iox_describe_verdict.specs.PublishSubscribeLaws.{weaker};
+
+    type StaticConfig = StaticConfig;
+
+    type Requirement = Requirement;
+
+    type ClauseError = ClauseError;
+
+    ghost attributes = { λ r. r.attributes };
+
+    ghost with_attributes = { λ r a. record r { attributes = a } };
+
+    ghost asked = { asked };
+
+    ghost verdict = { λ r a. first_unmet (clauses r a) };
+
+    ghost IsWeaker = { IsWeaker };
+
+    fn attributes(requirement: &Requirement) -> &AttributeVerifier {
+        &requirement.attributes
+    }
+
+    fn with_attributes(mut requirement: Requirement, verifier: AttributeVerifier) -> Requirement {
+        requirement.attributes = verifier;
+        requirement
+    }
+
+    fn asked(requirement: &Requirement) -> StaticConfig
+        ensures over_the_list { result ≡ asked requirement.now }
+        ensures fields { result ≡ asked_fields requirement.now }
+    {
+        asked::<Setting>(requirement, StaticConfig::new(requirement.types))
+    }
+
+    #[tactic(auto, unfolding(crate::specs::Verdict::unmet_clause))]
+    fn verdict(requirement: &Requirement, description: &Description) -> Result<(), ClauseError> {
+        match description.settings() {
+            Settings::PublishSubscribe(given) => requirement.judge(description.attributes(), given),
+            _ => Err(ClauseError::IncompatibleMessagingPattern),
+        }
+    }
+
+    fn try_clone(requirement: &Requirement, alloc: Global) -> Result<Requirement, AllocError> {
+        Ok(Requirement {
+            types: requirement.types,
+            attributes: requirement.attributes.try_clone(alloc)?,
+            enable_safe_overflow: requirement.enable_safe_overflow,
+            sequence_numbers: requirement.sequence_numbers,
+            max_publishers: requirement.max_publishers,
+            max_subscribers: requirement.max_subscribers,
+            subscriber_max_buffer_size: requirement.subscriber_max_buffer_size,
+            history_size: requirement.history_size,
+            subscriber_max_borrowed_samples: requirement.subscriber_max_borrowed_samples,
+            max_nodes: requirement.max_nodes,
+        })
+    }
+
+    ghost weaker_is_met = { λ weak strong a. weaker weak strong a.attributes a.settings };
 }
 
 impl RequiredSetting for Setting {

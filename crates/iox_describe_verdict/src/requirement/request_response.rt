@@ -1,7 +1,7 @@
 //! What an opener requires of a request-response service.
-ghost use Rattle.std.specs.Prelude.{◌≡◌, [], None, IsOk, IfOk};
-ghost use Rattle.iox_describe_settings.specs.DescribeBase.Attributes.{required};
+ghost use Rattle.std.specs.Prelude.{◌≡◌};
 
+use crate::pattern::{RequestResponse, RequiredPattern};
 use crate::requirement::{RequiredSetting, asked, first_unmet};
 use iox_describe_base::attribute::AttributeSpecifier;
 use iox_describe_base::message_type::MessageTypeDetails;
@@ -94,7 +94,7 @@ pub struct Requirement {
 
 impl Requirement {
     ghost use Rattle.iox_describe_verdict.specs.Verdict.{first_unmet};
-    ghost use Rattle.iox_describe_verdict.specs.RequestResponseClauses.{asked, asked_fields, clauses, clauses_on, unnamed};
+    ghost use Rattle.iox_describe_verdict.specs.RequestResponseClauses.{clauses_on, unnamed};
 
     /// A requirement that names no setting.
     pub fn new(
@@ -121,52 +121,6 @@ impl Requirement {
         }
     }
 
-    /// The same requirement, in memory of its own. Refused only where an allocation fails; for no attributes there is none.
-    pub fn try_clone(&self, alloc: Global) -> Result<Self, AllocError>
-        ensures same { IfOk result (λ requirement. requirement ≡ self.now) }
-        ensures empty { self.now.attributes ≡ required [] [] → IsOk result }
-    {
-        Ok(Requirement {
-            request_types: self.request_types,
-            response_types: self.response_types,
-            attributes: self.attributes.try_clone(alloc)?,
-            enable_safe_overflow_for_requests: self.enable_safe_overflow_for_requests,
-            enable_safe_overflow_for_responses: self.enable_safe_overflow_for_responses,
-            enable_fire_and_forget_requests: self.enable_fire_and_forget_requests,
-            max_loaned_requests: self.max_loaned_requests,
-            max_active_requests_per_client: self.max_active_requests_per_client,
-            max_response_buffer_size: self.max_response_buffer_size,
-            max_servers: self.max_servers,
-            max_clients: self.max_clients,
-            max_borrowed_responses_per_pending_response: self.max_borrowed_responses_per_pending_response,
-            max_nodes: self.max_nodes,
-        })
-    }
-
-    /// The settings that are asked for: each as it was named, each other one at its default.
-    pub fn asked(&self) -> StaticConfig
-        ensures over_the_list { result ≡ asked self.now }
-        ensures fields { result ≡ asked_fields self.now }
-    {
-        asked::<Setting>(
-            self,
-            StaticConfig::new(self.request_types, self.response_types),
-        )
-    }
-
-    /// Whether the service that is described meets every clause.
-    ///
-    /// The error is that of the first clause that is not met.
-    #[tactic(auto, unfolding(crate::specs::Verdict::unmet_clause))]
-    pub fn verdict(&self, description: &Description) -> Result<(), ClauseError>
-        ensures { result ≡ first_unmet (clauses self.now description.now) }
-    {
-        match description.settings() {
-            Settings::RequestResponse(given) => self.judge(description.attributes(), given),
-            _ => Err(ClauseError::IncompatibleMessagingPattern),
-        }
-    }
-
     /// The verdict on a service of this pattern.
     fn judge(
         &self,
@@ -181,6 +135,75 @@ impl Requirement {
         );
         first_unmet::<Setting>(attributes, self, given)
     }
+}
+
+impl RequiredPattern for RequestResponse {
+    ghost use Rattle.iox_describe_verdict.specs.Verdict.{first_unmet};
+    ghost use Rattle.iox_describe_verdict.specs.RequestResponseClauses.{asked, asked_fields, clauses, IsWeaker};
+    ghost use Rattle.iox_describe_verdict.specs.RequestResponseLaws.{weaker};
+
+    type StaticConfig = StaticConfig;
+
+    type Requirement = Requirement;
+
+    type ClauseError = ClauseError;
+
+    ghost attributes = { λ r. r.attributes };
+
+    ghost with_attributes = { λ r a. record r { attributes = a } };
+
+    ghost asked = { asked };
+
+    ghost verdict = { λ r a. first_unmet (clauses r a) };
+
+    ghost IsWeaker = { IsWeaker };
+
+    fn attributes(requirement: &Requirement) -> &AttributeVerifier {
+        &requirement.attributes
+    }
+
+    fn with_attributes(mut requirement: Requirement, verifier: AttributeVerifier) -> Requirement {
+        requirement.attributes = verifier;
+        requirement
+    }
+
+    fn asked(requirement: &Requirement) -> StaticConfig
+        ensures over_the_list { result ≡ asked requirement.now }
+        ensures fields { result ≡ asked_fields requirement.now }
+    {
+        asked::<Setting>(
+            requirement,
+            StaticConfig::new(requirement.request_types, requirement.response_types),
+        )
+    }
+
+    #[tactic(auto, unfolding(crate::specs::Verdict::unmet_clause))]
+    fn verdict(requirement: &Requirement, description: &Description) -> Result<(), ClauseError> {
+        match description.settings() {
+            Settings::RequestResponse(given) => requirement.judge(description.attributes(), given),
+            _ => Err(ClauseError::IncompatibleMessagingPattern),
+        }
+    }
+
+    fn try_clone(requirement: &Requirement, alloc: Global) -> Result<Requirement, AllocError> {
+        Ok(Requirement {
+            request_types: requirement.request_types,
+            response_types: requirement.response_types,
+            attributes: requirement.attributes.try_clone(alloc)?,
+            enable_safe_overflow_for_requests: requirement.enable_safe_overflow_for_requests,
+            enable_safe_overflow_for_responses: requirement.enable_safe_overflow_for_responses,
+            enable_fire_and_forget_requests: requirement.enable_fire_and_forget_requests,
+            max_loaned_requests: requirement.max_loaned_requests,
+            max_active_requests_per_client: requirement.max_active_requests_per_client,
+            max_response_buffer_size: requirement.max_response_buffer_size,
+            max_servers: requirement.max_servers,
+            max_clients: requirement.max_clients,
+            max_borrowed_responses_per_pending_response: requirement.max_borrowed_responses_per_pending_response,
+            max_nodes: requirement.max_nodes,
+        })
+    }
+
+    ghost weaker_is_met = { λ weak strong a. weaker weak strong a.attributes a.settings };
 }
 
 impl RequiredSetting for Setting {

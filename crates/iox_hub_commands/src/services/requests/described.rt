@@ -6,6 +6,7 @@ ghost use Rattle.iox_hub_commands.specs.Described.{settings_of, described};
 
 use crate::services::requests::asked::{event, publish_subscribe, request_response};
 use iox_command::ServiceOptions;
+use iox_describe::pattern::{Event, PublishSubscribe, RequestResponse, RequiredPattern};
 use iox_describe_base::{AttributeSpecifier, MessageTypeDetails, ServiceName, service_hash};
 use iox_describe_settings::{Description, Settings};
 use iox_negotiate::laws::parts_have_form;
@@ -48,11 +49,15 @@ fn settings(options: &ServiceOptions, types: MessageTypeDetails) -> Settings
 {
     match options {
         ServiceOptions::PublishSubscribe(options) => {
-            Settings::PublishSubscribe(publish_subscribe(options, types).asked().adjusted())
+            let asked = PublishSubscribe::asked(&publish_subscribe(options, types));
+            Settings::PublishSubscribe(asked.adjusted())
         }
-        ServiceOptions::Event(options) => Settings::Event(event(options).asked().adjusted()),
+        ServiceOptions::Event(options) => {
+            Settings::Event(Event::asked(&event(options)).adjusted())
+        }
         ServiceOptions::RequestResponse(options) => {
-            Settings::RequestResponse(request_response(options, types).asked().adjusted())
+            let asked = RequestResponse::asked(&request_response(options, types));
+            Settings::RequestResponse(asked.adjusted())
         }
     }
 }

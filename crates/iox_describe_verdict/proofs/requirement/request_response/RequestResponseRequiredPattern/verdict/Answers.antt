@@ -4,13 +4,13 @@ use Rattle.iox_describe_settings.specs.DescribeBase.declared.attribute.Attribute
 use Rattle.iox_describe_settings.specs.declared.static_config.Settings.{Settings}
 use Rattle.iox_describe_verdict.specs.Verdict.{first_unmet, unmet_clause}
 use Rattle.iox_describe_verdict.specs.RequestResponseClauses.{clauses_on, clauses_of}
-use Rattle.iox_describe_verdict.proofs.requirement.request_response.Requirement.verdict.Goals as goal
+use Rattle.iox_describe_verdict.proofs.requirement.request_response.RequestResponseRequiredPattern.verdict.Goals as goal
 
 pub returns-in-RequestResponse : goal.returns-in-RequestResponse
 unfolding unmet_clause
 returns-in-RequestResponse c =
     c.judge.ensures
-    ∙ ap (λ (attributes : List Attribute). first_unmet (clauses_on c.args.self.now attributes c.in-RequestResponse.given))
+    ∙ ap (λ (attributes : List Attribute). first_unmet (clauses_on c.args.requirement.now attributes c.in-RequestResponse.given))
     c.attributes.ensures
-    ∙ ap (λ (settings : Settings). first_unmet (clauses_of c.args.self.now c.args.description.now.attributes settings))
+    ∙ ap (λ (settings : Settings). first_unmet (clauses_of c.args.requirement.now c.args.description.now.attributes settings))
     (sym c.in-RequestResponse.is ∙ c.settings.ensures)
