@@ -43,7 +43,7 @@ pub use iox_queues_base::{
 };
 pub use iox_queues_steps::rings::{RingKind, RingMachine};
 pub use iox_queues_steps::{
-    Access, Act, Call, Event, Move, Party, Placed, PopAnswer, PopCall, PushAnswer, PushCall, Ring,
-    Stepped, Word,
+    Access, Act, Call, End, Event, Move, Party, Placed, PopAnswer, PopCall, PushAnswer, PushCall,
+    Ring, Stepped, Word,
 };
 pub use shared::{Consumer, Producer, Share, Shared};

@@ -7,7 +7,7 @@
 //! - [`end`]: a call that asks for one access after the other, and the words that answer.
 //! - [`rings`]: rings of either kind, with their two ends, and a machine that runs them.
 //!
-//! First calls. `RingMachine` makes them.
+//! First calls, of the trait `End`. `RingMachine` makes them.
 //!
 //! ```
 //! let answer = ring.apply(push.next());

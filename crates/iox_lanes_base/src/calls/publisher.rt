@@ -11,7 +11,7 @@ use crate::words::{ConnectionRing, SharedAccess, SharedWord, SlotWord};
 use iox_queues_steps::rings::Push;
 use iox_queues_steps::rings::overflowing::Push as OverflowingPush;
 use iox_queues_steps::rings::refusing::{Pop as RefusingPop, Push as RefusingPush};
-use iox_queues_steps::{PopAnswer, PushAnswer};
+use iox_queues_steps::{End, PopAnswer, PushAnswer};
 
 /// To how many connections a message went so far.
 #[derive(Clone, Copy, Debug, PartialEq, Eq)]

@@ -10,7 +10,7 @@ use crate::calls::route::Route;
 use crate::words::{ConnectionRing, SharedAccess, SharedWord, SlotWord};
 use iox_queues_steps::rings::Pop;
 use iox_queues_steps::rings::refusing::Push as RefusingPush;
-use iox_queues_steps::{PopAnswer, PushAnswer};
+use iox_queues_steps::{End, PopAnswer, PushAnswer};
 
 /// What a receive answers.
 #[derive(Clone, Copy, Debug, PartialEq, Eq)]

@@ -7,7 +7,7 @@ ghost use Rattle.iox_queues_steps.specs.Ends.{push_is_over, push_next, push_take
 
 use crate::rings::overflowing::{Pop as OverflowingPop, Push as OverflowingPush};
 use crate::rings::refusing::{Pop as RefusingPop, Push as RefusingPush};
-use crate::{Access, Act, PopAnswer, PushAnswer};
+use crate::{Access, Act, End, PopAnswer, PushAnswer};
 
 /// What a full ring does with a push.
 #[derive(Clone, Copy, Debug, PartialEq, Eq)]

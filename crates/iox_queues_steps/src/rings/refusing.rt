@@ -3,7 +3,7 @@
 //! Ported from `IndexQueue` of iceoryx2. Each end is free of any ring: it says which access comes
 //! next, and takes that access's answer.
 //!
-//! First calls. `RingMachine` makes them.
+//! First calls, of the trait `End`. `RingMachine` makes them.
 //!
 //! ```
 //! let answer = ring.apply(pop.next());

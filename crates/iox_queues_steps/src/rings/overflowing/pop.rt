@@ -36,52 +36,11 @@ impl Pop {
         Pop::LookBegun
     }
 
-    /// The access that comes next.
-    pub fn next(&self) -> Access
-        ensures { result ≡ pop_next self.now }
-    {
-        match *self {
-            Pop::Idle | Pop::Popped { .. } | Pop::Looked { .. } => Access::Local,
-            Pop::Begun | Pop::LookBegun => Access::Load(Word::Read),
-            Pop::SawRead { .. } | Pop::LookRead { .. } => Access::Load(Word::Write),
-            Pop::Nonempty { read, .. } => Access::Load(Word::Cell(read)),
-            Pop::SawCell { read, next, .. } => Access::Exchange(Word::Read, read, next),
-        }
-    }
-
-    /// Where the pop stands after the answer of that access.
-    pub fn take(self, answer: u64) -> Pop
-        ensures { result ≡ pop_take self answer }
-    {
-        match self {
-            Pop::Idle | Pop::Popped { .. } | Pop::Looked { .. } => Pop::Idle,
-            Pop::Begun => Pop::SawRead { read: answer },
-            Pop::LookBegun => Pop::LookRead { read: answer },
-            Pop::SawRead { read } => emptied(answer == read, read),
-            Pop::LookRead { read } => Pop::Looked {
-                waiting: answer != read,
-            },
-            Pop::Nonempty { read, next } => Pop::SawCell {
-                read,
-                next,
-                value: answer,
-            },
-            Pop::SawCell { read, value, .. } => swapped(answer == read, answer, value),
-        }
-    }
-
     /// No call is under way.
     pub fn is_idle(&self) -> bool
         ensures { result ≡ pop_is_idle self.now }
     {
         matches!(*self, Pop::Idle)
-    }
-
-    /// The next step is the last of its call.
-    pub fn is_over(&self) -> bool
-        ensures { result ≡ pop_is_over self.now }
-    {
-        matches!(*self, Pop::Popped { .. } | Pop::Looked { .. })
     }
 
     /// The take or look that stands at the next step, where these are the positions.
@@ -121,15 +80,35 @@ impl End for Pop {
     ghost over = { pop_is_over };
 
     fn next(&self) -> Access {
-        Pop::next(self)
+        match *self {
+            Pop::Idle | Pop::Popped { .. } | Pop::Looked { .. } => Access::Local,
+            Pop::Begun | Pop::LookBegun => Access::Load(Word::Read),
+            Pop::SawRead { .. } | Pop::LookRead { .. } => Access::Load(Word::Write),
+            Pop::Nonempty { read, .. } => Access::Load(Word::Cell(read)),
+            Pop::SawCell { read, next, .. } => Access::Exchange(Word::Read, read, next),
+        }
     }
 
     fn take(self, answer: u64) -> Pop {
-        Pop::take(self, answer)
+        match self {
+            Pop::Idle | Pop::Popped { .. } | Pop::Looked { .. } => Pop::Idle,
+            Pop::Begun => Pop::SawRead { read: answer },
+            Pop::LookBegun => Pop::LookRead { read: answer },
+            Pop::SawRead { read } => emptied(answer == read, read),
+            Pop::LookRead { read } => Pop::Looked {
+                waiting: answer != read,
+            },
+            Pop::Nonempty { read, next } => Pop::SawCell {
+                read,
+                next,
+                value: answer,
+            },
+            Pop::SawCell { read, value, .. } => swapped(answer == read, answer, value),
+        }
     }
 
     fn is_over(&self) -> bool {
-        Pop::is_over(self)
+        matches!(*self, Pop::Popped { .. } | Pop::Looked { .. })
     }
 }
 

@@ -59,10 +59,53 @@ impl Push {
         Push::Begun { limit, value }
     }
 
-    /// The access that comes next.
-    pub fn next(&self) -> Access
-        ensures { result ≡ push_next self.now }
+    /// No call is under way.
+    pub fn is_idle(&self) -> bool
+        ensures { result ≡ push_is_idle self.now }
     {
+        matches!(*self, Push::Idle)
+    }
+
+    /// The put that stands at the next step, where the read position is `position`.
+    pub fn placed(&self, limit: u64, position: u64) -> Option<Act>
+        ensures { option_to_list result ≡ placed_by_push limit position self.now }
+    {
+        match *self {
+            Push::Filled { value, next, .. } => put_kept(
+                value,
+                limit < next.saturating_sub(position),
+            ),
+            Push::SawOldest {
+                value,
+                read,
+                oldest,
+                ..
+            } => put_swapped(value, oldest, position == read),
+            _ => None,
+        }
+    }
+
+    /// The put that waits for the next move of the read position, which is `position`.
+    pub fn late(&self, position: u64) -> Option<Act>
+        ensures { option_to_list result ≡ late_put position self.now }
+    {
+        match *self {
+            Push::Full { value, read, .. } | Push::SawOldest { value, read, .. } => {
+                put_kept(value, position != read)
+            }
+            _ => None,
+        }
+    }
+}
+
+impl End for Push {
+    ghost asks = { push_next };
+
+    ghost takes = { push_take };
+
+    ghost over = { push_is_over };
+
+    fn next(&self) -> Access {
         match *self {
             Push::Idle | Push::Pushed { .. } => Access::Local,
             Push::Begun { .. } => Access::Load(Word::Write),
@@ -74,10 +117,7 @@ impl Push {
         }
     }
 
-    /// Where the push stands after the answer of that access.
-    pub fn take(self, answer: u64) -> Push
-        ensures { result ≡ push_take self answer }
-    {
+    fn take(self, answer: u64) -> Push {
         match self {
             Push::Idle | Push::Pushed { .. } => Push::Idle,
             Push::Begun { limit, value } => Push::SawWrite {
@@ -133,69 +173,8 @@ impl Push {
         }
     }
 
-    /// No call is under way.
-    pub fn is_idle(&self) -> bool
-        ensures { result ≡ push_is_idle self.now }
-    {
-        matches!(*self, Push::Idle)
-    }
-
-    /// The next step is the last of its call.
-    pub fn is_over(&self) -> bool
-        ensures { result ≡ push_is_over self.now }
-    {
-        matches!(*self, Push::Pushed { .. })
-    }
-
-    /// The put that stands at the next step, where the read position is `position`.
-    pub fn placed(&self, limit: u64, position: u64) -> Option<Act>
-        ensures { option_to_list result ≡ placed_by_push limit position self.now }
-    {
-        match *self {
-            Push::Filled { value, next, .. } => put_kept(
-                value,
-                limit < next.saturating_sub(position),
-            ),
-            Push::SawOldest {
-                value,
-                read,
-                oldest,
-                ..
-            } => put_swapped(value, oldest, position == read),
-            _ => None,
-        }
-    }
-
-    /// The put that waits for the next move of the read position, which is `position`.
-    pub fn late(&self, position: u64) -> Option<Act>
-        ensures { option_to_list result ≡ late_put position self.now }
-    {
-        match *self {
-            Push::Full { value, read, .. } | Push::SawOldest { value, read, .. } => {
-                put_kept(value, position != read)
-            }
-            _ => None,
-        }
-    }
-}
-
-impl End for Push {
-    ghost asks = { push_next };
-
-    ghost takes = { push_take };
-
-    ghost over = { push_is_over };
-
-    fn next(&self) -> Access {
-        Push::next(self)
-    }
-
-    fn take(self, answer: u64) -> Push {
-        Push::take(self, answer)
-    }
-
     fn is_over(&self) -> bool {
-        Push::is_over(self)
+        matches!(*self, Push::Pushed { .. })
     }
 }
 

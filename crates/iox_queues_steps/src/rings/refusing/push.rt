@@ -42,57 +42,11 @@ impl Push {
         Push::Begun { limit, value }
     }
 
-    /// The access that comes next.
-    pub fn next(&self) -> Access
-        ensures { result ≡ push_next self.now }
-    {
-        match *self {
-            Push::Idle | Push::Pushed { .. } => Access::Local,
-            Push::Begun { .. } => Access::Load(Word::Write),
-            Push::SawWrite { .. } => Access::Load(Word::Read),
-            Push::SawRoom { value, write, .. } => Access::Store(Word::Cell(write), value),
-            Push::Filled { next, .. } => Access::Store(Word::Write, next),
-        }
-    }
-
-    /// Where the push stands after the answer of that access.
-    pub fn take(self, answer: u64) -> Push
-        ensures { result ≡ push_take self answer }
-    {
-        match self {
-            Push::Idle | Push::Pushed { .. } => Push::Idle,
-            Push::Begun { limit, value } => Push::SawWrite {
-                limit,
-                value,
-                write: answer,
-                next: answer.saturating_add(1),
-            },
-            Push::SawWrite {
-                limit,
-                value,
-                write,
-                next,
-            } => measured(limit, value, write, next, answer),
-            Push::SawRoom { value, next, .. } => Push::Filled { value, next },
-            Push::Filled { value, .. } => Push::Pushed {
-                value,
-                answer: PushAnswer::Kept,
-            },
-        }
-    }
-
     /// No call is under way.
     pub fn is_idle(&self) -> bool
         ensures { result ≡ push_is_idle self.now }
     {
         matches!(*self, Push::Idle)
-    }
-
-    /// The next step is the last of its call.
-    pub fn is_over(&self) -> bool
-        ensures { result ≡ push_is_over self.now }
-    {
-        matches!(*self, Push::Pushed { .. })
     }
 
     /// The put that stands at the next step, where the read position is `position`.
@@ -123,15 +77,40 @@ impl End for Push {
     ghost over = { push_is_over };
 
     fn next(&self) -> Access {
-        Push::next(self)
+        match *self {
+            Push::Idle | Push::Pushed { .. } => Access::Local,
+            Push::Begun { .. } => Access::Load(Word::Write),
+            Push::SawWrite { .. } => Access::Load(Word::Read),
+            Push::SawRoom { value, write, .. } => Access::Store(Word::Cell(write), value),
+            Push::Filled { next, .. } => Access::Store(Word::Write, next),
+        }
     }
 
     fn take(self, answer: u64) -> Push {
-        Push::take(self, answer)
+        match self {
+            Push::Idle | Push::Pushed { .. } => Push::Idle,
+            Push::Begun { limit, value } => Push::SawWrite {
+                limit,
+                value,
+                write: answer,
+                next: answer.saturating_add(1),
+            },
+            Push::SawWrite {
+                limit,
+                value,
+                write,
+                next,
+            } => measured(limit, value, write, next, answer),
+            Push::SawRoom { value, next, .. } => Push::Filled { value, next },
+            Push::Filled { value, .. } => Push::Pushed {
+                value,
+                answer: PushAnswer::Kept,
+            },
+        }
     }
 
     fn is_over(&self) -> bool {
-        Push::is_over(self)
+        matches!(*self, Push::Pushed { .. })
     }
 }
 
