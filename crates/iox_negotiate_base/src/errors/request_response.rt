@@ -5,8 +5,8 @@ ghost use Rattle.iox_negotiate_base.specs.RequestResponseErrors.{clause_error, o
 ghost use Rattle.iox_negotiate_base.specs.declared.errors.request_response.RequestResponseOpenOrCreateError.TheVariants as either;
 
 use crate::errors::tables::{
-    create_displayed, of_create_failure, of_either_failure, of_open_failure, open_displayed,
-    same_name,
+    create_displayed, named_alike, of_create_failure, of_either_failure, of_open_failure,
+    open_displayed,
 };
 use crate::{CreateFailure, OpenFailure, OpenOrCreateFailure};
 use iox_describe_verdict::requirement::request_response::ClauseError;
@@ -185,7 +185,7 @@ impl From<ClauseError> for RequestResponseOpenError {
     ghost from_gives = { λ unmet error. error ≡ clause_error unmet };
 
     fn from(unmet: ClauseError) -> Self {
-        of_clauses!(same_name: unmet, ClauseError to RequestResponseOpenError)
+        of_clauses!(named_alike: unmet, ClauseError to RequestResponseOpenError)
     }
 }
 

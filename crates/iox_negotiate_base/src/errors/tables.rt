@@ -1,7 +1,7 @@
 //! The tables of names that the errors of all patterns share, so that each stands once.
 
 /// The variant of the same name.
-macro_rules! same_name {
+macro_rules! named_alike {
     ($value:expr, $From:ident to $To:ident: $($name:ident)*) => {
         match $value {
             $($From::$name => $To::$name,)*
@@ -10,7 +10,7 @@ macro_rules! same_name {
 }
 
 /// What each variant displays as: alone, or in the error around it.
-macro_rules! displayed {
+macro_rules! variant_displayed {
     ($error:expr, $Error:ident: $($name:ident)*) => {
         match $error {
             $($Error::$name => concat!(stringify!($Error), "::", stringify!($name)),)*
@@ -25,19 +25,19 @@ macro_rules! displayed {
     };
 }
 
-/// What an error of opening displays as; the variants of its own pattern are named.
+/// What an error of opening displays as, `[alone]` or `[within in around]`; the variants of its own pattern are named.
 macro_rules! open_displayed {
     ($error:expr, [$($types:tt)*]: $($own:ident)*) => {
-        $crate::errors::tables::displayed!($error, $($types)*: $($own)*
+        $crate::errors::tables::variant_displayed!($error, $($types)*: $($own)*
             DoesNotExist InsufficientPermissions ServiceInCorruptedState InternalFailure
             HangsInCreation ExceedsMaxNumberOfNodes IsMarkedForDestruction OutOfMemory)
     };
 }
 
-/// What an error of creating displays as; the variants of its own pattern are named.
+/// What an error of creating displays as, likewise.
 macro_rules! create_displayed {
     ($error:expr, [$($types:tt)*]: $($own:ident)*) => {
-        $crate::errors::tables::displayed!($error, $($types)*: $($own)*
+        $crate::errors::tables::variant_displayed!($error, $($types)*: $($own)*
             AlreadyExists InsufficientPermissions InternalFailure IsBeingCreatedByAnotherInstance
             HangsInCreation ServiceInCorruptedState OutOfMemory)
     };
@@ -89,9 +89,9 @@ macro_rules! of_either_failure {
 }
 
 pub(crate) use create_displayed;
-pub(crate) use displayed;
+pub(crate) use named_alike;
 pub(crate) use of_create_failure;
 pub(crate) use of_either_failure;
 pub(crate) use of_open_failure;
 pub(crate) use open_displayed;
-pub(crate) use same_name;
+pub(crate) use variant_displayed;
