@@ -1,7 +1,7 @@
 //! Values that are copied as 64-bit words.
 //!
 //! New in this port: what iceoryx2 copies as bytes of any `Copy` type is copied here word by word.
-ghost use Rattle.std.specs.Prelude.{◌≡◌, ℕ, ◌+◌, ◌*◌, ◌/◌, ◌%◌, ◌^◌, ◌<◌, List, [], ◌∷◌, length, slice_index, if◌then◌else◌, ◌==◌};
+ghost use Rattle.std.specs.Prelude.{◌≡◌, ℕ, ◌+◌, ◌*◌, ◌/◌, ◌%◌, ◌^◌, ◌<◌, ◌≤◌, List, [], ◌∷◌, length, slice_index, if◌then◌else◌, ◌==◌};
 ghost use Rattle.std.specs.Prelude.{nat_lt, Bool, true, false, refl};
 ghost use Rattle.std.proofs.Common.{arith, rules};
 ghost use Rattle.iox_queues_base.specs.Coding.{narrowed, narrowed-same, word_of_bool, wide-back};
@@ -57,6 +57,14 @@ pub trait Words: Copy {
     ghost given_back: { (x : Self) → is_value x → of_parts (parts x) ≡ x };
 }
 
+// The word itself if it is at most so much, else 0.
+fn word_or_zero(word: u64, most: u64) -> u64
+    ensures value { result ≡ (if nat_lt word (most + 1) then word else 0) }
+    ensures fits { result ≤ most }
+{
+    if word <= most { word } else { 0 }
+}
+
 impl Words for u8 {
     ghost parts = { λ x. x ∷ [] };
 
@@ -69,17 +77,11 @@ impl Words for u8 {
     ghost WORDS = { 1 };
 
     fn word(&self, i: usize) -> u64 {
-        let value = u64::from(*self);
-        if i == 0 { value } else { 0 }
+        u64::from(*self).word(i)
     }
 
     fn of_words(words: &[u64]) -> u8 {
-        let word = words[0];
-        if word <= u64::from(u8::MAX) {
-            word as u8
-        } else {
-            0
-        }
+        word_or_zero(words[0], u64::from(u8::MAX)) as u8
     }
 
     fn shows(&self) {
@@ -88,7 +90,7 @@ impl Words for u8 {
 
     ghost as_many = { λ x. refl };
 
-    ghost given_back = { λ x h. narrowed-same 8 x h };
+    ghost given_back = { narrowed-same 8 };
 }
 
 impl Words for u16 {
@@ -103,17 +105,11 @@ impl Words for u16 {
     ghost WORDS = { 1 };
 
     fn word(&self, i: usize) -> u64 {
-        let value = u64::from(*self);
-        if i == 0 { value } else { 0 }
+        u64::from(*self).word(i)
     }
 
     fn of_words(words: &[u64]) -> u16 {
-        let word = words[0];
-        if word <= u64::from(u16::MAX) {
-            word as u16
-        } else {
-            0
-        }
+        word_or_zero(words[0], u64::from(u16::MAX)) as u16
     }
 
     fn shows(&self) {
@@ -122,7 +118,7 @@ impl Words for u16 {
 
     ghost as_many = { λ x. refl };
 
-    ghost given_back = { λ x h. narrowed-same 16 x h };
+    ghost given_back = { narrowed-same 16 };
 }
 
 impl Words for u32 {
@@ -137,17 +133,11 @@ impl Words for u32 {
     ghost WORDS = { 1 };
 
     fn word(&self, i: usize) -> u64 {
-        let value = u64::from(*self);
-        if i == 0 { value } else { 0 }
+        u64::from(*self).word(i)
     }
 
     fn of_words(words: &[u64]) -> u32 {
-        let word = words[0];
-        if word <= u64::from(u32::MAX) {
-            word as u32
-        } else {
-            0
-        }
+        word_or_zero(words[0], u64::from(u32::MAX)) as u32
     }
 
     fn shows(&self) {
@@ -156,7 +146,7 @@ impl Words for u32 {
 
     ghost as_many = { λ x. refl };
 
-    ghost given_back = { λ x h. narrowed-same 32 x h };
+    ghost given_back = { narrowed-same 32 };
 }
 
 impl Words for u64 {
@@ -200,8 +190,7 @@ impl Words for usize {
     ghost WORDS = { 1 };
 
     fn word(&self, i: usize) -> u64 {
-        let value = *self as u64;
-        if i == 0 { value } else { 0 }
+        (*self as u64).word(i)
     }
 
     fn of_words(words: &[u64]) -> usize {
