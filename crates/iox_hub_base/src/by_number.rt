@@ -4,7 +4,7 @@ ghost use Rattle.std.specs.BTreeMap.{insert_entry, is_at};
 ghost use Rattle.std.specs.Borrow.{sem};
 ghost use Rattle.std.specs.List.{HoldsAt};
 ghost use Rattle.std.specs.List.Sorted.{IsStrictlySortedBy, IsBinarySearchResult, IsSearchInRange};
-ghost use Rattle.std.specs.Map.{keys_of, lookup, remove_entry};
+ghost use Rattle.std.specs.Map.{keys_of, lookup, remove_entry, set_value};
 ghost use Rattle.std.specs.Option.{option_copied_mut};
 ghost use Rattle.std.specs.Ordering.{nat_cmp};
 ghost use Rattle.iox_hub_base.specs.Unboxed.{unboxed};
@@ -66,6 +66,15 @@ impl<X: Drop> ByNumber<X> {
         match place_of(&self.entries, number) {
             Some(place) => Some(&mut *self.entries[place].1),
             None => None,
+        }
+    }
+
+    /// Another value is there under a number, if it has one. It takes no memory.
+    pub(crate) fn replace(&mut self, number: u64, value: X)
+        ensures { self.new ≡ set_value (is_at (nat_cmp number)) self.old value }
+    {
+        if let Some(there) = self.get_mut(number) {
+            *there = value;
         }
     }
 

@@ -109,9 +109,7 @@ impl<T: Copy, U: Copy, B: Drop, D: Drop> Presences<T, U, B, D> {
     pub fn replace(&mut self, number: u64, presence: Presence<T, U, B, D>)
         ensures { self.new ≡ with_presence number self.old presence }
     {
-        if let Some(there) = self.get_mut(number) {
-            *there = presence;
-        }
+        self.entries.replace(number, presence);
     }
 
     /// What is open, with room for one number more; nothing is open here until it is put back. It takes no memory where there is room.
