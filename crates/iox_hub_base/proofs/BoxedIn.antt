@@ -1,15 +1,22 @@
 -- A value in its box comes under a number: in the place of one that the number had, or in a place of its own.
-use Rattle.std.proofs.Common.{ℕ, ◌≡◌, ◌<◌, ◌≤◌, List, length, get_or, set, Ok, Err, ap, subst, ◌∙◌}
+use Rattle.std.proofs.Common.{ℕ, ◌≡◌, ◌<◌, ◌≤◌, List, length, get_or, set, Result, Ok, Err, sym, ap, subst, ◌∙◌}
 use Rattle.std.specs.BTreeMap.{insert_entry}
 use Rattle.std.specs.List.{HoldsAt, insert}
 use Rattle.std.specs.List.Sorted.{IsStrictlySortedBy, IsBinarySearchResult}
 use Rattle.std.specs.Map.{keys_of}
 use Rattle.std.specs.Ordering.{nat_cmp}
+use Rattle.std.specs.Prelude.{IfOk}
 use Rattle.std.specs.declared.boxed.Box.{Box}
 use Rattle.iox_hub_base.specs.Unboxed.{unboxed}
 use Rattle.iox_hub_base.proofs.Placed.{in_box, replace-place, insert-place, rising-from, rising-unboxed}
 use Rattle.iox_hub_base.proofs.Rising.{rising_inserted}
 use Rattle.iox_hub_base.proofs.Searched.{stands-at, lower-before, higher-from}
+
+-- what holds of a value holds of it in its box
+pub holds-boxed : {X Z E : Type 0} (Holds : X → Type 0) (value : X) (result : Result (Box X Z) E)
+    → IfOk result (λ boxed. boxed.value ≡ value) → Holds value → IfOk result (λ boxed. Holds boxed.value)
+holds-boxed Holds value (Ok boxed) same holds = subst Holds (sym same) holds
+holds-boxed Holds value (Err error) same holds = tt
 
 module _ {X Z : Type 0} (number : ℕ) (boxed : Box X Z) (searched entries : List (ℕ × Box X Z)) (same : searched ≡ entries)
     (rising : IsStrictlySortedBy nat_cmp (keys_of entries)) where

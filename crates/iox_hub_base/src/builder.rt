@@ -80,18 +80,12 @@ pub trait HubBuilder<P: Negotiated>: Sized {
             (result_map_both (λ factory. (factory.service.membership, factory.owner)) (λ error. error) result) hub.new }
     {
         let builder = self.builder();
-        let Ok(room) = hub.make_room(alloc) else {
+        let Ok(mut parts) = hub.lend_parts(alloc, steps) else {
             return Err(lacking_create(alloc, builder));
         };
-        let mut table = hub.lend_table(alloc, steps);
-        let answer = builder.create(alloc, &mut table);
-        hub.settle(
-            alloc,
-            table,
-            room,
-            answer,
-            Lacking::either_way(P::create_error(CreateFailure::OutOfMemory)),
-        )
+        let answer = builder.create(alloc, &mut parts.table);
+        let lacking = Lacking::either_way(P::create_error(CreateFailure::OutOfMemory));
+        hub.settle(alloc, parts, answer, lacking)
     }
 
     /// Creates the service with these attributes.
@@ -118,18 +112,12 @@ pub trait HubBuilder<P: Negotiated>: Sized {
             (result_map_both (λ factory. (factory.service.membership, factory.owner)) (λ error. error) result) hub.new }
     {
         let builder = self.builder();
-        let Ok(room) = hub.make_room(alloc) else {
+        let Ok(mut parts) = hub.lend_parts(alloc, steps) else {
             return Err(lacking_create(alloc, builder));
         };
-        let mut table = hub.lend_table(alloc, steps);
-        let answer = builder.create_with_attributes(alloc, attributes, &mut table);
-        hub.settle(
-            alloc,
-            table,
-            room,
-            answer,
-            Lacking::either_way(P::create_error(CreateFailure::OutOfMemory)),
-        )
+        let answer = builder.create_with_attributes(alloc, attributes, &mut parts.table);
+        let lacking = Lacking::either_way(P::create_error(CreateFailure::OutOfMemory));
+        hub.settle(alloc, parts, answer, lacking)
     }
 
     /// Opens the service, whatever its attributes. See `open_with_attributes_in`.
@@ -149,18 +137,12 @@ pub trait HubBuilder<P: Negotiated>: Sized {
             (result_map_both (λ factory. (factory.service.membership, factory.owner)) (λ error. error) result) hub.new }
     {
         let builder = self.builder();
-        let Ok(room) = hub.make_room(alloc) else {
-            return Err(P::open_error(OpenFailure::OutOfMemory));
+        let lacking = Lacking::either_way(P::open_error(OpenFailure::OutOfMemory));
+        let Ok(mut parts) = hub.lend_parts(alloc, steps) else {
+            return Err(lacking.opened);
         };
-        let mut table = hub.lend_table(alloc, steps);
-        let answer = builder.open(alloc, &mut table);
-        hub.settle(
-            alloc,
-            table,
-            room,
-            answer,
-            Lacking::either_way(P::open_error(OpenFailure::OutOfMemory)),
-        )
+        let answer = builder.open(alloc, &mut parts.table);
+        hub.settle(alloc, parts, answer, lacking)
     }
 
     /// Opens the service if it has these attributes too.
@@ -183,18 +165,12 @@ pub trait HubBuilder<P: Negotiated>: Sized {
             hub.old (result_map_both (λ factory. (factory.service.membership, factory.owner)) (λ error. error) result) hub.new }
     {
         let builder = self.builder();
-        let Ok(room) = hub.make_room(alloc) else {
-            return Err(P::open_error(OpenFailure::OutOfMemory));
+        let lacking = Lacking::either_way(P::open_error(OpenFailure::OutOfMemory));
+        let Ok(mut parts) = hub.lend_parts(alloc, steps) else {
+            return Err(lacking.opened);
         };
-        let mut table = hub.lend_table(alloc, steps);
-        let answer = builder.open_with_attributes(alloc, attributes, &mut table);
-        hub.settle(
-            alloc,
-            table,
-            room,
-            answer,
-            Lacking::either_way(P::open_error(OpenFailure::OutOfMemory)),
-        )
+        let answer = builder.open_with_attributes(alloc, attributes, &mut parts.table);
+        hub.settle(alloc, parts, answer, lacking)
     }
 
     /// Opens the service, whatever its attributes, or creates it with none. See `open_or_create_with_attributes_in`.
@@ -217,12 +193,12 @@ pub trait HubBuilder<P: Negotiated>: Sized {
             (result_map_both (λ factory. (factory.service.membership, factory.owner)) (λ error. error) result) hub.new }
     {
         let builder = self.builder();
-        let Ok(room) = hub.make_room(alloc) else {
-            return Err(lacking_either::<P>().opened);
+        let lacking = lacking_either::<P>();
+        let Ok(mut parts) = hub.lend_parts(alloc, steps) else {
+            return Err(lacking.opened);
         };
-        let mut table = hub.lend_table(alloc, steps);
-        let answer = builder.open_or_create(alloc, &mut table);
-        hub.settle(alloc, table, room, answer, lacking_either::<P>())
+        let answer = builder.open_or_create(alloc, &mut parts.table);
+        hub.settle(alloc, parts, answer, lacking)
     }
 
     /// Opens the service if it has these attributes too, or creates it with the required pairs where none exists.
@@ -255,12 +231,12 @@ pub trait HubBuilder<P: Negotiated>: Sized {
             (result_map_both (λ factory. (factory.service.membership, factory.owner)) (λ error. error) result) hub.new }
     {
         let builder = self.builder();
-        let Ok(room) = hub.make_room(alloc) else {
-            return Err(lacking_either::<P>().opened);
+        let lacking = lacking_either::<P>();
+        let Ok(mut parts) = hub.lend_parts(alloc, steps) else {
+            return Err(lacking.opened);
         };
-        let mut table = hub.lend_table(alloc, steps);
-        let answer = builder.open_or_create_with_attributes(alloc, attributes, &mut table);
-        hub.settle(alloc, table, room, answer, lacking_either::<P>())
+        let answer = builder.open_or_create_with_attributes(alloc, attributes, &mut parts.table);
+        hub.settle(alloc, parts, answer, lacking)
     }
 }
 

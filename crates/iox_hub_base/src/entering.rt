@@ -7,7 +7,7 @@ ghost use Rattle.iox_hub_base.specs.Opening.{Enters, IsClosedAgain, Settles};
 
 use crate::factory::PortFactory;
 use crate::hub::Hub;
-use crate::service_room::ServiceRoom;
+use crate::service_room::{OpeningParts, ServiceRoom};
 use iox_describe::pattern::Pattern;
 use iox_describe_base::ZeroCopySend;
 use iox_negotiate as negotiated;
@@ -54,9 +54,9 @@ struct NoRoom {
 }
 
 impl<T: Copy, U: Copy, B: Drop, D: Drop> Hub<T, U, B, D> {
-    /// The services and the counts of their factories, with room for one service more. The hub is without them until they are put back.
-    /// Fails only where an allocation fails, and then nothing has changed.
-    pub(crate) fn make_room(&mut self, alloc: Global) -> Result<ServiceRoom<T, U, B, D>, AllocError>
+    // The services and the counts of their factories, with room for one service more. The hub is without them until they are put back.
+    // Fails only where an allocation fails, and then nothing has changed.
+    fn make_room(&mut self, alloc: Global) -> Result<ServiceRoom<T, U, B, D>, AllocError>
         ensures lent { IfOk result (λ room. (room.counts ≡ self.old.factory_counts) × (room.services ≡ self.old.services)) }
         ensures rest { OnOk result (self.new ≡ record self.old { factory_counts = self.new.factory_counts; services = self.new.services }) }
         ensures err { OnErr result (self.new ≡ self.old) }
@@ -71,12 +71,32 @@ impl<T: Copy, U: Copy, B: Drop, D: Drop> Hub<T, U, B, D> {
         }
     }
 
-    /// The table, with these lists of steps to do before its accesses. The hub is without it until it is put back.
-    pub(crate) fn lend_table(&mut self, alloc: Global, steps: Vec<StepList>) -> Stepped
+    // The table, with these lists of steps to do before its accesses. The hub is without it until it is put back.
+    fn lend_table(&mut self, alloc: Global, steps: Vec<StepList>) -> Stepped
         ensures lent { result ≡ record { table = self.old.table; lists = steps.items } }
         ensures rest { self.new ≡ record self.old { table = self.new.table } }
     {
         Stepped::new(mem::replace(&mut self.table, Table::new(alloc, 0)), steps)
+    }
+
+    /// What a call that opens a service needs: the table, with these lists of steps to do before its accesses, and room for the service.
+    /// The hub is without them until they are put back. Fails only where an allocation fails, and then nothing has changed.
+    pub(crate) fn lend_parts(
+        &mut self,
+        alloc: Global,
+        steps: Vec<StepList>,
+    ) -> Result<OpeningParts<T, U, B, D>, AllocError>
+        ensures table { IfOk result (λ parts. parts.table ≡ record { table = self.old.table; lists = steps.items }) }
+        ensures rest { IfOk result (λ parts. self.old ≡ record self.new {
+          table = self.old.table;
+          factory_counts = parts.room.counts;
+          services = parts.room.services;
+        }) }
+        ensures err { OnErr result (self.new ≡ self.old) }
+    {
+        let room = self.make_room(alloc)?;
+        let table = self.lend_table(alloc, steps);
+        Ok(OpeningParts { table, room })
     }
 
     // Closes a factory for which no memory was found.
@@ -96,19 +116,19 @@ impl<T: Words + ZeroCopySend, U: Copy + ZeroCopySend, B: Drop, D: Drop> Hub<T, U
     pub(crate) fn settle<P: Pattern, E: Copy>(
         &mut self,
         alloc: Global,
-        table: Stepped,
-        room: ServiceRoom<T, U, B, D>,
+        parts: OpeningParts<T, U, B, D>,
         answer: Result<negotiated::PortFactory<P>, E>,
         errors: Lacking<E>,
     ) -> Result<PortFactory<P>, E>
-        requires { IfOk answer (λ service. service.membership.storage ≡ table.table.id) }
+        requires { IfOk answer (λ service. service.membership.storage ≡ parts.table.table.id) }
         ensures { (lacking : Bool → E) → lacking false ≡ errors.opened → lacking true ≡ errors.created
             → Settles (detail FixedSize T.name T.size T.alignment) (detail FixedSize U.name U.size U.alignment) lacking
             (result_map_both (λ service. service.membership) (λ error. error) answer)
-            (record self.old { table = table.table; factory_counts = room.counts; services = room.services })
+            (record self.old { table = parts.table.table; factory_counts = parts.room.counts; services = parts.room.services })
             (result_map_both (λ factory. (factory.service.membership, factory.owner)) (λ error. error) result) self.new }
     {
-        self.table = table.into_table();
+        let room = parts.room;
+        self.table = parts.table.into_table();
         match answer {
             Ok(service) => match self.enter(alloc, service, room) {
                 Ok(factory) => Ok(factory),

@@ -14,9 +14,17 @@ use iox_describe_base::ZeroCopySend;
 use iox_describe_settings::Description;
 use iox_domain::{Domain, DomainId};
 use iox_domain_values::DomainError;
+use iox_negotiate_table::Stepped;
 use iox_queues_base::Words;
 use std::alloc::Global;
 use std::marker::Model;
+
+/// What a hub lends to a call that opens a service: the table, with steps to do before its accesses, and room for the service.
+#[derive(Drop)]
+pub(crate) struct OpeningParts<T, U, B, D> {
+    pub(crate) table: Stepped,
+    pub(crate) room: ServiceRoom<T, U, B, D>,
+}
 
 /// The services of a hub and the counts of their factories, with room for one service more.
 #[derive(Drop)]
@@ -108,7 +116,14 @@ fn new_here<T: Words + ZeroCopySend, U: Copy + ZeroCopySend, B: Drop, D: Drop>(
     ensures { IfOk result (λ boxed. IsNewHere id expired_connection_buffer description.now.settings boxed.value) }
 {
     let domain = Domain::new(alloc, id, description, expired_connection_buffer)?;
-    match Box::new(alloc, Presence::Here(domain)) {
+    boxed(alloc, Presence::Here(domain))
+}
+
+// A value in a box of its own.
+fn boxed<X: Drop>(alloc: Global, value: X) -> Result<Box<X>, DomainError>
+    ensures { IfOk result (λ boxed. boxed.value ≡ value) }
+{
+    match Box::new(alloc, value) {
         Ok(boxed) => Ok(boxed),
         Err(_) => Err(DomainError::OutOfMemory),
     }

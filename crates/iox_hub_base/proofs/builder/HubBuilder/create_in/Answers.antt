@@ -16,9 +16,8 @@ returns-in_default g c =
 pub returns : goal.returns
 returns g c =
     opens-in-hub _ _ _ (λ was_new. g.P.Negotiated.create_error uncreated.OutOfMemory) _ c.args.steps.items
-    c.args.hub.now c.make_room.new.self c.lend_table-table.new.self _ _ _ _ _ _ _ c.in-Ok.ensures.lent c.in-Ok.ensures.rest
-    c.lend_table-table.ensures.lent c.lend_table-table.ensures.rest
+    c.args.hub.now c.lend_parts.new.self _ _ _ _ _ _ _ c.in-Ok.ensures.table c.in-Ok.ensures.rest
     (rw c.builder-builder.ensures at c.create-answer.ensures)
     (c.settle.ensures (λ was_new. g.P.Negotiated.create_error uncreated.OutOfMemory)
-    (sym (ap (λ errors. errors.opened) c.either_way.ensures ∙ c.create_error.ensures))
-    (sym (ap (λ errors. errors.created) c.either_way.ensures ∙ c.create_error.ensures)))
+    (sym (ap (λ errors. errors.opened) c.either_way-lacking.ensures ∙ c.create_error.ensures))
+    (sym (ap (λ errors. errors.created) c.either_way-lacking.ensures ∙ c.create_error.ensures)))

@@ -9,13 +9,12 @@ settle-requires g c = if-of-the-table _ _ _ _ _ c.open_or_create_with_attributes
     c.open_or_create_with_attributes-answer.ensures.negotiated
 
 pub returns-in_default : goal.returns-in_default
-returns-in_default g c = inr (tt, ap Err c.lacking_either.ensures.opened, c.in_default.ensures.err)
+returns-in_default g c = inr (tt, ap Err c.lacking_either-lacking.ensures.opened, c.in_default.ensures.err)
 
 pub returns : goal.returns
 returns g c =
     opens-in-hub _ _ (Unit {0}) (λ was_new. g.P.Negotiated.open_or_create_error (lacking_either was_new)) _ c.args.steps.items
-    c.args.hub.now c.make_room.new.self c.lend_table-table.new.self _ _ _ _ _ _ _ c.in-Ok.ensures.lent c.in-Ok.ensures.rest
-    c.lend_table-table.ensures.lent c.lend_table-table.ensures.rest
+    c.args.hub.now c.lend_parts.new.self _ _ _ _ _ _ _ c.in-Ok.ensures.table c.in-Ok.ensures.rest
     (rw c.builder-builder.ensures at c.open_or_create_with_attributes-answer.ensures)
     (c.settle.ensures (λ was_new. g.P.Negotiated.open_or_create_error (lacking_either was_new))
-    (sym c.lacking_either-2.ensures.opened) (sym c.lacking_either-2.ensures.created))
+    (sym c.lacking_either-lacking.ensures.opened) (sym c.lacking_either-lacking.ensures.created))
