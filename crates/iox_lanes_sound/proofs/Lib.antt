@@ -12,3 +12,9 @@ mod Untying
 mod StrayLists
 mod StrayCalls
 mod Strays
+mod Kept
+mod KeptUpdates
+mod KeptLists
+mod KeptReading
+mod KeptCalls
+mod Unrefused

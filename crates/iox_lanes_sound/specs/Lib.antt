@@ -4,3 +4,4 @@ pub mod Having
 pub mod Lanes
 pub mod Sequences
 pub mod Strays
+pub mod Keeping

@@ -28,6 +28,7 @@ ghost use Rattle.iox_lanes_opening.specs.Middles.{middle_count, middle_words};
 ghost use Rattle.iox_lanes_opening.specs.Refusals.{first_reason};
 ghost use Rattle.iox_lanes_opening.specs.declared.refusals.into_lanes_error.IntoLanesError.TheVariants as reason;
 ghost use Rattle.iox_lanes_sound.specs.Having.{AreReadBack, HaveMessages, lane_names};
+ghost use Rattle.iox_lanes_sound.specs.Keeping.{CallsKeepToOne, NeverUnsound};
 ghost use Rattle.iox_lanes_sound.specs.Lanes.{StandAsPorts, TurnsGoOnAsPorts};
 ghost use Rattle.iox_lanes_sound.specs.Sequences.{SequencesFound, SequencesStayUp, SequencesWait};
 ghost use Rattle.iox_lanes_sound.specs.Standing.{StandingPortsAreSound};
@@ -41,9 +42,9 @@ use iox_lanes::DomainLanes;
 use iox_queues_base::Words;
 
 /// Ports that stand for a service of the machine are never `Unsound`, where nothing lingers of them, and of each publisher three things
-/// hold that neither the machine says nor what calls keep: its slots are of one segment, it keeps no more messages than agreed, and one
-/// may wait at each of its connections. Calls leave such ports as stand for a service (`StandsFor`, by the laws of `iox_domain_machine`)
-/// and are in order (`AreRoomy`, by those of `iox_domain`).
+/// hold that the machine doesn't say: its slots are of one segment, it keeps no more messages than agreed, and one may wait at each of its
+/// connections. Calls keep these, where no room grows (`calls_keep_to_one`). They leave such ports as stand for a service (`StandsFor`, by
+/// the laws of `iox_domain_machine`) and are in order (`AreRoomy`, by those of `iox_domain`).
 ///
 /// So they are listed each at its own place alone, no two messages of a history or a mailbox stand in one slot, no more wait than may,
 /// and no two connections of a subscriber come from one publisher.
@@ -164,4 +165,26 @@ pub fn refused_where_ports_lag<T, U>(domain: &Domain<T, U>)
     requires without { AreWithoutStrays domain.now.state.ports }
     requires told { first_reason domain.now ≡ Some reason.ConnectionsNotUpToDate }
     ensures { SomePublisherLags domain.now.state.ports ⊎ SomeSubscriberLags domain.now.state.ports }
+{}
+
+/// Each publisher whose room doesn't grow has slots of one segment, keeps no more messages than agreed, and lets one wait at each of its
+/// connections. What is kept is `KeepToOneIfStatic`: so it is of each publisher, and one may wait for each subscriber that is there or
+/// listed. So it is of a new service that lets one message wait at least (`begins`), each call leaves it so, whatever override and handlers
+/// answer (`goes_on`), and so do any calls from a new service on (`stays`).
+///
+/// Where no publisher may grow (`NotStatic` isn't told), that is what `standing_ports_are_sound` asks of each (`static`).
+pub fn calls_keep_to_one<T, U, O: Overrides, B: Decides + Degrades>(_overriding: &O, _handlers: &B)
+    ensures { CallsKeepToOne T U (O.overrides _overriding.now) (B.degrades _handlers.now cause.FailedToEstablishConnection)
+        (B.decides _handlers.now) }
+{}
+
+/// A domain whose ports calls made is never refused as `Unsound`: any calls from a new service on that lets one message wait at least,
+/// whatever override and handlers answer. The ports stand for a service of the machine, as the laws of `iox_domain_machine` say of calls.
+pub fn never_refused_as_unsound<T, U, O: Overrides, B: Decides + Degrades>(
+    _overriding: &O,
+    _handlers: &B,
+    domain: &Domain<T, U>,
+)
+    ensures { NeverUnsound (O.overrides _overriding.now) (B.degrades _handlers.now cause.FailedToEstablishConnection)
+        (B.decides _handlers.now) domain.now }
 {}

@@ -1,0 +1,77 @@
+-- What calls of a domain keep of its publishers: slots of one segment, as long a history as agreed, and connections where one may wait.
+use Rattle.std.specs.Prelude.{ℕ, ◌≡◌, ◌≢◌, ◌<◌, ◌≤◌, true, false, List, length, get_or, None, Some}
+use Rattle.std.specs.List.{All}
+use Rattle.iox_domain.specs.Calls.{PortCall, Happens}
+use Rattle.iox_domain.specs.Container.declared.container.Member.{Member}
+use Rattle.iox_domain.specs.DomainPorts.Ports.{connection_of}
+use Rattle.iox_domain.specs.DomainPorts.declared.attached.Taken.{Taken}
+use Rattle.iox_domain.specs.DomainPorts.declared.publisher_port.PublisherPort.{PublisherPort}
+use Rattle.iox_domain.specs.DomainPorts.declared.subscriber_entry.SubscriberEntry.{SubscriberEntry}
+use Rattle.iox_domain.specs.DomainPorts.declared.subscriber_port.SubscriberPort.{SubscriberPort}
+use Rattle.iox_domain.specs.DomainSlots.Uses.{is_there}
+use Rattle.iox_domain.specs.DomainValues.declared.backpressure.BackpressureDecision.{BackpressureDecision}
+use Rattle.iox_domain.specs.DomainValues.declared.backpressure.BackpressureInfo.{BackpressureInfo}
+use Rattle.iox_domain.specs.DomainValues.declared.data_segment.AllocationStrategy.TheVariants as strategy
+use Rattle.iox_domain.specs.DomainValues.declared.degradation.DegradationAction.{DegradationAction}
+use Rattle.iox_domain.specs.DomainValues.declared.degradation.DegradationInfo.{DegradationInfo}
+use Rattle.iox_domain.specs.DomainValues.declared.degradation_handler.DegradationHandler.{DegradationHandler}
+use Rattle.iox_domain.specs.DomainValues.declared.handlers.Handlers.{Handlers}
+use Rattle.iox_domain.specs.DomainValues.declared.service_sizes.ServiceSizes.{ServiceSizes}
+use Rattle.iox_domain.specs.Order.{Happen}
+use Rattle.iox_domain.specs.Ports.{no_ports}
+use Rattle.iox_domain.specs.declared.domain.Domain.{Domain}
+use Rattle.iox_domain.specs.declared.ports.service_ports.ServicePorts.{ServicePorts}
+use Rattle.iox_domain_machine.specs.Naming.{Naming}
+use Rattle.iox_domain_machine.specs.Standing.{StandsFor}
+use Rattle.iox_domain_machine.specs.Tables.{LentSlot}
+use Rattle.iox_lanes_opening.specs.Refusals.{first_reason, has_growing}
+use Rattle.iox_lanes_opening.specs.declared.refusals.into_lanes_error.IntoLanesError.TheVariants as reason
+use Rattle.iox_lanes_sound.specs.Standing.{AllKeepToOne}
+use Rattle.iox_machine.specs.Service.{Service}
+
+-- The slots of a publisher whose room doesn't grow are of one segment. It keeps no more messages than agreed. One may wait at each
+-- connection that there is, and at each that is made.
+pub record KeepsToOneIfStatic {T U : Type 0} (port : PublisherPort T U) : Type 0 where
+  pub first : port.allocation ≡ strategy.Static → port.sender.uses.first ≡ 0
+  pub few : length port.sender.uses.history ≤ port.sender.uses.kept
+  pub some : (index : ℕ) → is_there (connection_of index port) ≡ true → 0 < (connection_of index port).limit
+  pub room : 0 < port.sender.uses.most_waiting
+
+-- so it is with the publisher of a number
+abbrev pub IsKeptToOne : {T U : Type 0} → ℕ × PublisherPort T U → Type 0
+IsKeptToOne (number, port) = KeepsToOneIfStatic port
+
+-- one message may wait at least for the subscriber of a number
+abbrev pub MayWaitFor : ℕ × SubscriberPort → Type 0
+MayWaitFor (number, port) = 0 < port.buffer_size
+
+-- A service lets one message wait at least, for each subscriber that it has or lists, and each publisher keeps to one segment where its
+-- room doesn't grow.
+pub record KeepToOneIfStatic {T U : Type 0} (ports : ServicePorts T U) : Type 0 where
+  pub room : 0 < ports.sizes.subscriber_max_buffer_size
+  pub publishers : All IsKeptToOne ports.publishers
+  pub subscribers : All MayWaitFor ports.subscribers
+  pub listed : (place : ℕ) (member : Member SubscriberEntry) → get_or ports.subscriber_list.places place None ≡ Some member
+      → 0 < member.value.buffer_size
+
+-- So it is of a new service that lets one message wait at least. Each call leaves it so, and so do any calls from a new service on. Then,
+-- where no room grows, each publisher keeps to one.
+pub record CallsKeepToOne (T U : Type 0) (overrides : ℕ → ℕ → Type 0) (may : DegradationInfo → DegradationAction
+    → Type 0) (decide : BackpressureInfo → BackpressureDecision → Type 0) : Type 0 where
+  pub begins : (service : ℕ) (sizes : ServiceSizes) (ports : ServicePorts T U) → 0 < sizes.subscriber_max_buffer_size
+      → ports ≡ no_ports service sizes → KeepToOneIfStatic ports
+  pub goes_on : (call : PortCall T U) (old new : ServicePorts T U) → Happens overrides may decide call old new
+      → KeepToOneIfStatic old → KeepToOneIfStatic new
+  pub stays : (service : ℕ) (sizes : ServiceSizes) (calls : List (PortCall T U × ServicePorts T U)) (new : ServicePorts T U)
+      → 0 < sizes.subscriber_max_buffer_size → Happen overrides may decide calls (no_ports service sizes) new → KeepToOneIfStatic new
+  pub static : (ports : ServicePorts T U) → KeepToOneIfStatic ports → has_growing ports ≡ false → AllKeepToOne ports
+
+-- A domain whose ports any calls from a new service on left, and stand for a service of the machine, is never refused as unsound, where
+-- the service lets one message wait at least.
+abbrev pub NeverUnsound : {T U X Y Z : Type 0} {F : X → Type 0} {G : Y → Type 0} {H : Z → Type 0} → (ℕ → ℕ → Type 0)
+    → (DegradationInfo → DegradationAction → Type 0) → (BackpressureInfo → BackpressureDecision → Type 0)
+    → Domain T U (Handlers X Y F G) (DegradationHandler Z H) → Type 0
+NeverUnsound {T} {U} overrides may decide domain = (service : ℕ) (sizes : ServiceSizes) (calls : List (PortCall T U × ServicePorts T U))
+    (names : Naming) (lent : List (ℕ × LentSlot)) (held : List (ℕ × Taken)) (buffer : ℕ) (machine : Service T)
+    → 0 < sizes.subscriber_max_buffer_size → Happen overrides may decide calls (no_ports service sizes) domain.state.ports
+    → StandsFor names lent held buffer domain.state.ports machine → first_reason domain ≢ Some reason.Unsound
