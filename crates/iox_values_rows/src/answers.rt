@@ -14,22 +14,23 @@ pub(crate) fn hold(
     Ok(())
 }
 
-/// Each must have just this size.
-pub(crate) fn have_size(
-    rt: &impl Abort,
-    size: usize,
-    answers: &[Result<usize, AllocError>],
-) -> Result<(), AllocError> {
-    for (place, answer) in answers.iter().enumerate() {
-        assert!(rt; (*answer)? == size, "size {size}, answer {place}");
+/// What a call found no memory for; None where it found all.
+pub(crate) type Want = Option<AllocError>;
+
+/// Each must have found its memory.
+pub(crate) fn find_memory(wants: &[Want]) -> Result<(), AllocError> {
+    for want in wants {
+        if let Some(error) = *want {
+            return Err(error);
+        }
     }
     Ok(())
 }
 
 /// Each must be refused for want of memory.
-pub(crate) fn are_refused(rt: &impl Abort, answers: &[Result<usize, AllocError>]) {
-    for (place, answer) in answers.iter().enumerate() {
-        assert!(rt; answer.is_err(), "answer {place}");
+pub(crate) fn are_refused(rt: &impl Abort, wants: &[Want]) {
+    for (place, want) in wants.iter().enumerate() {
+        assert!(rt; want.is_some(), "call {place}");
     }
 }
 

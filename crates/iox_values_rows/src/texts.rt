@@ -1,5 +1,5 @@
 //! What errors display as: the name of their type and that of their variant, with the inner variant in parentheses.
-use crate::answers::hold;
+use crate::answers::{hold, is_shown};
 use iox_container::semantic_strings::SemanticStringError;
 use iox_container::string::StringModificationError;
 use iox_container::{FlatMapError, VectorModificationError};
@@ -12,14 +12,23 @@ use iox_index::{
 use std::alloc::{AllocError, Global};
 use std::fmt::{Debug, Display};
 
-/// Whether errors are told so: the variant is what a derived `Debug` writes.
+/// Whether an error is told so: the variant is what a derived `Debug` writes.
+fn is_told<E: Debug + Display>(alloc: Global, name: &str, error: &E) -> Result<bool, AllocError> {
+    let told = format!(in alloc; "{error}")?;
+    match told.strip_prefix(name) {
+        Some(variant) => is_shown(alloc, error, variant),
+        None => Ok(false),
+    }
+}
+
+/// Whether errors are, each with the name of its type.
 fn are_told<E: Debug + Display>(
     alloc: Global,
     name: &str,
     errors: &[E],
 ) -> Result<bool, AllocError> {
     for error in errors {
-        if format!(in alloc; "{error}")? != format!(in alloc; "{name}::{error:?}")? {
+        if !is_told(alloc, name, error)? {
             return Ok(false);
         }
     }
@@ -64,70 +73,61 @@ const OF_OWNERS: [OwnerIdNewError; 1] = [OwnerIdNewError::ValueReserved];
 fn a_refusal_reads_as_its_name(rt: HostRuntime) -> Result<(), AllocError> {
     let alloc: Global = rt.alloc();
     let answers = [
-        are_told(alloc, "StringModificationError", &OF_STRINGS),
-        are_told(alloc, "VectorModificationError", &OF_VECTORS),
-        are_told(alloc, "SemanticStringError", &OF_SEMANTIC_STRINGS),
-        are_told(alloc, "FlatMapError", &OF_FLAT_MAPS),
-        are_told(alloc, "UniqueIndexSetAcquireFailure", &OF_SETS),
-        are_told(alloc, "ContainerAddFailure", &OF_ADDING),
-        are_told(alloc, "ContainerRemoveError", &OF_REMOVING),
-        are_told(alloc, "OwnerIdNewError", &OF_OWNERS),
+        are_told(alloc, "StringModificationError::", &OF_STRINGS),
+        are_told(alloc, "VectorModificationError::", &OF_VECTORS),
+        are_told(alloc, "SemanticStringError::", &OF_SEMANTIC_STRINGS),
+        are_told(alloc, "FlatMapError::", &OF_FLAT_MAPS),
+        are_told(alloc, "UniqueIndexSetAcquireFailure::", &OF_SETS),
+        are_told(alloc, "ContainerAddFailure::", &OF_ADDING),
+        are_told(alloc, "ContainerRemoveError::", &OF_REMOVING),
+        are_told(alloc, "OwnerIdNewError::", &OF_OWNERS),
     ];
     hold(&rt, &answers)
 }
 
-/// All errors of the clauses of publish-subscribe.
-fn publish_subscribe_clauses() -> [publish_subscribe::ClauseError; 11] {
-    [
-        publish_subscribe::ClauseError::IncompatibleMessagingPattern,
-        publish_subscribe::ClauseError::IncompatibleTypes,
-        publish_subscribe::ClauseError::IncompatibleAttributes,
-        publish_subscribe::ClauseError::IncompatibleOverflowBehavior,
-        publish_subscribe::ClauseError::IncompatibleSequenceNumbers,
-        publish_subscribe::ClauseError::DoesNotSupportRequestedAmountOfPublishers,
-        publish_subscribe::ClauseError::DoesNotSupportRequestedAmountOfSubscribers,
-        publish_subscribe::ClauseError::DoesNotSupportRequestedMinBufferSize,
-        publish_subscribe::ClauseError::DoesNotSupportRequestedMinHistorySize,
-        publish_subscribe::ClauseError::DoesNotSupportRequestedMinSubscriberBorrowedSamples,
-        publish_subscribe::ClauseError::DoesNotSupportRequestedAmountOfNodes,
-    ]
-}
+const OF_PUBLISH_SUBSCRIBE: [publish_subscribe::ClauseError; 11] = [
+    publish_subscribe::ClauseError::IncompatibleMessagingPattern,
+    publish_subscribe::ClauseError::IncompatibleTypes,
+    publish_subscribe::ClauseError::IncompatibleAttributes,
+    publish_subscribe::ClauseError::IncompatibleOverflowBehavior,
+    publish_subscribe::ClauseError::IncompatibleSequenceNumbers,
+    publish_subscribe::ClauseError::DoesNotSupportRequestedAmountOfPublishers,
+    publish_subscribe::ClauseError::DoesNotSupportRequestedAmountOfSubscribers,
+    publish_subscribe::ClauseError::DoesNotSupportRequestedMinBufferSize,
+    publish_subscribe::ClauseError::DoesNotSupportRequestedMinHistorySize,
+    publish_subscribe::ClauseError::DoesNotSupportRequestedMinSubscriberBorrowedSamples,
+    publish_subscribe::ClauseError::DoesNotSupportRequestedAmountOfNodes,
+];
 
-/// All errors of the clauses of event.
-fn event_clauses() -> [event::ClauseError; 10] {
-    [
-        event::ClauseError::IncompatibleMessagingPattern,
-        event::ClauseError::IncompatibleAttributes,
-        event::ClauseError::IncompatibleDeadline,
-        event::ClauseError::DoesNotSupportRequestedAmountOfNotifiers,
-        event::ClauseError::DoesNotSupportRequestedAmountOfListeners,
-        event::ClauseError::DoesNotSupportRequestedMaxEventId,
-        event::ClauseError::IncompatibleNotifierCreatedEvent,
-        event::ClauseError::IncompatibleNotifierDroppedEvent,
-        event::ClauseError::IncompatibleNotifierDeadEvent,
-        event::ClauseError::DoesNotSupportRequestedAmountOfNodes,
-    ]
-}
+const OF_EVENTS: [event::ClauseError; 10] = [
+    event::ClauseError::IncompatibleMessagingPattern,
+    event::ClauseError::IncompatibleAttributes,
+    event::ClauseError::IncompatibleDeadline,
+    event::ClauseError::DoesNotSupportRequestedAmountOfNotifiers,
+    event::ClauseError::DoesNotSupportRequestedAmountOfListeners,
+    event::ClauseError::DoesNotSupportRequestedMaxEventId,
+    event::ClauseError::IncompatibleNotifierCreatedEvent,
+    event::ClauseError::IncompatibleNotifierDroppedEvent,
+    event::ClauseError::IncompatibleNotifierDeadEvent,
+    event::ClauseError::DoesNotSupportRequestedAmountOfNodes,
+];
 
-/// All errors of the clauses of request-response.
-fn request_response_clauses() -> [request_response::ClauseError; 14] {
-    [
-        request_response::ClauseError::IncompatibleMessagingPattern,
-        request_response::ClauseError::IncompatibleRequestType,
-        request_response::ClauseError::IncompatibleResponseType,
-        request_response::ClauseError::IncompatibleAttributes,
-        request_response::ClauseError::IncompatibleOverflowBehaviorForRequests,
-        request_response::ClauseError::IncompatibleOverflowBehaviorForResponses,
-        request_response::ClauseError::IncompatibleBehaviorForFireAndForgetRequests,
-        request_response::ClauseError::DoesNotSupportRequestedAmountOfClientRequestLoans,
-        request_response::ClauseError::DoesNotSupportRequestedAmountOfActiveRequestsPerClient,
-        request_response::ClauseError::DoesNotSupportRequestedResponseBufferSize,
-        request_response::ClauseError::DoesNotSupportRequestedAmountOfServers,
-        request_response::ClauseError::DoesNotSupportRequestedAmountOfClients,
-        request_response::ClauseError::DoesNotSupportRequestedAmountOfBorrowedResponsesPerPendingResponse,
-        request_response::ClauseError::DoesNotSupportRequestedAmountOfNodes,
-    ]
-}
+const OF_REQUEST_RESPONSE: [request_response::ClauseError; 14] = [
+    request_response::ClauseError::IncompatibleMessagingPattern,
+    request_response::ClauseError::IncompatibleRequestType,
+    request_response::ClauseError::IncompatibleResponseType,
+    request_response::ClauseError::IncompatibleAttributes,
+    request_response::ClauseError::IncompatibleOverflowBehaviorForRequests,
+    request_response::ClauseError::IncompatibleOverflowBehaviorForResponses,
+    request_response::ClauseError::IncompatibleBehaviorForFireAndForgetRequests,
+    request_response::ClauseError::DoesNotSupportRequestedAmountOfClientRequestLoans,
+    request_response::ClauseError::DoesNotSupportRequestedAmountOfActiveRequestsPerClient,
+    request_response::ClauseError::DoesNotSupportRequestedResponseBufferSize,
+    request_response::ClauseError::DoesNotSupportRequestedAmountOfServers,
+    request_response::ClauseError::DoesNotSupportRequestedAmountOfClients,
+    request_response::ClauseError::DoesNotSupportRequestedAmountOfBorrowedResponsesPerPendingResponse,
+    request_response::ClauseError::DoesNotSupportRequestedAmountOfNodes,
+];
 
 /// Whether errors display as these words.
 fn are_displayed<E: Display>(alloc: Global, rows: &[(E, &str)]) -> Result<bool, AllocError> {
@@ -160,12 +160,12 @@ const OF_DESCRIPTIONS: [DescriptionError; 3] = [
 fn errors_of_descriptions_display_as_type_and_variant(rt: HostRuntime) -> Result<(), AllocError> {
     let alloc: Global = rt.alloc();
     let answers = [
-        are_told(alloc, "ClauseError", &publish_subscribe_clauses()),
-        are_told(alloc, "ClauseError", &event_clauses()),
-        are_told(alloc, "ClauseError", &request_response_clauses()),
-        are_told(alloc, "DescriptionError", &OF_DESCRIPTIONS),
-        are_told(alloc, "LimitError", &[LimitError::OutsideLimits]),
-        are_told(alloc, "AttributeError", &[AttributeError::OutOfMemory]),
+        are_told(alloc, "ClauseError::", &OF_PUBLISH_SUBSCRIBE),
+        are_told(alloc, "ClauseError::", &OF_EVENTS),
+        are_told(alloc, "ClauseError::", &OF_REQUEST_RESPONSE),
+        are_told(alloc, "DescriptionError::", &OF_DESCRIPTIONS),
+        are_told(alloc, "LimitError::", &[LimitError::OutsideLimits]),
+        are_told(alloc, "AttributeError::", &[AttributeError::OutOfMemory]),
         are_displayed(alloc, &OUTSIDE),
         are_displayed(alloc, &OF_CONVERSATIONS),
     ];

@@ -1,10 +1,7 @@
 //! The two lines of a service, and texts that are nearly one. The lines come from functions, since a constant's text stands in the proof of
 //! each function that names it.
 use crate::answers::hold;
-use iox_describe::{
-    Description, DescriptionError, MessagingPattern, ServiceName, decode, encode, encode_v1,
-    service_hash,
-};
+use iox_describe::{DescriptionError, MessagingPattern, ServiceName, decode, service_hash};
 use std::alloc::{AllocError, Global};
 use std::process::Abort;
 
@@ -39,45 +36,34 @@ pub(crate) fn named_request_response_line() -> &'static str {
     "{\"attributes\":[[\"k\",\"v\"],[\"k\",\"\"]],\"name\":\"R\",\"pattern\":\"request_response\",\"service_hash\":\"41dc32c132eeadb87457313fbdd46352c02196d1\",\"settings\":{\"enable_fire_and_forget_requests\":true,\"enable_safe_overflow_for_requests\":true,\"enable_safe_overflow_for_responses\":true,\"max_active_requests_per_client\":4,\"max_borrowed_responses_per_pending_response\":2,\"max_clients\":8,\"max_loaned_requests\":2,\"max_nodes\":20,\"max_response_buffer_size\":2,\"max_servers\":2,\"request_types\":{\"header\":{\"alignment\":8,\"name\":\"Header\",\"size\":24,\"variant\":\"FixedSize\"},\"payload\":{\"alignment\":4,\"name\":\"[u32; 3]\",\"size\":12,\"variant\":\"FixedSize\"},\"user_header\":{\"alignment\":4,\"name\":\"u32\",\"size\":4,\"variant\":\"FixedSize\"}},\"response_types\":{\"header\":{\"alignment\":8,\"name\":\"Header\",\"size\":24,\"variant\":\"FixedSize\"},\"payload\":{\"alignment\":32,\"name\":\"i64\",\"size\":8,\"variant\":\"Dynamic\"},\"user_header\":{\"alignment\":1,\"name\":\"()\",\"size\":0,\"variant\":\"FixedSize\"}}},\"version\":2}"
 }
 
-/// Whether the description has a line of version 1, and it is this.
-fn is_first_line(
-    alloc: Global,
-    description: &Description,
-    bytes: &[u8],
-) -> Result<bool, AllocError> {
-    match encode_v1(alloc, description) {
-        Ok(line) => Ok(line.as_slice() == bytes),
-        Err(DescriptionError::OutOfMemory) => Err(AllocError),
-        Err(DescriptionError::Invalid | DescriptionError::NotInVersion1) => Ok(false),
+/// Whether a description was read, where memory was found.
+fn was_read(error: Option<DescriptionError>) -> Result<bool, AllocError> {
+    match error {
+        None => Ok(true),
+        Some(DescriptionError::OutOfMemory) => Err(AllocError),
+        Some(DescriptionError::Invalid | DescriptionError::NotInVersion1) => Ok(false),
     }
 }
 
-/// Whether the description is spelled so, by its line of one version or the other.
-fn is_line(alloc: Global, description: &Description, bytes: &[u8]) -> Result<bool, AllocError> {
-    let is_second = encode(alloc, description)?.as_slice() == bytes;
-    Ok(is_second != is_first_line(alloc, description, bytes)?)
-}
-
-/// Whether the bytes are read as a description that is spelled so.
+/// Whether the bytes are read as a description.
 pub(crate) fn is_read(alloc: Global, bytes: &[u8]) -> Result<bool, AllocError> {
-    match decode(alloc, bytes) {
-        Ok(description) => is_line(alloc, &description, bytes),
-        Err(DescriptionError::OutOfMemory) => Err(AllocError),
-        Err(DescriptionError::Invalid | DescriptionError::NotInVersion1) => Ok(false),
-    }
+    was_read(decode(alloc, bytes).err())
 }
 
-/// The line of version 1, from that of version 2 of a service that isn't of publish-subscribe.
-fn first_line(alloc: Global, line: &str) -> Result<String, AllocError> {
-    match line.strip_suffix("2}") {
-        Some(front) => format!(in alloc; "{front}1}}"),
+/// Whether the line is read with a text in the place of the first such text. Nothing is asked of a row that isn't one.
+fn is_spelled(alloc: Global, line: &str, row: &str) -> Result<bool, AllocError> {
+    match row.split_once(" => ") {
+        Some((from, to)) => is_read(alloc, line.replacen(alloc, from, to, 1)?.as_bytes()),
         None => Err(AllocError),
     }
 }
 
-/// Whether its line of version 1 is read.
-fn is_first_read(alloc: Global, line: &str) -> Result<bool, AllocError> {
-    is_read(alloc, first_line(alloc, line)?.as_bytes())
+/// Whether the line is read, and that of version 1 of the same service.
+fn are_both_read(alloc: Global, line: &str) -> [Result<bool, AllocError>; 2] {
+    [
+        is_read(alloc, line.as_bytes()),
+        is_spelled(alloc, line, "\"version\":2} => \"version\":1}"),
+    ]
 }
 
 #[test]
@@ -88,12 +74,10 @@ fn each_line_is_read(rt: HostRuntime) -> Result<(), AllocError> {
         is_read(alloc, first_publish_subscribe_line().as_bytes()),
         is_read(alloc, event_line().as_bytes()),
         is_read(alloc, request_response_line().as_bytes()),
-        is_read(alloc, named_event_line().as_bytes()),
-        is_read(alloc, named_request_response_line().as_bytes()),
-        is_first_read(alloc, named_event_line()),
-        is_first_read(alloc, named_request_response_line()),
     ];
-    hold(&rt, &answers)
+    hold(&rt, &answers)?;
+    hold(&rt, &are_both_read(alloc, named_event_line()))?;
+    hold(&rt, &are_both_read(alloc, named_request_response_line()))
 }
 
 /// What stands in the line of publish-subscribe, and what is put in its place and refused.
@@ -163,17 +147,6 @@ const READ: [&str; 5] = [
     "\"size\":24 => \"size\":18446744073709551615",
     "\"name\":\"23\" => \"name\":\"\\u0001\\u001f\\b\\t\\n\\f\\r\\\"\\\\/\"",
 ];
-
-/// Whether the line is read with a text in the place of the first such text. Nothing is asked of a row that isn't one.
-fn is_spelled(alloc: Global, line: &str, row: &str) -> Result<bool, AllocError> {
-    let Some((from, to)) = row.split_once(" => ") else {
-        return Err(AllocError);
-    };
-    let Some((before, after)) = line.split_once(from) else {
-        return Err(AllocError);
-    };
-    is_read(alloc, format!(in alloc; "{before}{to}{after}")?.as_bytes())
-}
 
 /// Each row must be read, or none.
 fn are_spelled(

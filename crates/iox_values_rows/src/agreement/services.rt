@@ -50,35 +50,23 @@ fn of_attributes() -> Result<ServiceBuilder<RequestResponse>, LimitError> {
 }
 
 /// Whether a factory was made whose service the table shows so.
-fn is_made_so<P: Pattern, E: Drop>(
-    made: Result<PortFactory<P>, E>,
-    table: &mut Table,
-    line: &str,
-) -> bool {
+fn is_made_so<P: Pattern>(made: Option<PortFactory<P>>, table: &mut Table, line: &str) -> bool {
     match made {
-        Ok(factory) => {
-            let hash = factory.description().service_hash();
-            is_shown(table, hash, line.as_bytes())
-        }
-        Err(_) => false,
+        Some(factory) => is_shown(table, factory.description().service_hash(), line.as_bytes()),
+        None => false,
     }
 }
 
-/// Whether the service is created in this table with these attributes and this line, by a copy of who asks.
+/// Whether the service is created in this table with these attributes and this line.
 fn is_published_in<P: Negotiated>(
     alloc: Global,
-    asked: &ServiceBuilder<P>,
+    asked: ServiceBuilder<P>,
     given: &AttributeSpecifier,
     table: &mut Table,
     line: &str,
 ) -> bool {
-    match asked.try_clone(alloc) {
-        Ok(asked) => {
-            let made = asked.create_with_attributes(alloc, given, table);
-            is_made_so(made, table, line)
-        }
-        Err(_) => false,
-    }
+    let made = asked.create_with_attributes(alloc, given, table).ok();
+    is_made_so(made, table, line)
 }
 
 /// The same in a new table.
@@ -89,7 +77,7 @@ fn is_published<P: Negotiated>(
     line: &str,
 ) -> bool {
     match asked {
-        Ok(asked) => is_published_in(alloc, &asked, given, &mut Table::new(alloc, 1), line),
+        Ok(asked) => is_published_in(alloc, asked, given, &mut Table::new(alloc, 1), line),
         Err(_) => false,
     }
 }
@@ -129,40 +117,30 @@ fn a_service_is_published_with_its_line(rt: HostRuntime) {
 
 /// A builder of the event service `A` that asks for so many attributes, each of the largest.
 fn of_many(alloc: Global, count: usize) -> Option<ServiceBuilder<Event>> {
+    let builder = builder(b"A").ok()?;
     let asked = event::Requirement::new(requirements(alloc, count, 256).ok()?);
-    Some(builder(b"A").ok()?.with_requirement::<Event>(asked))
+    Some(builder.with_requirement::<Event>(asked))
 }
 
-/// The factory that a copy of the builder creates with so many attributes, each of the largest.
+/// The factory that a copy of the builder creates with these attributes.
 fn created(
     alloc: Global,
     asked: &ServiceBuilder<Event>,
-    count: usize,
+    given: &AttributeSpecifier,
     table: &mut Table,
 ) -> Option<PortFactory<Event>> {
-    let Ok(asked) = asked.try_clone(alloc) else {
-        return None;
-    };
-    match attributes(alloc, count, 256) {
-        Ok(given) => asked.create_with_attributes(alloc, &given, table).ok(),
-        Err(_) => None,
-    }
+    let asked = asked.try_clone(alloc).ok()?;
+    asked.create_with_attributes(alloc, given, table).ok()
 }
 
-/// The factory that a copy of the builder opens with, which requires them.
-fn opened(
-    alloc: Global,
-    asked: &ServiceBuilder<Event>,
-    count: usize,
-    table: &mut Table,
-) -> Option<PortFactory<Event>> {
-    let Ok(asked) = asked.try_clone(alloc) else {
-        return None;
-    };
-    match requirements(alloc, count, 256) {
-        Ok(required) => asked.open_with_attributes(alloc, required, table).ok(),
-        Err(_) => None,
-    }
+/// The factory that another builder opens with, which requires so many.
+fn opened(alloc: Global, count: usize, table: &mut Table) -> Option<PortFactory<Event>> {
+    let builder = builder(b"A").ok()?;
+    let required = requirements(alloc, count, 256).ok()?;
+    builder
+        .event()
+        .open_with_attributes(alloc, required, table)
+        .ok()
 }
 
 /// Whether a factory was made of a service that has so many attributes, and is closed.
@@ -174,34 +152,49 @@ fn is_closed(made: Option<PortFactory<Event>>, count: usize, table: &mut Table) 
     factory.close(table).is_ok() && told == count
 }
 
-/// Whether the service is created, opened and closed, with so many attributes.
-fn lives(alloc: Global, asked: &ServiceBuilder<Event>, count: usize, table: &mut Table) -> bool {
-    let first = created(alloc, asked, count, table);
-    let second = opened(alloc, asked, count, table);
-    is_closed(second, count, table) && is_closed(first, count, table)
-}
-
-/// The same twice over.
-fn lives_again(
+/// Whether the service is created, opened and closed, with these attributes, which are so many.
+fn lives(
     alloc: Global,
     asked: &ServiceBuilder<Event>,
+    given: &AttributeSpecifier,
     count: usize,
     table: &mut Table,
 ) -> bool {
-    lives(alloc, asked, count, table) && lives(alloc, asked, count, table)
+    let first = created(alloc, asked, given, table);
+    let second = opened(alloc, count, table);
+    is_closed(second, count, table) && is_closed(first, count, table)
 }
 
-/// The same in a new table.
-fn is_lived(alloc: Global, count: usize) -> bool {
+/// The same twice over, in a new table.
+fn lives_again(
+    alloc: Global,
+    asked: &ServiceBuilder<Event>,
+    given: &AttributeSpecifier,
+    count: usize,
+) -> bool {
+    let mut table = Table::new(alloc, 1);
+    lives(alloc, asked, given, count, &mut table) && lives(alloc, asked, given, count, &mut table)
+}
+
+/// The same of so many attributes, which are required as well.
+fn is_lived(alloc: Global, count: usize, given: &AttributeSpecifier) -> bool {
     match of_many(alloc, count) {
-        Some(asked) => lives_again(alloc, &asked, count, &mut Table::new(alloc, 1)),
+        Some(asked) => lives_again(alloc, &asked, given, count),
         None => false,
+    }
+}
+
+/// The same with attributes of the largest.
+fn is_lived_with(alloc: Global, count: usize) -> bool {
+    match attributes(alloc, count, 256) {
+        Ok(given) => is_lived(alloc, count, &given),
+        Err(_) => false,
     }
 }
 
 #[test]
 fn a_service_is_created_opened_closed_and_created_again(rt: HostRuntime) {
     for count in &[0, 1, 2, 7, 8] {
-        assert!(rt; is_lived(rt.alloc(), *count), "{count}");
+        assert!(rt; is_lived_with(rt.alloc(), *count), "{count}");
     }
 }

@@ -2,7 +2,8 @@
 use crate::agreement::lines::is_read;
 use iox_describe::{
     AttributeError, AttributeSpecifier, AttributeVerifier, Description, Header, LimitError,
-    MessageTypeDetails, ServiceName, Settings, TypeVariant, decode, encode, publish_subscribe,
+    MessageTypeDetails, ServiceName, Settings, TypeVariant, decode, encode, encode_v1,
+    publish_subscribe,
 };
 use std::alloc::{AllocError, Global};
 use std::test::Fail;
@@ -68,26 +69,35 @@ const ROWS: [Row; 12] = [
     (255, 8, 256, 811 + 575 + 12_288),
 ];
 
+// The longest name.
+const NAME: [u8; 255] = [b'x'; 255];
+
 /// The description of a row.
 fn described(alloc: Global, (name, count, value, _): Row) -> Result<Description, Fail> {
-    let name = "x".repeat(alloc, name)?;
+    let name = ServiceName::new(&NAME[..name.min(255)])?;
     let attributes = attributes(alloc, count, value)?;
     let types = MessageTypeDetails::from::<Header, u64, u64>(TypeVariant::Dynamic);
     let settings = Settings::PublishSubscribe(publish_subscribe::StaticConfig::new(types));
-    Ok(Description::new(ServiceName::new(name.as_bytes())?, settings, attributes))
+    Ok(Description::new(name, settings, attributes))
 }
 
-/// How long the line of the description is, from which it is read, and a copy of it.
+/// How long the line is, from which the description is read.
 fn length_read_back(alloc: Global, description: &Description) -> Result<usize, Fail> {
     let line = encode(alloc, description)?;
-    let read = decode(alloc, line.as_slice())?;
-    let copy = read.try_clone(alloc)?;
-    Ok(if copy == *description { line.len() } else { 0 })
+    let _ = decode(alloc, line.as_slice())?;
+    Ok(line.len())
+}
+
+/// The same of one that is copied, and has a line of version 1.
+fn length(alloc: Global, description: &Description) -> Result<usize, Fail> {
+    let _ = description.try_clone(alloc)?;
+    let _ = encode_v1(alloc, description)?;
+    length_read_back(alloc, description)
 }
 
 /// The same of a row.
 fn length_of(alloc: Global, row: Row) -> Result<usize, Fail> {
-    length_read_back(alloc, &described(alloc, row)?)
+    length(alloc, &described(alloc, row)?)
 }
 
 #[test]

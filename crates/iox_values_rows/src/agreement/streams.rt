@@ -306,25 +306,27 @@ fn an_endless_reader_is_left(rt: HostRuntime) {
 /// So many newlines, so many letters, and so many newlines again.
 type Text = [usize; 3];
 
-/// Its bytes.
-fn bytes_of(alloc: Global, [before, letters, behind]: Text) -> Result<Vec<u8>, AllocError> {
-    let mut text = vec![in alloc; b'\n'; before]?;
-    text.resize(text.len().saturating_add(letters), b'x')?;
-    text.resize(text.len().saturating_add(behind), b'\n')?;
-    Ok(text)
+/// Adds its bytes.
+fn fill(bytes: &mut Vec<u8>, [before, letters, behind]: Text) -> Result<(), AllocError> {
+    bytes.resize(before, b'\n')?;
+    bytes.resize(before.saturating_add(letters), b'x')?;
+    bytes.resize(bytes.len().saturating_add(behind), b'\n')
 }
 
 /// How many bytes are said again of these, if all goes well.
-fn heard(alloc: Global, bytes: &[u8]) -> Result<usize, ServeError> {
+fn heard(alloc: Global, bytes: &[u8]) -> Option<usize> {
     let mut output = Output::new(Vec::new(alloc));
-    serve(alloc, full_echo(), &mut Input::new(bytes), &mut output)?;
-    Ok(output.writer().len())
+    match serve(alloc, full_echo(), &mut Input::new(bytes), &mut output) {
+        Ok(()) => Some(output.writer().len()),
+        Err(_) => None,
+    }
 }
 
 /// How many bytes are said again of the text, if all goes well.
 fn heard_of(alloc: Global, text: Text) -> Option<usize> {
-    match bytes_of(alloc, text) {
-        Ok(bytes) => heard(alloc, bytes.as_slice()).ok(),
+    let mut bytes = Vec::new(alloc);
+    match fill(&mut bytes, text) {
+        Ok(()) => heard(alloc, bytes.as_slice()),
         Err(_) => None,
     }
 }

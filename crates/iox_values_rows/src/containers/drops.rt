@@ -3,76 +3,52 @@ use crate::answers::hold;
 use iox_container::vector::Vector;
 use iox_container::{FixedSizeQueue, StaticVec};
 use std::alloc::{AllocError, Global};
-use std::cell::RefCell;
+use std::cell::Cell;
 
-// Notes its number where it is dropped.
-struct Noted<'a>(u8, &'a RefCell<[u8; 3]>);
+// Notes its digit behind those before where it is dropped.
+struct Noted<'a>(u8, &'a Cell<u64>);
 
 impl Drop for Noted<'_> {
     fn drop(self) {
-        let Noted(number, notes) = self;
-        if let Ok(mut notes) = notes.try_borrow_mut() {
-            notes.rotate_left(1);
-            notes[2] = number;
-        }
+        let Noted(digit, notes) = self;
+        notes.set(notes.get() % 1_000 * 10 + u64::from(digit));
     }
 }
 
-/// Whether these numbers were noted last.
-fn are_noted(notes: &RefCell<[u8; 3]>, numbers: [u8; 3]) -> bool {
-    match notes.try_borrow() {
-        Ok(notes) => *notes == numbers,
-        Err(_) => false,
+/// Whether 4 and then 3 were noted, once the vector of 1 to 4 is cut to two items, which are then let go.
+fn cuts_the_last_first(alloc: Global, notes: &Cell<u64>) -> Result<bool, AllocError> {
+    let mut vec = StaticVec::<Noted<'_>, 4>::new(alloc)?;
+    for digit in 1..5 {
+        let _ = vec.push(Noted(digit, notes));
     }
+    vec.truncate(2);
+    Ok(notes.get() == 43)
 }
 
-/// Whether the last two of three items were noted, the last first, once the vector is cut to one, which is then let go.
-fn cuts_the_last_first(alloc: Global, notes: &RefCell<[u8; 3]>) -> Result<bool, AllocError> {
-    let mut vec = StaticVec::<Noted<'_>, 3>::new(alloc)?;
-    for number in 1..4 {
-        let _ = vec.push(Noted(number, notes));
-    }
-    vec.truncate(1);
-    Ok(are_noted(notes, [0, 3, 2]))
-}
-
-/// Lets a vector of 4, 5 and 6 go.
-fn lets_a_vector_go(alloc: Global, notes: &RefCell<[u8; 3]>) -> Result<(), AllocError> {
-    let mut vec = StaticVec::<Noted<'_>, 3>::new(alloc)?;
-    for number in 4..7 {
-        let _ = vec.push(Noted(number, notes));
-    }
-    Ok(())
-}
-
-/// Whether they were noted, the last first.
-fn goes_the_last_first(alloc: Global, notes: &RefCell<[u8; 3]>) -> Result<bool, AllocError> {
-    match lets_a_vector_go(alloc, notes) {
-        Ok(()) => Ok(are_noted(notes, [6, 5, 4])),
+/// Whether 2 and then 1 were noted behind them.
+fn goes_the_last_first(alloc: Global, notes: &Cell<u64>) -> Result<bool, AllocError> {
+    match cuts_the_last_first(alloc, notes) {
+        Ok(cut) => Ok(cut && notes.get() == 4_321),
         Err(error) => Err(error),
     }
 }
 
 /// Whether a queue of three items is cleared in their order.
-fn is_cleared(alloc: Global, notes: &RefCell<[u8; 3]>) -> Result<bool, AllocError> {
+fn is_cleared(alloc: Global, notes: &Cell<u64>) -> Result<bool, AllocError> {
     let mut queue = FixedSizeQueue::<Noted<'_>, 3>::new(alloc)?;
-    for number in 7..10 {
-        let _ = queue.push(Noted(number, notes));
+    for digit in 7..10 {
+        let _ = queue.push(Noted(digit, notes));
     }
     queue.clear();
-    Ok(are_noted(notes, [7, 8, 9]))
+    Ok(notes.get() % 1_000 == 789)
 }
 
-/// The answers for a vector that is cut, a vector that is let go, and a queue that is cleared.
-fn orders(alloc: Global, notes: &RefCell<[u8; 3]>) -> [Result<bool, AllocError>; 3] {
-    [
-        cuts_the_last_first(alloc, notes),
-        goes_the_last_first(alloc, notes),
-        is_cleared(alloc, notes),
-    ]
+/// The answers for a vector that is cut and let go, and a queue that is cleared.
+fn orders(alloc: Global, notes: &Cell<u64>) -> [Result<bool, AllocError>; 2] {
+    [goes_the_last_first(alloc, notes), is_cleared(alloc, notes)]
 }
 
 #[test]
 fn vectors_drop_the_last_first_and_queues_the_oldest(rt: HostRuntime) -> Result<(), AllocError> {
-    hold(&rt, &orders(rt.alloc(), &RefCell::new([0; 3])))
+    hold(&rt, &orders(rt.alloc(), &Cell::new(0)))
 }

@@ -2,8 +2,8 @@
 ghost use Rattle.std.specs.Prelude.{[], ◌==◌, length, refl};
 ghost use Rattle.std.specs.List.{list_any};
 
-use crate::answers::hold;
-use iox_container::semantic_strings::{Rules, Semantic, SemanticStringError};
+use crate::answers::is_shown;
+use iox_container::semantic_strings::{Rules, Semantic};
 use iox_container::string::{StaticString, String};
 use std::alloc::{AllocError, Global};
 
@@ -31,35 +31,10 @@ impl<const CAPACITY: usize> Rules<CAPACITY> for Name {
     ghost normalised_once = { λ text fits bytes. refl };
 }
 
-/// Whether the copy of a name is displayed as its text, and debugged as its literal.
-fn is_printed(alloc: Global, name: &Semantic<Name, 8>) -> Result<bool, AllocError> {
-    let copy = name.clone()?;
-    Ok(format!(in alloc; "{copy} {copy:?}")?.as_str() == "A\"b \"A\\\"b\"")
-}
-
-/// Whether no name is made of this.
-fn is_refused(text: &[u8]) -> bool {
-    Semantic::<Name, 8>::new(text).err() == Some(SemanticStringError::InvalidContent)
-}
-
-/// Whether a name is equal to another.
-fn is_like_another(name: &Semantic<Name, 8>) -> bool {
-    match Semantic::new(b"other") {
-        Ok(other) => *name == other,
-        Err(_) => false,
-    }
-}
-
-/// Whether a name follows its rules, and prints as its text.
-fn is_a_name(alloc: Global) -> Result<bool, AllocError> {
+/// Whether the copy of a name is debugged as its literal.
+pub(crate) fn is_copied(alloc: Global) -> Result<bool, AllocError> {
     match Semantic::<Name, 8>::new(b"A\"b") {
-        Ok(name) => Ok(is_like_another(&name) && is_printed(alloc, &name)?),
+        Ok(name) => is_shown(alloc, &name.clone()?, "\"A\\\"b\""),
         Err(_) => Ok(false),
     }
-}
-
-#[test]
-fn a_name_follows_its_rules_and_prints_as_its_text(rt: HostRuntime) -> Result<(), AllocError> {
-    let rules = Ok(is_refused(b"") && is_refused(b"a/b"));
-    hold(&rt, &[is_a_name(rt.alloc()), rules])
 }

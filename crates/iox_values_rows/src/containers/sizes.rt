@@ -1,5 +1,5 @@
 //! Ample memory is always enough, at each size; and no more room is taken than there is.
-use crate::answers::{are_refused, have_size};
+use crate::answers::{Want, are_refused, find_memory};
 use iox_container::by_number::Numbered;
 use iox_container::byte_cells::{ByteMachine, ByteStep};
 use iox_container::queue::Queue;
@@ -9,59 +9,72 @@ use iox_container::{
     FixedSizeFlatMap, FixedSizeQueue, FixedSizeSlotMap, FlatMap, PolymorphicVec, SlotMap, StaticVec,
 };
 use std::alloc::{AllocError, Global};
-use std::process::Abort;
 
-/// The last one is more than anyone fills.
-const SIZES: [usize; 8] = [0, 1, 2, 5, 7, 64, 1_000, MANY];
-
+/// More than anyone fills.
 const MANY: usize = 1_000_003;
 
-/// The capacity of the copy of a string into which so many bytes were put.
-fn text(alloc: Global, capacity: usize, len: usize) -> Result<usize, AllocError> {
-    let bytes = vec![in alloc; b'x'; len]?;
-    let mut text = PolymorphicString::new(alloc, capacity)?;
-    let _ = text.push_bytes(bytes.as_slice());
-    Ok(text.try_clone()?.capacity())
+/// Room, and how many places of it are filled.
+const SIZES: [(usize, usize); 15] = [
+    (0, 0),
+    (1, 0),
+    (1, 1),
+    (2, 1),
+    (2, 2),
+    (5, 2),
+    (5, 5),
+    (7, 3),
+    (7, 7),
+    (64, 32),
+    (64, 64),
+    (1_000, 500),
+    (1_000, 1_000),
+    (MANY, 1_000),
+    (MANY, MANY),
+];
+
+/// The want of a string into which these bytes are put, or of its copy.
+fn text(alloc: Global, capacity: usize, bytes: &[u8]) -> Want {
+    match PolymorphicString::new(alloc, capacity) {
+        Ok(mut text) => {
+            let _ = text.push_bytes(bytes);
+            text.try_clone().err()
+        }
+        Err(error) => Some(error),
+    }
 }
 
-/// How many bytes were escaped, each in four.
-fn escaped(alloc: Global, count: usize) -> Result<usize, AllocError> {
-    let bytes = vec![in alloc; 200; count]?;
-    Ok(as_escaped_string(alloc, bytes.as_slice())?.len() / 4)
+/// The wants of a string of such bytes, and of their escapes.
+fn texts(alloc: Global, capacity: usize, len: usize) -> [Want; 2] {
+    match vec![in alloc; 127; len] {
+        Ok(bytes) => [
+            text(alloc, capacity, bytes.as_slice()),
+            as_escaped_string(alloc, bytes.as_slice()).err(),
+        ],
+        Err(error) => [Some(error); 2],
+    }
 }
 
-/// The capacity of the copy of a vector that has so many items.
-fn vector(alloc: Global, capacity: usize, len: usize) -> Result<usize, AllocError> {
-    let mut vec = PolymorphicVec::<usize, Global>::new(alloc, capacity)?;
-    let _ = vec.resize(len, 5);
-    Ok(vec.try_clone()?.capacity())
+/// The want of a vector that is given so many items, or of its copy.
+fn vector(alloc: Global, capacity: usize, len: usize) -> Want {
+    match PolymorphicVec::<usize, Global>::new(alloc, capacity) {
+        Ok(mut vec) => {
+            let _ = vec.resize(len, 5);
+            vec.try_clone().err()
+        }
+        Err(error) => Some(error),
+    }
 }
 
 fn itself(place: usize) -> usize {
     place
 }
 
-/// How many items a vector has that is made item by item.
-fn vector_in_turn(alloc: Global, capacity: usize) -> Result<usize, AllocError> {
-    Ok(PolymorphicVec::from_fn(alloc, capacity, &mut itself)?.len())
-}
-
-fn queue(alloc: Global, capacity: usize) -> Result<usize, AllocError> {
-    Ok(Queue::<u64>::new(alloc, capacity)?.capacity())
-}
-
-fn slot_map(alloc: Global, capacity: usize) -> Result<usize, AllocError> {
-    Ok(SlotMap::<u64>::new(alloc, capacity)?.capacity())
-}
-
-fn flat_map(alloc: Global, capacity: usize) -> Result<usize, AllocError> {
-    Ok(FlatMap::<u8, u64>::new(alloc, capacity)?.capacity())
-}
-
-/// How many answers so many steps get.
-fn answered(alloc: Global, count: usize) -> Result<usize, AllocError> {
-    let steps = vec![in alloc; ByteStep::Store(1, 5); count]?;
-    Ok(ByteMachine::new([0; 2]).run(alloc, steps.as_slice())?.len())
+/// The want of as many answers as there are steps.
+fn answers(alloc: Global, count: usize) -> Want {
+    match vec![in alloc; ByteStep::Store(1, 5); count] {
+        Ok(steps) => ByteMachine::new([0; 2]).run(alloc, steps.as_slice()).err(),
+        Err(error) => Some(error),
+    }
 }
 
 /// Puts so many values into a table, if there is room for them.
@@ -73,80 +86,64 @@ fn fill(table: &mut Numbered<u64>, len: usize) {
     }
 }
 
-/// The room of a table for so many values, which had room for half as many, and was full.
-fn table(alloc: Global, room: usize) -> Result<usize, AllocError> {
+/// The want of room in a table for so many values, which had room for half as many, and was full.
+fn table(alloc: Global, room: usize) -> Want {
     let mut table = Numbered::<u64>::new(alloc);
-    table.reserve(room / 2)?;
-    fill(&mut table, room / 2);
-    table.reserve(room)?;
-    Ok(table.room())
-}
-
-/// What is made at a size, empty and filled, each told by that size.
-fn made(alloc: Global, size: usize) -> [Result<usize, AllocError>; 13] {
-    [
-        text(alloc, size, 0),
-        vector(alloc, size, 0),
-        queue(alloc, size),
-        slot_map(alloc, size),
-        flat_map(alloc, size),
-        text(alloc, size, size / 2),
-        text(alloc, size, size),
-        vector(alloc, size, size / 2),
-        vector(alloc, size, size),
-        vector_in_turn(alloc, size),
-        escaped(alloc, size),
-        answered(alloc, size),
-        table(alloc, size),
-    ]
-}
-
-/// Each must be made at each size.
-fn all_are_made(rt: &impl Abort, alloc: Global) -> Result<(), AllocError> {
-    for size in &SIZES {
-        have_size(rt, *size, &made(alloc, *size))?;
+    match table.reserve(room / 2) {
+        Ok(()) => {
+            fill(&mut table, room / 2);
+            table.reserve(room).err()
+        }
+        Err(error) => Some(error),
     }
-    Ok(())
+}
+
+/// The wants of all that is made with so much room, vectors filled so far.
+fn made(alloc: Global, capacity: usize, len: usize) -> [Want; 7] {
+    [
+        vector(alloc, capacity, len),
+        PolymorphicVec::from_fn(alloc, capacity, &mut itself).err(),
+        Queue::<u64>::new(alloc, capacity).err(),
+        SlotMap::<u64>::new(alloc, capacity).err(),
+        FlatMap::<u8, u64>::new(alloc, capacity).err(),
+        answers(alloc, capacity),
+        table(alloc, capacity),
+    ]
 }
 
 #[test]
 fn ample_memory_is_enough_at_each_size(rt: HostRuntime) -> Result<(), AllocError> {
-    all_are_made(&rt, rt.alloc())
+    for (capacity, len) in &SIZES {
+        find_memory(&texts(rt.alloc(), *capacity, *len))?;
+        find_memory(&made(rt.alloc(), *capacity, *len))?;
+    }
+    Ok(())
 }
 
-/// The capacity of a vector of fixed size, told where its copy has so many items as it.
-fn static_vector<const CAPACITY: usize>(alloc: Global, len: usize) -> Result<usize, AllocError> {
-    let mut vec = StaticVec::<usize, CAPACITY>::new(alloc)?;
-    let _ = vec.resize(len, 5);
-    Ok(vec.try_clone()?.capacity())
+/// The want of a vector of fixed size that is given so many items, or of its copy.
+fn fixed_vector<const SIZE: usize>(alloc: Global, len: usize) -> Want {
+    match StaticVec::<usize, SIZE>::new(alloc) {
+        Ok(mut vec) => {
+            let _ = vec.resize(len, 5);
+            vec.try_clone().err()
+        }
+        Err(error) => Some(error),
+    }
 }
 
-fn fixed_queue<const CAPACITY: usize>(alloc: Global) -> Result<usize, AllocError> {
-    Ok(FixedSizeQueue::<u64, CAPACITY>::new(alloc)?.capacity())
-}
-
-fn fixed_slot_map<const CAPACITY: usize>(alloc: Global) -> Result<usize, AllocError> {
-    Ok(FixedSizeSlotMap::<u64, CAPACITY>::new(alloc)?.capacity())
-}
-
-fn fixed_flat_map<const CAPACITY: usize>(alloc: Global) -> Result<usize, AllocError> {
-    Ok(FixedSizeFlatMap::<u8, u64, CAPACITY>::new(alloc)?.capacity())
-}
-
-/// What is made at a fixed size, each told by that size.
-fn fixed<const SIZE: usize>(alloc: Global) -> [Result<usize, AllocError>; 6] {
+/// The wants of what is made of a fixed size, at most 1,000 places filled.
+fn fixed<const SIZE: usize>(alloc: Global) -> [Want; 5] {
     [
-        static_vector::<SIZE>(alloc, 0),
-        static_vector::<SIZE>(alloc, (SIZE / 2).min(1_000)),
-        static_vector::<SIZE>(alloc, SIZE.min(1_000)),
-        fixed_queue::<SIZE>(alloc),
-        fixed_slot_map::<SIZE>(alloc),
-        fixed_flat_map::<SIZE>(alloc),
+        fixed_vector::<SIZE>(alloc, (SIZE / 2).min(1_000)),
+        fixed_vector::<SIZE>(alloc, SIZE.min(1_000)),
+        FixedSizeQueue::<u64, SIZE>::new(alloc).err(),
+        FixedSizeSlotMap::<u64, SIZE>::new(alloc).err(),
+        FixedSizeFlatMap::<u8, u64, SIZE>::new(alloc).err(),
     ]
 }
 
 /// The same at each size, and at many places.
-fn all_fixed(alloc: Global) -> [[Result<usize, AllocError>; 6]; 8] {
+fn all_fixed(alloc: Global) -> [[Want; 5]; 8] {
     [
         fixed::<0>(alloc),
         fixed::<1>(alloc),
@@ -159,27 +156,26 @@ fn all_fixed(alloc: Global) -> [[Result<usize, AllocError>; 6]; 8] {
     ]
 }
 
-fn all_fixed_are_made(rt: &impl Abort, alloc: Global) -> Result<(), AllocError> {
-    for (size, answers) in SIZES.iter().zip(&all_fixed(alloc)) {
-        have_size(rt, *size, answers)?;
+#[test]
+fn ample_memory_is_enough_at_each_fixed_size(rt: HostRuntime) -> Result<(), AllocError> {
+    for wants in &all_fixed(rt.alloc()) {
+        find_memory(wants)?;
     }
     Ok(())
 }
 
-#[test]
-fn ample_memory_is_enough_at_each_fixed_size(rt: HostRuntime) -> Result<(), AllocError> {
-    all_fixed_are_made(&rt, rt.alloc())
+/// The wants of what nothing has room for.
+fn too_much(alloc: Global) -> [Want; 3] {
+    [
+        text(alloc, usize::MAX, &[]),
+        SlotMap::<u64>::new(alloc, usize::MAX - 1).err(),
+        table(alloc, usize::MAX / 2 + 2),
+    ]
 }
 
 #[test]
 fn takes_no_more_room_than_there_is(rt: HostRuntime) {
-    are_refused(&rt, &made(rt.alloc(), usize::MAX));
+    are_refused(&rt, &made(rt.alloc(), usize::MAX, 0));
     are_refused(&rt, &fixed::<{ usize::MAX }>(rt.alloc()));
-    are_refused(
-        &rt,
-        &[
-            slot_map(rt.alloc(), usize::MAX - 1),
-            table(rt.alloc(), usize::MAX / 2 + 2),
-        ],
-    );
+    are_refused(&rt, &too_much(rt.alloc()));
 }

@@ -1,5 +1,6 @@
 //! What values are displayed and debugged as.
 use crate::answers::{hold, is_shown};
+use crate::containers::semantic;
 use iox_container::byte_cells::{ByteAnswer, ByteStep};
 use iox_container::string::{PolymorphicString, StaticString, String};
 use iox_container::vector::Vector;
@@ -9,14 +10,19 @@ use iox_container::{
 use std::alloc::{AllocError, Global};
 use std::fmt::{Debug, Display};
 
-/// Whether a string of `a"`, a newline and a byte 127 is printed so: as it is, as a literal, and in six places.
+/// Whether a text of four letters is displayed in six places, at both ends of them.
+fn is_padded<S: Display>(alloc: Global, text: &S) -> Result<bool, AllocError> {
+    let padded = format!(in alloc; "[{text:>6}] [{text:<6}]")?;
+    Ok(padded.as_str() == "[  a\"\n\x7f] [a\"\n\x7f  ]")
+}
+
+/// Whether a string of `a"`, a newline and a byte 127 is printed so: as a literal, and in six places.
 fn is_printed<S: String + Display + Debug>(
     alloc: Global,
     text: &mut S,
 ) -> Result<bool, AllocError> {
-    let filled = text.push_bytes(b"a\"\n\x7f").is_ok();
-    let printed = format!(in alloc; "{text} {text:?} [{text:>6}] [{text:<6}]")?;
-    Ok(filled && printed.as_str() == "a\"\n\x7f \"a\\\"\\n\\u{7f}\" [  a\"\n\x7f] [a\"\n\x7f  ]")
+    let _ = text.push_bytes(b"a\"\n\x7f");
+    Ok(is_padded(alloc, text)? && is_shown(alloc, text, "\"a\\\"\\n\\u{7f}\"")?)
 }
 
 fn string(alloc: Global) -> Result<bool, AllocError> {
@@ -75,6 +81,7 @@ fn a_value_prints_as_what_it_holds(rt: HostRuntime) -> Result<(), AllocError> {
         queue(alloc),
         slot_map(alloc),
         flat_map(alloc),
+        semantic::is_copied(alloc),
         is_shown(alloc, &SlotMapKey::new(3), "SlotMapKey { value: 3 }"),
         is_shown(alloc, &STEPS, "[Load(1), Store(1, 5)]"),
         is_shown(alloc, &ANSWERS, "[Stored, Loaded(5), Skipped]"),

@@ -2,7 +2,7 @@
 use iox_queues::shared::SharedQueue;
 use iox_queues::{
     Consumer, FixedSizeIndexQueue, FixedSizeSafelyOverflowingIndexQueue, IndexQueue, Producer,
-    Queue, SafelyOverflowingIndexQueue, Share, Shared,
+    Queue, SafelyOverflowingIndexQueue, Share, Shared, Words,
 };
 use std::alloc::{AllocError, Global};
 
@@ -56,26 +56,60 @@ impl<const CAPACITY: usize> Numbers for FixedSizeIndexQueue<CAPACITY> {
     }
 }
 
-/// The number as a value of two words, both of which say something of it.
-fn wide(value: u64) -> u128 {
-    u128::from(value) << 40
+/// A value of several words, of which the first and the last say something of a number.
+pub(crate) trait Wide: Words + PartialEq {
+    /// The value that says this number.
+    fn of(number: u64) -> Self;
+
+    /// The number that its first words say.
+    fn number(&self) -> u64;
 }
 
-impl<const CAPACITY: usize> Numbers for Queue<u128, CAPACITY> {
+impl Wide for u128 {
+    fn of(number: u64) -> u128 {
+        u128::from(number) << 40
+    }
+
+    fn number(&self) -> u64 {
+        u64::try_from(*self >> 40).unwrap_or(u64::MAX)
+    }
+}
+
+impl<const LENGTH: usize> Wide for [u64; LENGTH] {
+    fn of(number: u64) -> [u64; LENGTH] {
+        let mut words = [number; LENGTH];
+        if let Some(last) = words.last_mut() {
+            *last = number << 40;
+        }
+        words
+    }
+
+    fn number(&self) -> u64 {
+        match self.first() {
+            Some(number) => *number,
+            None => u64::MAX,
+        }
+    }
+}
+
+impl<T: Wide, const CAPACITY: usize> Numbers for Queue<T, CAPACITY> {
     const OVERFLOWS: bool = false;
 
     fn put_before(&mut self, value: u64) {
-        let _ = self.push(&wide(value));
+        let _ = self.push(&T::of(value));
     }
 
     fn put(producer: &mut Producer<'_, Self>, value: u64) -> Option<u64> {
-        refused(value, producer.push(&wide(value)))
+        refused(value, producer.push(&T::of(value)))
     }
 
     fn take_next(consumer: &mut Consumer<'_, Self>) -> Option<u64> {
-        match consumer.pop() {
-            Some(value) => u64::try_from(value >> 40).ok(),
-            None => None,
+        let value = consumer.pop()?;
+        let number = value.number();
+        if value == T::of(number) {
+            Some(number)
+        } else {
+            None
         }
     }
 }
@@ -122,7 +156,7 @@ pub(crate) fn shared<Q: Numbers>(
     for value in 0..waiting {
         queue.put_before(value);
     }
-    queue.share(alloc).map_err(|_| AllocError)
+    queue.share(alloc).ok().ok_or(AllocError)
 }
 
 /// Both ends of a shared queue, where neither is held.

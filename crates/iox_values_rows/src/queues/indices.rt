@@ -12,12 +12,16 @@ use std::thread::Threads;
 const NONE_LEFT: UniqueIndexSetAcquireFailure = UniqueIndexSetAcquireFailure::OutOfIndices;
 
 /// A set of so many indices, shared, of which the first ones are held.
-fn shared(alloc: Global, capacity: usize, held: usize) -> Result<SharedIndexSet, AllocError> {
+pub(crate) fn shared(
+    alloc: Global,
+    capacity: usize,
+    held: usize,
+) -> Result<SharedIndexSet, AllocError> {
     let mut set = UniqueIndexSet::new(alloc, capacity)?;
     for _ in 0..held {
         let _ = set.acquire_raw_index();
     }
-    set.share(alloc).map_err(|_| AllocError)
+    set.share(alloc).ok().ok_or(AllocError)
 }
 
 /// The number of an index that is taken and given back at once.
@@ -79,18 +83,29 @@ fn goes_round(set: &SharedIndexSet) -> bool {
     true
 }
 
-/// Whether a set of three, of which index 0 is held and 1, then 2 were released, counts each change, and no refusal; and hands out the
-/// last index released.
-fn counts_its_changes(set: &SharedIndexSet) -> Result<bool, UniqueIndexSetAcquireFailure> {
-    let before = is_at(set, 1, 0, 2);
-    let first = set.acquire()?;
-    let second = set.acquire()?;
-    let acquired = first.value() == 2 && second.value() == 1 && is_at(set, 3, 2, END);
+/// Whether a set of three is at 1 once its two last indices are given back, the second one last, after 2 came again and again.
+fn counts_what_comes_back(
+    set: &SharedIndexSet,
+    first: UniqueIndex<'_>,
+    second: UniqueIndex<'_>,
+) -> bool {
     let refused = next(set) == Err(NONE_LEFT) && is_at(set, 3, 2, END);
     drop(first);
     let released = is_at(set, 2, 3, 2) && goes_round(set) && is_at(set, 2, 3, 2);
     drop(second);
-    Ok(before && acquired && refused && released && is_at(set, 1, 4, 1))
+    refused && released && is_at(set, 1, 4, 1)
+}
+
+/// Whether a set of three, of which index 0 is held and 1, then 2 were released, counts each change, and no refusal; and hands out the
+/// last index released.
+fn counts_its_changes(set: &SharedIndexSet) -> bool {
+    let before = is_at(set, 1, 0, 2);
+    let (Ok(first), Ok(second)) = (set.acquire(), set.acquire()) else {
+        return false;
+    };
+    let values = [first.value(), second.value()];
+    let counted = is_at(set, 3, 2, END);
+    counts_what_comes_back(set, first, second) && before && counted && values == [2, 1]
 }
 
 fn release(set: &mut UniqueIndexSet, index: usize) {
@@ -99,15 +114,20 @@ fn release(set: &mut UniqueIndexSet, index: usize) {
     }
 }
 
-fn changes(alloc: Global) -> Result<bool, AllocError> {
+/// A set of three indices, of which 0 is held, and 1, then 2 were released.
+fn released(alloc: Global) -> Result<UniqueIndexSet, AllocError> {
     let mut set = UniqueIndexSet::new(alloc, 3)?;
     for _ in 0..3 {
         let _ = set.acquire_raw_index();
     }
     release(&mut set, 1);
     release(&mut set, 2);
-    match set.share(alloc) {
-        Ok(shared) => Ok(counts_its_changes(&shared) == Ok(true)),
+    Ok(set)
+}
+
+fn changes(alloc: Global) -> Result<bool, AllocError> {
+    match released(alloc)?.share(alloc) {
+        Ok(shared) => Ok(counts_its_changes(&shared)),
         Err(_) => Err(AllocError),
     }
 }
@@ -124,23 +144,56 @@ const ROUNDS: usize = 1_000;
 const LOOKS: u32 = 1 << 30;
 
 /// Which of four indices are held.
-type Marks = [AtomicBool; 4];
+#[derive(Drop)]
+struct Marks {
+    first: AtomicBool,
+    second: AtomicBool,
+    third: AtomicBool,
+    fourth: AtomicBool,
+}
+
+impl Marks {
+    fn new() -> Self {
+        Marks {
+            first: AtomicBool::new(false),
+            second: AtomicBool::new(false),
+            third: AtomicBool::new(false),
+            fourth: AtomicBool::new(false),
+        }
+    }
+
+    fn get(&self, index: u32) -> Option<&AtomicBool> {
+        match index {
+            0 => Some(&self.first),
+            1 => Some(&self.second),
+            2 => Some(&self.third),
+            3 => Some(&self.fourth),
+            _ => None,
+        }
+    }
+}
+
+/// Whether an index was held, or is none of the four. It is marked as held from now on.
+fn is_marked(held: &Marks, index: u32) -> bool {
+    match held.get(index) {
+        Some(mark) => mark.swap(true, Ordering::SeqCst),
+        None => true,
+    }
+}
 
 /// An index that nobody held, which is marked as held from now on.
 fn take<'a>(set: &'a SharedIndexSet, held: &Marks) -> Option<UniqueIndex<'a>> {
-    let Ok(index) = set.acquire() else {
-        return None;
-    };
-    let mark = held.get(index.value() as usize)?;
-    if mark.swap(true, Ordering::SeqCst) {
-        return None;
+    let index = set.acquire().ok()?;
+    if is_marked(held, index.value()) {
+        None
+    } else {
+        Some(index)
     }
-    Some(index)
 }
 
 /// Gives an index back, which isn't marked any longer.
 fn give(index: UniqueIndex<'_>, held: &Marks) {
-    if let Some(mark) = held.get(index.value() as usize) {
+    if let Some(mark) = held.get(index.value()) {
         mark.store(false, Ordering::SeqCst);
     }
     drop(index);
@@ -175,17 +228,13 @@ fn holds_two(set: &SharedIndexSet, held: &Marks, mine: &AtomicUsize, others: &At
 
 /// Whether two threads hold two indices each at one time, all of them different, and give back what they take.
 fn all_come_back(rt: &impl Threads, set: &SharedIndexSet) -> bool {
-    let held = [
-        AtomicBool::new(false),
-        AtomicBool::new(false),
-        AtomicBool::new(false),
-        AtomicBool::new(false),
-    ];
-    let rounds = [AtomicUsize::new(0), AtomicUsize::new(0)];
+    let held = Marks::new();
+    let first = AtomicUsize::new(0);
+    let second = AtomicUsize::new(0);
     let (here, there) = thread::join(
         rt,
-        || holds_two(set, &held, &rounds[0], &rounds[1]),
-        || holds_two(set, &held, &rounds[1], &rounds[0]),
+        || holds_two(set, &held, &first, &second),
+        || holds_two(set, &held, &second, &first),
     );
     here && there && set.borrowed_indices() == 0
 }

@@ -125,6 +125,25 @@ fn queues_of_fixed_size_give_each_answer(rt: HostRuntime) -> Result<(), AllocErr
     Ok(())
 }
 
+/// Whether a queue of values that are too wide is refused.
+fn is_too_wide(alloc: Global) -> Result<bool, AllocError> {
+    match Queue::<[u64; 17], 2>::new(alloc) {
+        Ok(queue) => Ok(queue.share(alloc).is_err()),
+        Err(error) => Err(error),
+    }
+}
+
+#[test]
+fn wide_values_keep_their_order(rt: HostRuntime) -> Result<(), AllocError> {
+    let alloc: Global = rt.alloc();
+    let answers = [
+        goes(alloc, Queue::<[u64; 3], 2>::new(alloc), 2, 2),
+        goes(alloc, Queue::<[u64; 16], 2>::new(alloc), 2, 2),
+        is_too_wide(alloc),
+    ];
+    hold(&rt, &answers)
+}
+
 /// Whether a queue of two values without words takes two and gives two.
 fn is_counted(shared: &Shared<Queue<(), 2>>) -> bool {
     let Some((mut producer, mut consumer)) = ends(shared) else {
@@ -142,63 +161,67 @@ fn counts(alloc: Global) -> Result<bool, AllocError> {
     }
 }
 
-/// Whether a shared value is the one that it was, and then each one that is stored.
-fn is_last_stored(shared: &Shared<UnrestrictedAtomic<u128>>) -> bool {
+/// Values of three words, of which the first is there from the beginning.
+const VALUES: [[u64; 3]; 5] = [[0, 0, 7], [0, 0, 0], [1, 2, 3], [4, 5, u64::MAX], [8, 0, 0]];
+
+/// Whether a shared value is each one that is stored, and before that the first.
+fn is_last_stored(shared: &Shared<UnrestrictedAtomic<[u64; 3]>>) -> bool {
     let Some(mut producer) = shared.acquire_producer() else {
         return false;
     };
-    let first = shared.load() == Some(7 << 64);
-    for value in &[0u128, 1 << 64, 2 << 64, 3] {
-        producer.store(*value);
+    for (place, value) in VALUES.iter().enumerate() {
+        if place > 0 {
+            producer.store(*value);
+        }
         if shared.load() != Some(*value) {
             return false;
         }
     }
-    first
+    true
 }
 
 fn stores(alloc: Global) -> Result<bool, AllocError> {
-    match UnrestrictedAtomic::new(7u128 << 64).share(alloc) {
+    match UnrestrictedAtomic::new(VALUES[0]).share(alloc) {
         Ok(shared) => Ok(is_last_stored(&shared)),
-        Err(_) => Err(AllocError),
-    }
-}
-
-/// Whether a value of three words is loaded with the last of them.
-fn loads_all_words(alloc: Global) -> Result<bool, AllocError> {
-    match UnrestrictedAtomic::new([0u64, 0, 7]).share(alloc) {
-        Ok(shared) => Ok(shared.load() == Some([0, 0, 7])),
         Err(_) => Err(AllocError),
     }
 }
 
 #[test]
 fn a_shared_value_is_the_last_one_stored(rt: HostRuntime) -> Result<(), AllocError> {
-    let alloc: Global = rt.alloc();
-    hold(&rt, &[stores(alloc), loads_all_words(alloc), counts(alloc)])
+    hold(&rt, &[stores(rt.alloc()), counts(rt.alloc())])
 }
 
-/// Whether the producer is handed out once at a time, also when a consumer was let go, and again once it came back.
-fn producer_is_taken_once(shared: &Shared<IndexQueue>) -> bool {
+fn producer_comes(shared: &Shared<IndexQueue>) -> bool {
+    shared.acquire_producer().is_some()
+}
+
+fn consumer_comes(shared: &Shared<IndexQueue>) -> bool {
+    shared.acquire_consumer().is_some()
+}
+
+/// Whether no second producer is handed out, also when a consumer was let go.
+fn producer_is_alone(shared: &Shared<IndexQueue>) -> bool {
     let first = shared.acquire_producer();
-    drop(shared.acquire_consumer());
-    let once = first.is_some() && shared.acquire_producer().is_none();
-    drop(first);
-    once && shared.acquire_producer().is_some()
+    let others = [consumer_comes(shared), producer_comes(shared)];
+    first.is_some() && others == [true, false]
 }
 
-/// Whether the consumer is, beside a producer that comes and goes.
-fn consumer_is_taken_once(shared: &Shared<IndexQueue>) -> bool {
+/// Whether no second consumer is, also when a producer was let go.
+fn consumer_is_alone(shared: &Shared<IndexQueue>) -> bool {
     let first = shared.acquire_consumer();
-    drop(shared.acquire_producer());
-    let once = first.is_some() && shared.acquire_consumer().is_none();
-    drop(first);
-    once && shared.acquire_consumer().is_some()
+    let others = [producer_comes(shared), consumer_comes(shared)];
+    first.is_some() && others == [true, false]
+}
+
+/// Whether each role is handed out once at a time, and again once it came back.
+fn roles_are_alone(shared: &Shared<IndexQueue>) -> bool {
+    let alone = [producer_is_alone(shared), consumer_is_alone(shared)];
+    alone == [true; 2] && producer_comes(shared) && consumer_comes(shared)
 }
 
 fn roles(alloc: Global) -> Result<bool, AllocError> {
-    let shared = shared(alloc, IndexQueue::new(alloc, 2), 0)?;
-    Ok(producer_is_taken_once(&shared) && consumer_is_taken_once(&shared))
+    Ok(roles_are_alone(&shared(alloc, IndexQueue::new(alloc, 2), 0)?))
 }
 
 #[test]
