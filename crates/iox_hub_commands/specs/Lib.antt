@@ -21,6 +21,7 @@ pub mod Refusing
 pub mod Creating
 pub mod Opening
 pub mod Either
+pub mod OpeningCalls
 pub mod Closing
 pub mod Foreign
 pub mod FactoryLaws

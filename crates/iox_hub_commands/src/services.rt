@@ -4,13 +4,14 @@
 //! |---|---|
 //! | `requests` | what a command asks of negotiation |
 //! | `made` | a service that is open, whatever its pattern |
-//! | `kinds` | how the errors of each pattern are told |
+//! | `kinds` | what options of each pattern ask, and how its errors are told |
 //! | `factories` | the table: which factory goes by a number |
 //! | `asked` | which service is asked for |
 //! | `refusing` | which services aren't created, whatever stands already |
 //! | `creating` | services are created |
 //! | `opening` | services are opened |
 //! | `either` | services are opened, or created |
+//! | `opening_call` | what these three have in common |
 //! | `closing` | factories are closed |
 //! | `acting` | nodes of others act |
 //! | `laws` | what these calls come to for the factories, in other words than theirs |
@@ -32,6 +33,7 @@ mod kinds;
 pub mod laws;
 pub mod made;
 pub mod opening;
+mod opening_call;
 pub mod refusing;
 pub mod requests;
 

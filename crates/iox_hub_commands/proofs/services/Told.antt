@@ -1,26 +1,22 @@
--- What was opened, and is told so, gets a number; what was refused is told.
-use Rattle.std.proofs.Common.{◌≡◌, ℕ, Result, Ok, Err, refl, ap, subst}
-use Rattle.std.specs.Result.{result_map_both}
+-- What is told of a call for which no memory was found before its first access.
+use Rattle.std.proofs.Common.{◌≡◌, Err, refl, ap}
 use Rattle.iox_command.specs.declared.refusal.Refusal.{Refusal}
-use Rattle.iox_container.specs.NumberTable.{inserted}
-use Rattle.iox_hub_base.specs.DescribeBase.declared.pattern.MessagingPattern.{MessagingPattern}
-use Rattle.iox_hub_base.specs.Opening.{Made}
-use Rattle.iox_negotiate_table.specs.Describe.Within.{HasForm}
-use Rattle.iox_hub_commands.specs.ServicesNumbering.{Numbers}
-use Rattle.iox_hub_commands.specs.ServicesTables.{FactoryTable, pattern_in, parts_of}
-use Rattle.iox_hub_commands.specs.declared.services.made.MadeFactory.{MadeFactory}
+use Rattle.iox_command.specs.declared.service.ServiceOptions.{ServiceOptions}
+use Rattle.iox_hub_commands.specs.Creating.{create_lacking}
+use Rattle.iox_hub_commands.specs.Either.{either_lacking}
+use Rattle.iox_hub_commands.specs.Opening.{open_lacking}
+use Rattle.iox_hub_commands.specs.OpeningCalls.{ByCall, lacking_of}
+use Rattle.iox_hub_commands.specs.ServicesNumbering.{IsRefusedWith}
+use Rattle.iox_hub_commands.specs.ServicesTables.{FactoryTable}
+use Rattle.iox_hub_commands.specs.declared.services.opening_call.OpeningCall.{OpeningCall}
+use Rattle.iox_hub_commands.specs.declared.services.opening_call.OpeningCall.TheVariants as opening
 
-pub numbers : {E : Type 0} (pattern : MessagingPattern) (refusal : E → Refusal) (answer : Result Made E) (table after : FactoryTable)
-    (factory : MadeFactory) (number : ℕ) → pattern_in factory ≡ pattern
-    → Ok (parts_of factory) ≡ result_map_both (λ made. made) refusal answer → after ≡ inserted table factory → number ≡ table.next
-    → HasForm (parts_of factory).0.service.description → Numbers pattern refusal answer table (Ok number) after
-numbers pattern refusal (Ok parts) table after factory number is told becomes next form =
-    let same : parts_of factory ≡ parts
-    = cc in (factory, is, same, becomes, ap Ok next, subst (λ p. HasForm p.0.service.description) same form)
-numbers pattern refusal (Err error) table after factory number is told becomes next form = absurd cc
-
-pub refuses : {E : Type 0} (pattern : MessagingPattern) (refusal : E → Refusal) (answer : Result Made E) (table : FactoryTable)
-    (reply : Refusal)
-    → Err reply ≡ result_map_both (λ made. made) refusal answer → Numbers pattern refusal answer table (Err reply) table
-refuses pattern refusal (Ok parts) table reply told = absurd cc
-refuses pattern refusal (Err error) table reply told = let same : reply ≡ refusal error = cc in (ap Err same, refl)
+-- it is refused as the call is that was made
+pub lacks : {H : Type 0} (call : OpeningCall) (options : ServiceOptions) (told : Refusal) (table : FactoryTable) (hub : H)
+    → told ≡ lacking_of call options
+    → ByCall call (λ attributes. IsRefusedWith (create_lacking options) table hub (Err told) table hub)
+    (λ attributes. IsRefusedWith (open_lacking options) table hub (Err told) table hub)
+    (λ attributes. IsRefusedWith (either_lacking options) table hub (Err told) table hub)
+lacks (opening.Create attributes) options told table hub is = (ap Err is, refl, refl)
+lacks (opening.Open attributes) options told table hub is = (ap Err is, refl, refl)
+lacks (opening.OpenOrCreate attributes) options told table hub is = (ap Err is, refl, refl)

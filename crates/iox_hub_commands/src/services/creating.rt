@@ -1,41 +1,28 @@
 //! Services are created.
-ghost use Rattle.std.specs.Prelude.{Result, ◌≡◌, ◌<◌, ◌+◌, ◌^◌, length, true, None, Some, Err};
+ghost use Rattle.std.specs.Prelude.{◌≡◌, ◌<◌, ◌+◌, ◌^◌, true, None, Some, Err};
 ghost use Rattle.iox_hub_base.specs.DescribeBase.Detail.{detail};
 ghost use Rattle.iox_hub_base.specs.DescribeBase.declared.type_detail.TypeVariant.TheVariants.{FixedSize};
 ghost use Rattle.iox_hub_base.specs.Hubs.{is_node};
 ghost use Rattle.iox_hub_commands.specs.Asked.{types_of};
-ghost use Rattle.iox_hub_commands.specs.Creating.{CreatesAs, CreatesNumbered, CreatesUnlessRefused, create_lacking};
+ghost use Rattle.iox_hub_commands.specs.Creating.{CreatesNumbered, create_lacking};
 ghost use Rattle.iox_hub_commands.specs.Described.{settings_of};
 ghost use Rattle.iox_command.specs.NegotiateBase.declared.failure.CreateFailure.{CreateFailure};
 ghost use Rattle.iox_command.specs.declared.refusal.Refusal.{Refusal};
 ghost use Rattle.iox_hub_base.specs.declared.hub.HashState.TheVariants.{Described, Locked};
 ghost use Rattle.iox_hub_commands.specs.Refusing.{IsUncreated, create_refused, create_told, first_look};
-ghost use Rattle.iox_hub_base.specs.DescribeBase.Hash.{service_hash_of};
-ghost use Rattle.iox_hub_base.specs.DescribeSettings.Agreement.{agreement};
 ghost use Rattle.iox_command.specs.NegotiateBase.declared.failure.CreateFailure.TheVariants as uncreated;
-ghost use Rattle.iox_hub_base.specs.Negotiate.Asked.{IsRefusal};
-ghost use Rattle.iox_hub_base.specs.Negotiate.Negotiation.{Creates};
-ghost use Rattle.iox_hub_base.specs.Opening.{Made, OpensInHub};
-ghost use Rattle.std.specs.Result.{result_map_both};
-ghost use Rattle.iox_negotiate_table.specs.Stepped.{SteppedSight};
 
 use crate::services::asked::ServiceAsked;
 use crate::services::factories::Factories;
-use crate::services::kinds::CommandPattern;
-use crate::services::made::MadeFactory;
+use crate::services::opening_call::OpeningCall;
 use crate::services::refusing::{create_refused, uncreated, uncreated_at_first_look};
-use crate::services::requests::{
-    agreed_has_form, event, message_types, publish_subscribe, request_response, steps_have_form,
-};
+use crate::services::requests::{agreed_has_form, message_types, steps_have_form};
 use iox_command::{Refusal, ServiceOptions, StepBefore};
-use iox_describe::pattern::{Event, PublishSubscribe, RequestResponse};
-use iox_describe_base::{AttributeSpecifier, MessageTypeDetails, ZeroCopySend};
-use iox_hub_base::{Hub, HubBuilder, PortFactory};
-use iox_negotiate::{Builder, ServiceBuilder};
+use iox_describe_base::{AttributeSpecifier, ZeroCopySend};
+use iox_hub_base::Hub;
 use iox_negotiate_base::errors::{
     EventCreateError, PublishSubscribeCreateError, RequestResponseCreateError,
 };
-use iox_negotiate_table::StepList;
 use iox_queues_base::Words;
 use std::alloc::Global;
 
@@ -141,106 +128,13 @@ impl Factories {
                 agreed_has_form(&asked.name, &asked.options, &types, attributes);
                 Err(refusal)
             }
-            None => self.create_looked(alloc, hub, asked, attributes, steps),
+            None => self.looked(alloc, hub, asked, OpeningCall::Create(attributes), steps),
         }
-    }
-
-    // The same, where the first look doesn't tell a refusal either.
-    fn create_looked<T: Words + ZeroCopySend, U: Copy + ZeroCopySend, B: Drop, D: Drop>(
-        &mut self,
-        alloc: Global,
-        hub: &mut Hub<T, U, B, D>,
-        asked: &ServiceAsked,
-        attributes: &AttributeSpecifier,
-        steps: &[StepBefore],
-    ) -> Result<u64, Refusal>
-        requires number { self.old.made.next + 1 < 2 ^ 64 }
-        ensures { CreatesUnlessRefused None (detail FixedSize T.name T.size T.alignment) (detail FixedSize U.name U.size U.alignment)
-            (types_of T.name T.size T.alignment U.name U.size U.alignment) asked.now attributes.now steps.now self.old.made hub.old
-            (Some result) self.new.made hub.new }
-    {
-        let types = message_types::<T, U>();
-        match self.prepare(alloc, &asked.name, &types, steps) {
-            Ok(lists) => self.create_prepared(alloc, hub, asked, types, attributes, lists),
-            Err(_) => Err(create_lacking(&asked.options)),
-        }
-    }
-
-    // Creates a service of the pattern that is asked for.
-    fn create_prepared<T: Words + ZeroCopySend, U: Copy + ZeroCopySend, B: Drop, D: Drop>(
-        &mut self,
-        alloc: Global,
-        hub: &mut Hub<T, U, B, D>,
-        asked: &ServiceAsked,
-        types: MessageTypeDetails,
-        attributes: &AttributeSpecifier,
-        lists: Vec<StepList>,
-    ) -> Result<u64, Refusal>
-        requires room { length self.old.made.entries < self.old.made.room }
-        requires number { self.old.made.next + 1 < 2 ^ 64 }
-        ensures { CreatesAs asked.now.options (detail FixedSize T.name T.size T.alignment) (detail FixedSize U.name U.size U.alignment)
-            types asked.now.node asked.now.name attributes.now lists.items self.old.made hub.old result self.new.made hub.new }
-    {
-        let builder = Builder::of_hub(hub.id(), asked.node, asked.name);
-        match &asked.options {
-            ServiceOptions::PublishSubscribe(options) => {
-                let builder = builder.with_requirement::<PublishSubscribe>(publish_subscribe(
-                    options, types,
-                ));
-                match created(alloc, hub, builder, attributes, lists) {
-                    Ok(factory) => Ok(self.number(MadeFactory::PublishSubscribe(factory))),
-                    Err(refusal) => Err(refusal),
-                }
-            }
-            ServiceOptions::Event(options) => {
-                let builder = builder.with_requirement::<Event>(event(options));
-                match created(alloc, hub, builder, attributes, lists) {
-                    Ok(factory) => Ok(self.number(MadeFactory::Event(factory))),
-                    Err(refusal) => Err(refusal),
-                }
-            }
-            ServiceOptions::RequestResponse(options) => {
-                let builder = builder.with_requirement::<RequestResponse>(request_response(
-                    options, types,
-                ));
-                match created(alloc, hub, builder, attributes, lists) {
-                    Ok(factory) => Ok(self.number(MadeFactory::RequestResponse(factory))),
-                    Err(refusal) => Err(refusal),
-                }
-            }
-        }
-    }
-}
-
-// Creates a service of a pattern, as a builder asks.
-fn created<P: CommandPattern, T: Words + ZeroCopySend, U: Copy + ZeroCopySend, B: Drop, D: Drop>(
-    alloc: Global,
-    hub: &mut Hub<T, U, B, D>,
-    builder: ServiceBuilder<P>,
-    attributes: &AttributeSpecifier,
-    lists: Vec<StepList>,
-) -> Result<PortFactory<P>, Refusal>
-    requires hub { builder.hub ≡ hub.old.table.id }
-    ensures { (answer : Result Made P.CreateError) × OpensInHub (detail FixedSize T.name T.size T.alignment)
-        (detail FixedSize U.name U.size U.alignment)
-        (IsRefusal (P.IsWithinLimits (P.adjusted (P.asked builder.requirement)))
-        (P.IsHistoryTooLong (P.adjusted (P.asked builder.requirement))) None) (λ was_new. P.create_error uncreated.OutOfMemory)
-        (λ before came after. Creates SteppedSight before.table.id (service_hash_of P.pattern builder.name) builder.node
-        (agreement builder.name (service_hash_of P.pattern builder.name) (P.settings (P.adjusted (P.asked builder.requirement)))
-        attributes.now) (P.IsWithinLimits (P.adjusted (P.asked builder.requirement)))
-        (P.IsHistoryTooLong (P.adjusted (P.asked builder.requirement))) P.create_error before came after)
-        lists.items hub.old answer hub.new
-        × (result_map_both (λ factory. (factory.service.membership, factory.owner)) (λ refusal. refusal) result
-        ≡ result_map_both (λ made. made) P.create_refusal answer) }
-{
-    match builder.create_with_attributes_in(alloc, attributes, hub, lists) {
-        Ok(factory) => Ok(factory),
-        Err(error) => Err(P::create_refusal(error)),
     }
 }
 
 // The refusal where no memory is found before the first access.
-fn create_lacking(options: &ServiceOptions) -> Refusal
+pub(crate) fn create_lacking(options: &ServiceOptions) -> Refusal
     ensures { result ≡ create_lacking options.now }
 {
     match options {

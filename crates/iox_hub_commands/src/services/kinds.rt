@@ -1,9 +1,12 @@
-//! The patterns of the services that commands create and open, and how the errors of each are told.
+//! The patterns of the services that commands create and open: what options of each ask, and how its errors are told.
 ghost use Rattle.std.specs.Prelude.{◌≡◌};
 ghost use Rattle.iox_command.specs.declared.refusal.Refusal.{Refusal};
+ghost use Rattle.iox_hub_base.specs.DescribeBase.declared.message_type.MessageTypeDetails.{MessageTypeDetails};
 
-use iox_command::Refusal;
+use crate::services::requests;
+use iox_command::{EventOptions, PublishSubscribeOptions, Refusal, RequestResponseOptions};
 use iox_describe::pattern::{Event, PublishSubscribe, RequestResponse};
+use iox_describe_base::MessageTypeDetails;
 use iox_negotiate::Negotiated;
 use iox_negotiate_base::errors::{
     EventCreateError, EventOpenError, EventOpenOrCreateError, PublishSubscribeCreateError,
@@ -13,6 +16,12 @@ use iox_negotiate_base::errors::{
 
 /// A pattern whose services commands create and open.
 pub(crate) trait CommandPattern: Negotiated {
+    /// The options of a service that a command names.
+    type Options;
+
+    // what options ask of a service whose messages are of these types
+    ghost asks: { Self.Options → MessageTypeDetails → Self.Requirement };
+
     // the refusal of a service that isn't created
     ghost create_refusal: { Self.CreateError → Refusal };
 
@@ -21,6 +30,10 @@ pub(crate) trait CommandPattern: Negotiated {
 
     // the refusal of a service that is neither opened nor created
     ghost either_refusal: { Self.OpenOrCreateError → Refusal };
+
+    /// What options ask of a service whose messages are of these types.
+    fn requirement(options: &Self::Options, types: MessageTypeDetails) -> Self::Requirement
+        ensures { result ≡ asks options.now types };
 
     /// The refusal of a service that isn't created.
     fn create_refusal(error: Self::CreateError) -> Refusal
@@ -37,12 +50,21 @@ pub(crate) trait CommandPattern: Negotiated {
 
 impl CommandPattern for PublishSubscribe {
     ghost use Rattle.iox_command.specs.declared.refusal.Refusal.TheVariants as refusal;
+    ghost use Rattle.iox_hub_commands.specs.Asked.{asked_publish_subscribe};
+
+    type Options = PublishSubscribeOptions;
+
+    ghost asks = { asked_publish_subscribe };
 
     ghost create_refusal = { refusal.PublishSubscribeCreate };
 
     ghost open_refusal = { refusal.PublishSubscribeOpen };
 
     ghost either_refusal = { refusal.PublishSubscribeOpenOrCreate };
+
+    fn requirement(options: &Self::Options, types: MessageTypeDetails) -> Self::Requirement {
+        requests::publish_subscribe(options, types)
+    }
 
     fn create_refusal(error: PublishSubscribeCreateError) -> Refusal {
         Refusal::PublishSubscribeCreate(error)
@@ -59,12 +81,21 @@ impl CommandPattern for PublishSubscribe {
 
 impl CommandPattern for Event {
     ghost use Rattle.iox_command.specs.declared.refusal.Refusal.TheVariants as refusal;
+    ghost use Rattle.iox_hub_commands.specs.Asked.{asked_event};
+
+    type Options = EventOptions;
+
+    ghost asks = { λ options types. asked_event options };
 
     ghost create_refusal = { refusal.EventCreate };
 
     ghost open_refusal = { refusal.EventOpen };
 
     ghost either_refusal = { refusal.EventOpenOrCreate };
+
+    fn requirement(options: &Self::Options, _types: MessageTypeDetails) -> Self::Requirement {
+        requests::event(options)
+    }
 
     fn create_refusal(error: EventCreateError) -> Refusal {
         Refusal::EventCreate(error)
@@ -81,12 +112,21 @@ impl CommandPattern for Event {
 
 impl CommandPattern for RequestResponse {
     ghost use Rattle.iox_command.specs.declared.refusal.Refusal.TheVariants as refusal;
+    ghost use Rattle.iox_hub_commands.specs.Asked.{asked_request_response};
+
+    type Options = RequestResponseOptions;
+
+    ghost asks = { asked_request_response };
 
     ghost create_refusal = { refusal.RequestResponseCreate };
 
     ghost open_refusal = { refusal.RequestResponseOpen };
 
     ghost either_refusal = { refusal.RequestResponseOpenOrCreate };
+
+    fn requirement(options: &Self::Options, types: MessageTypeDetails) -> Self::Requirement {
+        requests::request_response(options, types)
+    }
 
     fn create_refusal(error: RequestResponseCreateError) -> Refusal {
         Refusal::RequestResponseCreate(error)

@@ -23,7 +23,7 @@ returns-in-None-clause-creates g c = (
     c.requires.settings,
     λ stands. none_told c.in-None.ensures.told (sym (ap (λ found. create_told c.args.asked.now.options found) stands)),
   ),
-  rw c.in-None.ensures.same at c.create_looked.ensures,
+  rw c.in-None.ensures.same at c.looked.ensures,
 )
 
 pub returns-in-Some-clause-told_first : goal.returns-in-Some-clause-told_first

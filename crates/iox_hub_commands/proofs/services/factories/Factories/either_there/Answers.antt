@@ -31,6 +31,9 @@ returns-in-Some-clause-locked_first g c finds =
     let same = told.2 ∙ ap (λ found. either_told c.args.asked.now.options told.0 found) finds in
     (cc, refl, c.in-Some.ensures.same)
 
+pub returns-in-None-clause-either : goal.returns-in-None-clause-either
+returns-in-None-clause-either g c = rw c.in-None.ensures.same at c.looked.ensures
+
 pub returns-in-None-clause-settings_first : goal.returns-in-None-clause-settings_first
 returns-in-None-clause-settings_first g c failure is finds =
     absurd (none_told c.in-None.ensures.told.2

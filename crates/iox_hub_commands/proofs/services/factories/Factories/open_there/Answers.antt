@@ -21,5 +21,8 @@ returns-in-Some-clause-told_first g c refusal is = (
   c.in-Some.ensures.same,
 )
 
+pub returns-in-None-clause-opens : goal.returns-in-None-clause-opens
+returns-in-None-clause-opens g c = rw c.in-None.ensures.same at c.looked.ensures
+
 pub returns-in-None-clause-told_first : goal.returns-in-None-clause-told_first
 returns-in-None-clause-told_first g c refusal is = absurd (none_told c.in-None.ensures.told is)
