@@ -3,6 +3,8 @@ use Rattle.std.specs.Prelude.{ℕ, ◌≡◌, Option, Result, Ok, Err}
 use Rattle.std.specs.declared.alloc.AllocError.{AllocError}
 use Rattle.iox_command.specs.declared.command.Command.{Command}
 use Rattle.iox_command.specs.declared.command.Command.TheVariants as command
+use Rattle.iox_command.specs.Ports.{command_of}
+use Rattle.iox_command.specs.declared.ports.port_command.PortCommand.{PortCommand}
 use Rattle.iox_command.specs.declared.reply.Reply.{Reply}
 use Rattle.iox_delivery.specs.DescribeBase.Detail.{Detail}
 use Rattle.iox_delivery.specs.DescribeBase.declared.message_type.MessageTypeDetails.{MessageTypeDetails}
@@ -30,6 +32,12 @@ use Rattle.iox_hub_commands.specs.declared.numbered_hub.NumberedHub.{NumberedHub
 abbrev pub IsReplied : {T : Type 0} → (Reply T → Type 0) → Result (Reply T) AllocError → Type 0
 IsReplied does (Ok reply) = does reply
 IsReplied does (Err lacking) = ⊥
+
+-- A command does this to a hub, and is replied so; or it is one of a port that there is, and nothing happens.
+abbrev pub StepsUnlessOfPort : {T H : Type 0} → (Command T → H → Result (Reply T) AllocError → H → Type 0) → Command T → H
+    → Result (Reply T) (PortCommand T) → H → Type 0
+StepsUnlessOfPort steps asked old (Ok reply) new = steps asked old (Ok reply) new
+StepsUnlessOfPort steps asked old (Err of_port) new = (asked ≡ command_of of_port) × (new ≡ old)
 
 module _ {T U B D : Type 0} where
   -- what may be answered where a connection of a publisher of a hub failed

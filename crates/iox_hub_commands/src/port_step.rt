@@ -52,7 +52,7 @@ impl<
     }
 
     // A command of a port, without what it comes to in other words.
-    fn carry_out_port(
+    pub(crate) fn carry_out_port(
         &mut self,
         alloc: Global,
         command: PortCommand<T>,

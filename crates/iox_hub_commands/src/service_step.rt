@@ -12,11 +12,10 @@ ghost use Rattle.iox_delivery.specs.Container.NumberTable.{value_at};
 use crate::numbered_hub::NumberedHub;
 use crate::replies::{closed_reply, factory_reply, foreign_reply};
 use crate::services::{ServiceAsked, foreign};
-use crate::{
-    PublisherHandlers, SubscriberHandler, arriving, most_loans, publisher_handlers,
-    subscriber_handler,
+use crate::{PublisherHandlers, SubscriberHandler, publisher_handlers, subscriber_handler};
+use iox_command::{
+    ForeignStep, PublisherOptions, Refusal, Reply, StepBefore, Steps, SubscriberOptions,
 };
-use iox_command::{ForeignStep, PublisherOptions, Refusal, Reply, StepBefore, SubscriberOptions};
 use iox_describe_base::{
     AttributeSpecifier, AttributeVerifier, MessagingPattern, ServiceName, ZeroCopySend,
 };
@@ -25,7 +24,8 @@ use iox_domain_values::{Decides, Degrades, PortOwner};
 use iox_queues_base::Words;
 use std::alloc::Global;
 
-// What holds names, settings or descriptions by value stands in a frame of its own, so that each other command needs little stack.
+// What holds names, settings or descriptions by value stands in a frame of its own, so that each other command needs little stack. What a
+// command names is dropped there, too.
 impl<T: Words + ZeroCopySend, U: Copy + ZeroCopySend, B: Drop, D: Drop> NumberedHub<T, U, B, D> {
     pub(crate) fn node(&mut self) -> Reply<T>
         ensures pledged { self.new.pledged ≡ self.old.pledged }
@@ -41,18 +41,17 @@ impl<T: Words + ZeroCopySend, U: Copy + ZeroCopySend, B: Drop, D: Drop> Numbered
     pub(crate) fn create(
         &mut self,
         alloc: Global,
-        asked: &ServiceAsked,
-        attributes: &AttributeSpecifier,
-        steps: &[StepBefore],
+        asked: ServiceAsked,
+        attributes: AttributeSpecifier,
+        steps: Steps<StepBefore>,
     ) -> Reply<T>
         requires { self.old.factories.made.next + 1 < 2 ^ 64 }
         ensures pledged { self.new.pledged ≡ self.old.pledged }
         ensures does { Creates (detail FixedSize T.name T.size T.alignment) (detail FixedSize U.name U.size U.alignment)
-            (types_of T.name T.size T.alignment U.name U.size U.alignment) asked.now attributes.now steps.now self.old result self.new }
+            (types_of T.name T.size T.alignment U.name U.size U.alignment) asked attributes steps self.old result self.new }
     {
         factory_reply(
-            self.factories
-                .create(alloc, &mut self.hub, asked, attributes, steps),
+            self.factories.create(alloc, &mut self.hub, &asked, &attributes, steps.as_slice()),
         )
     }
 
@@ -60,18 +59,17 @@ impl<T: Words + ZeroCopySend, U: Copy + ZeroCopySend, B: Drop, D: Drop> Numbered
     pub(crate) fn open(
         &mut self,
         alloc: Global,
-        asked: &ServiceAsked,
+        asked: ServiceAsked,
         requirements: AttributeVerifier,
-        steps: &[StepBefore],
+        steps: Steps<StepBefore>,
     ) -> Reply<T>
         requires { self.old.factories.made.next + 1 < 2 ^ 64 }
         ensures pledged { self.new.pledged ≡ self.old.pledged }
         ensures does { Opens (detail FixedSize T.name T.size T.alignment) (detail FixedSize U.name U.size U.alignment)
-            (types_of T.name T.size T.alignment U.name U.size U.alignment) asked.now requirements steps.now self.old result self.new }
+            (types_of T.name T.size T.alignment U.name U.size U.alignment) asked requirements steps self.old result self.new }
     {
         factory_reply(
-            self.factories
-                .open(alloc, &mut self.hub, asked, requirements, steps),
+            self.factories.open(alloc, &mut self.hub, &asked, requirements, steps.as_slice()),
         )
     }
 
@@ -79,18 +77,23 @@ impl<T: Words + ZeroCopySend, U: Copy + ZeroCopySend, B: Drop, D: Drop> Numbered
     pub(crate) fn open_or_create(
         &mut self,
         alloc: Global,
-        asked: &ServiceAsked,
+        asked: ServiceAsked,
         requirements: AttributeVerifier,
-        steps: &[StepBefore],
+        steps: Steps<StepBefore>,
     ) -> Reply<T>
         requires { self.old.factories.made.next + 1 < 2 ^ 64 }
         ensures pledged { self.new.pledged ≡ self.old.pledged }
         ensures does { OpensOrCreates (detail FixedSize T.name T.size T.alignment) (detail FixedSize U.name U.size U.alignment)
-            (types_of T.name T.size T.alignment U.name U.size U.alignment) asked.now requirements steps.now self.old result self.new }
+            (types_of T.name T.size T.alignment U.name U.size U.alignment) asked requirements steps self.old result self.new }
     {
         factory_reply(
-            self.factories
-                .open_or_create(alloc, &mut self.hub, asked, requirements, steps),
+            self.factories.open_or_create(
+                alloc,
+                &mut self.hub,
+                &asked,
+                requirements,
+                steps.as_slice(),
+            ),
         )
     }
 
@@ -99,14 +102,14 @@ impl<T: Words + ZeroCopySend, U: Copy + ZeroCopySend, B: Drop, D: Drop> Numbered
         &mut self,
         alloc: Global,
         pattern: MessagingPattern,
-        name: &ServiceName,
-        steps: &[ForeignStep],
+        name: ServiceName,
+        steps: Steps<ForeignStep>,
     ) -> Reply<T>
         ensures pledged { self.new.pledged ≡ self.old.pledged }
-        ensures does { Acts pattern name.now (types_of T.name T.size T.alignment U.name U.size U.alignment) steps.now self.old result
+        ensures does { Acts pattern name (types_of T.name T.size T.alignment U.name U.size U.alignment) steps self.old result
             self.new }
     {
-        foreign_reply(foreign(alloc, &mut self.hub, pattern, name, steps))
+        foreign_reply(foreign(alloc, &mut self.hub, pattern, &name, steps.as_slice()))
     }
 
     #[inline(never)]

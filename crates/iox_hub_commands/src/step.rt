@@ -1,5 +1,5 @@
 //! One command, and its reply.
-ghost use Rattle.std.specs.Prelude.{◌≡◌, ◌+◌, ◌<◌, ◌≤◌, ◌^◌, OnErr};
+ghost use Rattle.std.specs.Prelude.{◌≡◌, ◌+◌, ◌<◌, ◌≤◌, ◌^◌, OnErr, OnOk};
 ghost use Rattle.iox_delivery.specs.DescribeBase.Detail.{detail};
 ghost use Rattle.iox_delivery.specs.DescribeBase.declared.type_detail.TypeVariant.TheVariants.{FixedSize};
 ghost use Rattle.iox_hub_commands.specs.Asked.{types_of};
@@ -8,11 +8,12 @@ ghost use Rattle.iox_hub_commands.specs.Grown.{GrowsOn, HaveGrown, AreAsAgreed, 
 ghost use Rattle.iox_hub_commands.specs.Lives.{ChangesOneThing};
 ghost use Rattle.iox_hub_commands.specs.Numbers.{numbers_used};
 ghost use Rattle.iox_hub_commands.specs.PortRoom.{FindsPort, HasRoom, KeepsRoom, LacksInRoom, OfOthers, OfPorts};
-ghost use Rattle.iox_hub_commands.specs.CommandSteps.{Step};
+ghost use Rattle.iox_hub_commands.specs.CommandSteps.{Step, StepsUnlessOfPort};
 
 use crate::numbered_hub::NumberedHub;
 use crate::services::ServiceAsked;
-use crate::{PublisherHandlers, SubscriberHandler, following, lending, messages, receiving};
+use crate::{PublisherHandlers, SubscriberHandler};
+use iox_command::ports::PortCommand;
 use iox_command::{Command, Reply};
 use iox_describe_base::ZeroCopySend;
 use iox_queues_base::Words;
@@ -68,6 +69,26 @@ impl<
             (λ handlers. B.degrades handlers) (λ handlers. B.decides handlers) D.fixed (λ handler. D.degrades handler) command.entry
             self.old result self.new }
     {
+        match self.carry_out_service(alloc, command) {
+            Ok(reply) => Ok(reply),
+            Err(command) => self.carry_out_port(alloc, command),
+        }
+    }
+
+    // A command of nodes and services, or one by which a port comes. One of a port that there is is handed back, and nothing happens.
+    fn carry_out_service<'a>(
+        &mut self,
+        alloc: Global,
+        command: Command<'a, T>,
+    ) -> Result<Reply<T>, PortCommand<'a, T>>
+        requires { numbers_used self.old + 1 < 2 ^ 64 }
+        ensures comes { OnOk result (OfPorts (KeepsRoom self.old self.new) command.entry) }
+        ensures pledged { OnOk result (OfOthers (self.new.pledged ≡ self.old.pledged) command.entry) }
+        ensures steps { StepsUnlessOfPort (Step (detail FixedSize T.name T.size T.alignment) (detail FixedSize U.name U.size U.alignment)
+            (types_of T.name T.size T.alignment U.name U.size U.alignment) T.is_default U.is_default B.fixed
+            (λ handlers. B.degrades handlers) (λ handlers. B.decides handlers) D.fixed (λ handler. D.degrades handler)) command.entry
+            self.old result self.new }
+    {
         match command {
             Command::Node => Ok(self.node()),
             Command::Create {
@@ -82,7 +103,7 @@ impl<
                     name,
                     options,
                 };
-                Ok(self.create(alloc, &asked, &attributes, steps.as_slice()))
+                Ok(self.create(alloc, asked, attributes, steps))
             }
             Command::Open {
                 node,
@@ -96,7 +117,7 @@ impl<
                     name,
                     options,
                 };
-                Ok(self.open(alloc, &asked, requirements, steps.as_slice()))
+                Ok(self.open(alloc, asked, requirements, steps))
             }
             Command::OpenOrCreate {
                 node,
@@ -110,13 +131,13 @@ impl<
                     name,
                     options,
                 };
-                Ok(self.open_or_create(alloc, &asked, requirements, steps.as_slice()))
+                Ok(self.open_or_create(alloc, asked, requirements, steps))
             }
             Command::Foreign {
                 pattern,
                 name,
                 steps,
-            } => Ok(self.foreign(alloc, pattern, &name, steps.as_slice())),
+            } => Ok(self.foreign(alloc, pattern, name, steps)),
             Command::Close { factory } => Ok(self.close(factory)),
             Command::Publisher { factory, options } => {
                 Ok(self.publisher(alloc, factory, &options))
@@ -124,53 +145,31 @@ impl<
             Command::Subscriber { factory, options } => {
                 Ok(self.subscriber(alloc, factory, &options))
             }
-            Command::Loan { publisher, length } => {
-                lending::loan(alloc, &mut self.made, &mut self.hub, publisher, length)
-            }
-            Command::LoanUninit { publisher, length } => {
-                lending::loan_uninit(alloc, &mut self.made, &mut self.hub, publisher, length)
-            }
-            Command::Set { loan, place, value } => {
-                Ok(messages::set(&self.made, &mut self.hub, loan, place, value))
-            }
-            Command::Fill { loan, values } => {
-                Ok(messages::fill(&self.made, &mut self.hub, loan, values.items))
-            }
-            Command::Drop { loan } => {
-                Ok(messages::drop_loan(&mut self.made, &mut self.hub, loan))
-            }
-            Command::Send { loan } => {
-                Ok(messages::send(alloc, &mut self.made, &mut self.hub, loan))
-            }
-            Command::Put { publisher, values } => Ok(lending::put(
-                alloc,
-                &self.made,
-                &mut self.hub,
+            Command::Loan { publisher, length } => Err(PortCommand::Loan { publisher, length }),
+            Command::LoanUninit { publisher, length } => Err(PortCommand::LoanUninit {
                 publisher,
-                values.items,
-            )),
+                length,
+            }),
+            Command::Set { loan, place, value } => Err(PortCommand::Set { loan, place, value }),
+            Command::Fill { loan, values } => Err(PortCommand::Fill { loan, values }),
+            Command::Drop { loan } => Err(PortCommand::Drop { loan }),
+            Command::Send { loan } => Err(PortCommand::Send { loan }),
+            Command::Put { publisher, values } => Err(PortCommand::Put { publisher, values }),
             Command::Retry {
                 publisher,
                 nanoseconds,
-            } => Ok(messages::retry(&self.made, &mut self.hub, publisher, nanoseconds)),
-            Command::GiveUp { publisher } => {
-                Ok(messages::give_up(&self.made, &mut self.hub, publisher))
-            }
-            Command::Receive { subscriber } => {
-                receiving::receive(alloc, &mut self.made, &mut self.hub, subscriber)
-            }
-            Command::Read { sample } => messages::read(alloc, &self.made, &self.hub, sample),
-            Command::Sequence { sample } => Ok(messages::sequence(&self.made, &self.hub, sample)),
-            Command::Release { sample } => {
-                Ok(messages::release(&mut self.made, &mut self.hub, sample))
-            }
-            Command::Update { port } => {
-                Ok(following::update(alloc, &self.made, &mut self.hub, port))
-            }
-            Command::Leave { port } => { Ok(following::leave(&mut self.made, &mut self.hub, port)) }
-            Command::Has { subscriber } => {
-                Ok(following::has(alloc, &self.made, &mut self.hub, subscriber))
-            }
+            } => Err(PortCommand::Retry {
+                publisher,
+                nanoseconds,
+            }),
+            Command::GiveUp { publisher } => Err(PortCommand::GiveUp { publisher }),
+            Command::Receive { subscriber } => Err(PortCommand::Receive { subscriber }),
+            Command::Read { sample } => Err(PortCommand::Read { sample }),
+            Command::Sequence { sample } => Err(PortCommand::Sequence { sample }),
+            Command::Release { sample } => Err(PortCommand::Release { sample }),
+            Command::Update { port } => Err(PortCommand::Update { port }),
+            Command::Leave { port } => Err(PortCommand::Leave { port }),
+            Command::Has { subscriber } => Err(PortCommand::Has { subscriber }),
         }
     }
 }

@@ -1,21 +1,15 @@
-use Rattle.std.proofs.Common.{refl}
+use Rattle.std.proofs.Common.{◌∙◌, ap}
+use Rattle.iox_hub_commands.proofs.PortRooms.{no_port, of_port}
 use Rattle.iox_hub_commands.proofs.numbered_hub.NumberedHub.carry_out.Goals as goal
 
-pub returns-in-Foreign : goal.returns-in-Foreign
-returns-in-Foreign g c
-    = record {
-      comes = rw c.in-Foreign.is tt;
-      pledged = rw c.in-Foreign.is c.foreign.ensures.pledged;
-      finds = tt;
-      steps
-          = rw c.in-Foreign.is (rw c.as_slice-in-Foreign.ensures at c.foreign.ensures.does);
-    }
+pub carry_out_port-requires : goal.carry_out_port-requires
+carry_out_port-requires g c = rw c.in-Err.ensures.steps.1 c.requires
 
-pub returns-in-Put : goal.returns-in-Put
-returns-in-Put g c = record {
-  comes = rw c.in-Put.is tt;
-  pledged = rw c.in-Put.is refl;
-  finds = tt;
-  steps
-      = rw c.in-Put.is (rw c.values-in-Put.view_is at c.put.ensures, refl);
-}
+pub returns-in-Err : goal.returns-in-Err
+returns-in-Err g c =
+    let (is, same) = c.in-Err.ensures.steps in record {
+      comes = rw is (no_port _ c.in-Err.command);
+      pledged = rw is (of_port c.in-Err.command (c.carry_out_port.ensures.pledged ∙ ap (λ hub. hub.pledged) same));
+      finds = rw (is, ← same) c.carry_out_port.ensures.finds;
+      steps = rw (is, ← same) c.carry_out_port.ensures.steps;
+    }

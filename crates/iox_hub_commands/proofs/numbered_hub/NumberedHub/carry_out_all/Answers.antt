@@ -1,4 +1,4 @@
-use Rattle.std.proofs.Common.{arith, rules, inr, ◌+◌, ◌≡◌, [], ◌∷◌, ◌++◌, length, ap, ◌∙◌, append_assoc}
+use Rattle.std.proofs.Common.{arith, inr, ◌+◌, ◌≡◌, [], ◌∷◌, ◌++◌, length, ap, sym, ◌∙◌, append_assoc}
 use Rattle.std.specs.Vec.Iter.{into_iter_items}
 use Rattle.std.proofs.lemmas.List.{length-append}
 use Rattle.iox_delivery.specs.DescribeBase.Detail.{detail}
@@ -34,12 +34,50 @@ loop-command-preserved g c =
       kept = keeps_on c.args.self.now at.self c.step.new.self at.invariant.grows at.invariant.kept c.step.ensures.room;
     }
 
+pub step-requires : goal.step-requires
+step-requires g c =
+    let at = c.loop-command in
+    let command = c.in-Some.command in
+    let given : into_iter_items c.into_iter-command-iterator.result ≡ c.args.commands.items
+    = c.into_iter-command-iterator.ensures.into_iter_gives.0 in
+    let all : at.yielded ++ command ∷ into_iter_items c.next.new.self ≡ c.args.commands.items
+    = rw (← c.in-Some.ensures.steps.0) (at.invariant.all ∙ given) in
+    let long = length-append at.yielded (command ∷ into_iter_items c.next.new.self) in
+    let count = ap length all in omega (arith, at.invariant.counts, c.requires, long, count)
+
+pub returns-in_default-step-clause-ran : goal.returns-in_default-step-clause-ran
+returns-in_default-step-clause-ran g c =
+    let at = c.loop-command in
+    inr (
+      at.yielded,
+      c.in-Some.command,
+      into_iter_items c.next.new.self,
+      at.self,
+      c.in_default-step.field-0,
+      sym c.into_iter-command-iterator.ensures.into_iter_gives.0 ∙
+          (sym at.invariant.all ∙ ap (λ left. at.yielded ++ left) c.in-Some.ensures.steps.0),
+      at.invariant.ran,
+      c.in_default-step.ensures.steps,
+    )
+
+pub returns-in_default-step-clause-counts : goal.returns-in_default-step-clause-counts
+returns-in_default-step-clause-counts g c =
+    let at = c.loop-command in
+    let command = c.in-Some.command in
+    let given : into_iter_items c.into_iter-command-iterator.result ≡ c.args.commands.items
+    = c.into_iter-command-iterator.ensures.into_iter_gives.0 in
+    let all : at.yielded ++ command ∷ into_iter_items c.next.new.self ≡ c.args.commands.items
+    = rw (← c.in-Some.ensures.steps.0) (at.invariant.all ∙ given) in
+    let long = length-append at.yielded (command ∷ into_iter_items c.next.new.self) in
+    let count = ap length all in omega (arith, at.invariant.counts, c.step.ensures.counts, long, count)
+
 pub returns-in_default-step-clause-stops : goal.returns-in_default-step-clause-stops
 returns-in_default-step-clause-stops g c = λ (loans, samples) grown stopped.
     let at = c.loop-command in
     let command = c.in-Some.command in
     let steps : into_iter_items at.command-iterator ≡ command ∷ into_iter_items c.next.new.self = c.in-Some.ensures.steps.0 in
-    let given : into_iter_items c.into_iter-command-iterator.result ≡ c.args.commands.items = search rules in
+    let given : into_iter_items c.into_iter-command-iterator.result ≡ c.args.commands.items
+    = c.into_iter-command-iterator.ensures.into_iter_gives.0 in
     let all : at.yielded ++ command ∷ into_iter_items c.next.new.self ≡ c.args.commands.items = rw (← steps) (at.invariant.all ∙ given) in
     let count : length at.replies.items ≡ length at.yielded = omega (arith, at.invariant.answered, at.replies.ok) in
     inr (
