@@ -1,12 +1,11 @@
 //! Messages of single values go from node to node, up to the last number.
-use crate::ports::{lent_to, publisher_leaves, sent_to, subscriber_leaves};
+use crate::ports::{must_be_free, must_be_there};
 use crate::services::{Course, How, Messages, Service, come_new, go};
-use iox_delivery::{Publisher, Sample, SampleMut, SampleMutUninit, Subscriber, UpdateConnections};
-use iox_delivery_factories::PortFactoryPublisher;
-use iox_domain_values::{
-    BackpressureAction, BackpressureHandler, LoanError, PublisherCreateError, ReceiveError,
-    SendError, SubscriberCreateError,
+use iox_delivery::{
+    Publisher, Sample, SampleMut, SampleMutUninit, Sent, Subscriber, UpdateConnections,
 };
+use iox_domain::Nobody;
+use iox_domain_values::{LoanError, ReceiveError, SendError};
 use std::alloc::Global;
 use std::process::Abort;
 use std::test::Fail;
@@ -47,7 +46,7 @@ const FIRST: u64 = u64::MAX - 3;
 const USED_UP: Result<usize, SendError> = Err(SendError::InternalError);
 
 // Of four messages in a mailbox of three the oldest goes. Behind the last number nothing is sent, and the loan ends.
-const CALLS: [Call; 16] = [
+const CALLS: &[Call] = &[
     Call::Publisher(Publishing::Follows, Ok(0)),
     Call::Subscriber(Listening::Follows),
     Call::Subscriber(Listening::Has(false)),
@@ -78,6 +77,34 @@ fn written(
     }
 }
 
+// How many mailboxes took what was sent, or why none did. A send that waits is let go, as one that can't be delivered.
+fn sent_to(sent: Result<Sent<u64, u8>, SendError>, hub: &mut Messages) -> Result<usize, SendError> {
+    match sent {
+        Ok(Sent::Delivered(delivered)) => Ok(delivered),
+        Ok(Sent::Blocked(blocked)) => {
+            blocked.drop_with(hub);
+            Err(SendError::UnableToDeliver)
+        }
+        Err(error) => Err(error),
+    }
+}
+
+// The same of what was lent and written, which is sent.
+fn lent_to(
+    rt: &impl Abort,
+    alloc: Global,
+    lent: Result<SampleMut<u64, u8>, LoanError>,
+    hub: &mut Messages,
+) -> Result<usize, SendError> {
+    match lent {
+        Ok(sample) => {
+            must_be_free(rt, sample.holds(hub), sample.is_blocked(hub));
+            sent_to(sample.send(alloc, hub), hub)
+        }
+        Err(error) => Err(SendError::LoanError(error)),
+    }
+}
+
 // To how many mailboxes a publisher sends, or why to none.
 fn publishes(
     rt: &impl Abort,
@@ -86,8 +113,7 @@ fn publishes(
     publisher: &Publisher<u64, u8>,
     publishing: Publishing,
 ) -> Result<usize, SendError> {
-    assert!(rt; publisher.holds(hub));
-    assert!(rt; !publisher.is_blocked(hub));
+    must_be_free(rt, publisher.holds(hub), publisher.is_blocked(hub));
     match publishing {
         Publishing::Follows => match publisher.update_connections(alloc, hub) {
             Ok(()) => Ok(0),
@@ -110,7 +136,7 @@ fn taken(
 ) -> Result<Option<(u64, Option<u64>)>, ReceiveError> {
     match received {
         Ok(Some(sample)) => {
-            assert!(rt; sample.holds(hub));
+            must_be_there(rt, sample.holds(hub));
             let came = (*sample.payload(hub), sample.header(hub).sequence());
             sample.release(hub);
             Ok(Some(came))
@@ -128,7 +154,7 @@ fn listens(
     subscriber: &Subscriber<u64, u8>,
     listening: Listening,
 ) -> bool {
-    assert!(rt; subscriber.holds(hub));
+    must_be_there(rt, subscriber.holds(hub));
     match listening {
         Listening::Follows => subscriber.update_connections(alloc, hub) == Ok(()),
         Listening::Has(has) => subscriber.has_samples(alloc, hub) == Ok(has),
@@ -152,89 +178,99 @@ fn goes(
     }
 }
 
-// Each call must go so.
+// How many calls go so, one after another.
 fn go_on(
     rt: &impl Abort,
     alloc: Global,
     hub: &mut Messages,
     publisher: &Publisher<u64, u8>,
     subscriber: &Subscriber<u64, u8>,
-) {
+) -> usize {
     for (place, call) in CALLS.iter().enumerate() {
-        assert!(rt;
-            goes(rt, alloc, hub, publisher, subscriber, call),
-            "call {place}"
-        );
+        if !goes(rt, alloc, hub, publisher, subscriber, call) {
+            return place;
+        }
     }
+    CALLS.len()
 }
 
-// A publisher that a builder makes. Nobody asks its handler, since the service overflows.
-fn made(
-    rt: &impl Abort,
-    alloc: Global,
-    hub: &mut Messages,
-    builder: PortFactoryPublisher<u64, u8>,
-) -> Result<Publisher<u64, u8>, PublisherCreateError> {
-    let handler = BackpressureHandler::new_with(BackpressureAction::DiscardDataAndFail);
-    let builder = builder
-        .first_sequence(FIRST)
-        .set_backpressure_handler(handler);
-    assert!(rt; builder.holds(hub));
-    builder.create(alloc, hub)
-}
-
-// A publisher of a service.
+// A publisher of the service.
 fn publish(
     rt: &impl Abort,
     alloc: Global,
     hub: &mut Messages,
     service: &Service,
-) -> Result<Publisher<u64, u8>, PublisherCreateError> {
-    assert!(rt; hub.holds(service));
-    match hub.publisher_builder(service) {
-        Some(builder) => made(rt, alloc, hub, builder),
-        None => Err(PublisherCreateError::ExceedsMaxSupportedPublishers),
-    }
+) -> Option<Publisher<u64, u8>> {
+    must_be_there(rt, hub.holds(service));
+    let builder = hub
+        .publisher_builder(service)?
+        .first_sequence(FIRST)
+        .set_handlers(Nobody);
+    must_be_there(rt, builder.holds(hub));
+    builder.create(alloc, hub).ok()
 }
 
-// A subscriber of a service.
+// A subscriber of the service.
 fn subscribe(
     rt: &impl Abort,
     alloc: Global,
     hub: &mut Messages,
     service: &Service,
-) -> Result<Subscriber<u64, u8>, SubscriberCreateError> {
-    assert!(rt; hub.holds(service));
-    let Some(builder) = hub.subscriber_builder(service) else {
-        return Err(SubscriberCreateError::ExceedsMaxSupportedSubscribers);
-    };
-    assert!(rt; builder.holds(hub));
-    builder.create(alloc, hub)
+) -> Option<Subscriber<u64, u8>> {
+    must_be_there(rt, hub.holds(service));
+    let builder = hub.subscriber_builder(service)?.set_handler(Nobody);
+    must_be_there(rt, builder.holds(hub));
+    builder.create(alloc, hub).ok()
 }
 
-// A publisher comes, each call goes so, and it leaves.
+// How many calls go so between a new publisher of the service and a subscriber.
 fn publish_to(
     rt: &impl Abort,
     alloc: Global,
     hub: &mut Messages,
     service: &Service,
     subscriber: &Subscriber<u64, u8>,
-) {
-    let Ok(publisher) = publish(rt, alloc, hub, service) else {
-        panic!(rt; "no publisher comes");
-    };
-    go_on(rt, alloc, hub, &publisher, subscriber);
-    publisher_leaves(rt, hub, publisher);
+) -> usize {
+    match publish(rt, alloc, hub, service) {
+        Some(publisher) => {
+            let gone = go_on(rt, alloc, hub, &publisher, subscriber);
+            let _ = publisher.into_port();
+            gone
+        }
+        None => 0,
+    }
 }
 
-/// Messages go from the node that created a service to one that opened it.
-pub(crate) fn agree(rt: &impl Abort, alloc: Global, hub: &mut Messages) -> Result<(), Fail> {
-    let made = come_new::<u64>(rt, alloc, hub, How::Create)?;
-    let opened = come_new::<u64>(rt, alloc, hub, How::Open)?;
-    let subscriber = subscribe(rt, alloc, hub, &opened)?;
-    publish_to(rt, alloc, hub, &made, &subscriber);
-    subscriber_leaves(rt, hub, subscriber);
+// How many calls go so between ports of two who came to the service.
+fn converse(
+    rt: &impl Abort,
+    alloc: Global,
+    hub: &mut Messages,
+    made: &Service,
+    opened: &Service,
+) -> usize {
+    match subscribe(rt, alloc, hub, opened) {
+        Some(subscriber) => {
+            let gone = publish_to(rt, alloc, hub, made, &subscriber);
+            let _ = subscriber.into_port();
+            gone
+        }
+        None => 0,
+    }
+}
+
+// All of them must go so to a node that opens the service.
+fn open(rt: &impl Abort, alloc: Global, hub: &mut Messages, made: &Service) -> Result<(), Fail> {
+    let opened = come_new(rt, alloc, hub, How::Open)?;
+    let gone = converse(rt, alloc, hub, made, &opened);
+    assert!(rt; gone == CALLS.len(), "call {gone}");
     Ok(())
+}
+
+/// Messages go from the node that created the service to one that opened it.
+pub(crate) fn agree(rt: &impl Abort, alloc: Global, hub: &mut Messages) -> Result<(), Fail> {
+    let made = come_new(rt, alloc, hub, How::Create)?;
+    open(rt, alloc, hub, &made)
 }
 
 #[test]

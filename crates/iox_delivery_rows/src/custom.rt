@@ -1,7 +1,7 @@
 //! Ports of a payload that only the description says.
-use crate::ports::{lent_to, sent_to};
+use crate::ports::{must_be_free, must_be_there};
 use iox_delivery::Sent;
-use iox_delivery::slices::{Publisher, Sample, SampleMut, SampleMutUninit, Subscriber};
+use iox_delivery::slices::{Publisher, Sample, SampleMutUninit, Subscriber};
 use iox_delivery_factories::{publisher_builder, subscriber_builder};
 use iox_describe_base::{
     AttributeSpecifier, Header, MessageTypeDetails, ServiceName, TypeDetail, TypeVariant,
@@ -9,16 +9,13 @@ use iox_describe_base::{
 use iox_describe_settings::publish_subscribe::StaticConfig;
 use iox_describe_settings::{Description, Settings};
 use iox_domain::settings::{CustomHeaderMarker, CustomPayloadMarker};
-use iox_domain::{Domain, DomainId, calls};
-use iox_domain_values::{
-    AllocationStrategy, LoanError, PublisherCreateError, ReceiveError, SendError,
-    SubscriberCreateError,
-};
+use iox_domain::{Domain, DomainId, Nobody, calls};
+use iox_domain_values::{AllocationStrategy, LoanError, SendError};
 use std::alloc::Global;
 use std::process::Abort;
 
-// Which domain it is.
-const DOMAIN: DomainId = DomainId { hub: 2, service: 7 };
+/// Which domain it is.
+pub(crate) const DOMAIN: DomainId = DomainId { hub: 2, service: 7 };
 
 // A byte.
 type Byte = CustomPayloadMarker;
@@ -26,21 +23,29 @@ type Byte = CustomPayloadMarker;
 // A user header that isn't reached.
 type Any = CustomHeaderMarker;
 
-// A service of slices, whose elements have so many bytes. A full mailbox holds a send up.
-fn described(size: u64) -> Option<Description> {
+// Elements, as bytes, for whose ports nobody decides.
+type Elements = Domain<Byte, Any, Nobody, Nobody>;
+
+/// A service with this agreement.
+pub(crate) fn described(agreed: StaticConfig) -> Option<Description> {
     let name = ServiceName::new(b"A").ok()?;
-    let mut types = MessageTypeDetails::from::<Header, u16, u64>(TypeVariant::Dynamic);
-    types.payload = TypeDetail::new(TypeVariant::Dynamic, b"Element", size, 1).ok()?;
-    let mut agreed = StaticConfig::new(types);
-    agreed.enable_safe_overflow = false;
     let settings = Settings::PublishSubscribe(agreed);
     Some(Description::new(name, settings, AttributeSpecifier::new()))
 }
 
-// Its domain.
-fn make(alloc: Global, size: u64) -> Option<Domain<Byte, Any>> {
-    let description = described(size)?;
-    if Domain::<Byte, Any>::fits(&description) {
+// What is agreed on slices whose elements have so many bytes. A full mailbox holds a send up.
+fn agreed(size: u64) -> Option<StaticConfig> {
+    let mut types = MessageTypeDetails::from::<Header, u16, u64>(TypeVariant::Dynamic);
+    types.payload = TypeDetail::new(TypeVariant::Dynamic, b"Element", size, 1).ok()?;
+    let mut agreed = StaticConfig::new(types);
+    agreed.enable_safe_overflow = false;
+    Some(agreed)
+}
+
+// The domain of a service of such slices.
+fn make(alloc: Global, size: u64) -> Option<Elements> {
+    let description = described(agreed(size)?)?;
+    if Elements::fits(&description) {
         Domain::new(alloc, DOMAIN, &description, 5).ok()
     } else {
         None
@@ -73,52 +78,48 @@ enum Call {
 fn publish(
     rt: &impl Abort,
     alloc: Global,
-    domain: &mut Domain<Byte, Any>,
+    domain: &mut Elements,
     case: &Case,
-) -> Result<Publisher<Byte, Any>, PublisherCreateError> {
+) -> Option<Publisher<Byte, Any>> {
     let builder = publisher_builder(domain, 4, 3)
         .max_loaned_samples(1)
         .allocation_strategy(case.allocation)
-        .initial_max_slice_len(case.first);
-    assert!(rt; builder.holds(domain));
-    builder.create_slice(alloc, domain)
+        .initial_max_slice_len(case.first)
+        .set_handlers(Nobody);
+    must_be_there(rt, builder.holds(domain));
+    builder.create_slice(alloc, domain).ok()
 }
 
 // A subscriber.
 fn subscribe(
     rt: &impl Abort,
     alloc: Global,
-    domain: &mut Domain<Byte, Any>,
-) -> Result<Subscriber<Byte, Any>, SubscriberCreateError> {
-    let builder = subscriber_builder(domain, 4, 3);
-    assert!(rt; builder.holds(domain));
-    builder.create_slice(alloc, domain)
+    domain: &mut Elements,
+) -> Option<Subscriber<Byte, Any>> {
+    let builder = subscriber_builder(domain, 4, 3).set_handler(Nobody);
+    must_be_there(rt, builder.holds(domain));
+    builder.create_slice(alloc, domain).ok()
 }
 
 // Lends so many elements.
 fn lends(
     rt: &impl Abort,
     alloc: Global,
-    domain: &mut Domain<Byte, Any>,
+    domain: &mut Elements,
     publisher: &Publisher<Byte, Any>,
     len: usize,
 ) -> Result<SampleMutUninit<Byte, Any>, LoanError> {
-    assert!(rt; publisher.holds(domain));
-    assert!(rt; !publisher.is_blocked(domain));
+    must_be_free(rt, publisher.holds(domain), publisher.is_blocked(domain));
     publisher.loan_custom_payload(alloc, domain, len)
 }
 
-// How many bytes were lent; the header must say so many elements. They are given up again.
-fn is_lent(
-    rt: &impl Abort,
+// How many bytes were lent. They are given up again.
+fn bytes_of(
     lent: Result<SampleMutUninit<Byte, Any>, LoanError>,
-    domain: &mut Domain<Byte, Any>,
-    len: usize,
+    domain: &mut Elements,
 ) -> Result<usize, LoanError> {
     match lent {
         Ok(loan) => {
-            assert!(rt; loan.holds(domain));
-            assert!(rt; loan.header(domain).number_of_elements == len as u64);
             let bytes = loan.len();
             loan.drop_with(domain);
             Ok(bytes)
@@ -128,7 +129,7 @@ fn is_lent(
 }
 
 // How many bytes fit in a slot of the publisher.
-fn room(domain: &Domain<Byte, Any>, publisher: &Publisher<Byte, Any>) -> Option<usize> {
+fn room(domain: &Elements, publisher: &Publisher<Byte, Any>) -> Option<usize> {
     let ports = calls::ports(domain, publisher.domain())?;
     let publisher = ports.publishers.get(publisher.id())?;
     Some(publisher.sender.room())
@@ -139,86 +140,94 @@ fn seven(_place: usize) -> CustomPayloadMarker {
     CustomPayloadMarker { byte: 7 }
 }
 
-// What was lent is written: bytes that are all 7.
-fn written(
-    rt: &impl Abort,
-    lent: Result<SampleMutUninit<Byte, Any>, LoanError>,
-    domain: &mut Domain<Byte, Any>,
-) -> Result<SampleMut<Byte, Any>, LoanError> {
-    match lent {
-        Ok(loan) => {
-            assert!(rt; loan.holds(domain));
-            Ok(loan.write_from_fn(domain, &mut seven))
+// How many mailboxes took what was sent, or why none did. A send that waits is let go, as one that can't be delivered.
+fn sent_to(
+    sent: Result<Sent<Byte, Any>, SendError>,
+    domain: &mut Elements,
+) -> Result<usize, SendError> {
+    match sent {
+        Ok(Sent::Delivered(delivered)) => Ok(delivered),
+        Ok(Sent::Blocked(blocked)) => {
+            blocked.drop_with(domain);
+            Err(SendError::UnableToDeliver)
         }
         Err(error) => Err(error),
     }
 }
 
-// To how many mailboxes so many elements are sent, or why to none.
+// To how many mailboxes a loan is sent, each of whose bytes is 7, or why to none.
 fn sends(
     rt: &impl Abort,
     alloc: Global,
-    domain: &mut Domain<Byte, Any>,
-    publisher: &Publisher<Byte, Any>,
-    len: usize,
+    domain: &mut Elements,
+    loan: SampleMutUninit<Byte, Any>,
 ) -> Result<usize, SendError> {
-    let lent = lends(rt, alloc, domain, publisher, len);
-    let lent = written(rt, lent, domain);
-    lent_to(rt, alloc, lent, domain)
+    must_be_there(rt, loan.holds(domain));
+    let sample = loan.write_from_fn(domain, &mut seven);
+    must_be_free(rt, sample.holds(domain), sample.is_blocked(domain));
+    sent_to(sample.send(alloc, domain), domain)
 }
 
-// How many elements and bytes came, of which the last one must be 7; they are released.
-fn taken(
+// How many elements and bytes came, and the last byte; they are released.
+type Came = (u64, usize, Option<Byte>);
+
+fn taken(rt: &impl Abort, domain: &mut Elements, sample: Sample<Byte, Any>) -> Came {
+    must_be_there(rt, sample.holds(domain));
+    let bytes = sample.payload(domain);
+    let elements = sample.header(domain).number_of_elements;
+    let came = (elements, bytes.len(), bytes.last().copied());
+    sample.release(domain);
+    came
+}
+
+// What comes next.
+fn receives(
     rt: &impl Abort,
-    received: Result<Option<Sample<Byte, Any>>, ReceiveError>,
-    domain: &mut Domain<Byte, Any>,
-) -> Option<(u64, usize)> {
-    match received {
-        Ok(Some(sample)) => {
-            assert!(rt; sample.holds(domain));
-            let bytes = sample.payload(domain);
-            let came = (sample.header(domain).number_of_elements, bytes.len());
-            let last = bytes.last().copied().unwrap_or(seven(0));
-            sample.release(domain);
-            if last.byte == 7 { Some(came) } else { None }
-        }
+    alloc: Global,
+    domain: &mut Elements,
+    subscriber: &Subscriber<Byte, Any>,
+) -> Option<Came> {
+    must_be_there(rt, subscriber.holds(domain));
+    match subscriber.receive_custom_payload(alloc, domain) {
+        Ok(Some(sample)) => Some(taken(rt, domain, sample)),
         Ok(None) => None,
         Err(_) => None,
     }
 }
 
-// How many elements and bytes come next.
-fn receives(
+// Whether so many elements are sent to one mailbox, and received as so many bytes.
+fn is_heard(
     rt: &impl Abort,
     alloc: Global,
-    domain: &mut Domain<Byte, Any>,
+    domain: &mut Elements,
+    lent: Result<SampleMutUninit<Byte, Any>, LoanError>,
     subscriber: &Subscriber<Byte, Any>,
-) -> Option<(u64, usize)> {
-    assert!(rt; subscriber.holds(domain));
-    taken(rt, subscriber.receive_custom_payload(alloc, domain), domain)
+    wanted: (usize, usize),
+) -> bool {
+    let Ok(loan) = lent else {
+        return false;
+    };
+    let last = if wanted.1 == 0 { None } else { Some(seven(0)) };
+    sends(rt, alloc, domain, loan) == Ok(1)
+        && receives(rt, alloc, domain, subscriber) == Some((wanted.0 as u64, wanted.1, last))
 }
 
 // What a send of no elements comes to.
 fn send_nothing(
     rt: &impl Abort,
     alloc: Global,
-    domain: &mut Domain<Byte, Any>,
+    domain: &mut Elements,
     publisher: &Publisher<Byte, Any>,
 ) -> Result<Sent<Byte, Any>, SendError> {
-    assert!(rt; publisher.holds(domain));
-    assert!(rt; !publisher.is_blocked(domain));
+    must_be_free(rt, publisher.holds(domain), publisher.is_blocked(domain));
     publisher.send_slice(alloc, domain, &[])
 }
 
 // Whether a send waits, also when it is tried again.
-fn waits(
-    rt: &impl Abort,
-    domain: &mut Domain<Byte, Any>,
-    sent: Result<Sent<Byte, Any>, SendError>,
-) -> bool {
+fn waits(rt: &impl Abort, sent: Result<Sent<Byte, Any>, SendError>, domain: &mut Elements) -> bool {
     match sent {
         Ok(Sent::Blocked(blocked)) => {
-            assert!(rt; blocked.holds(domain));
+            must_be_there(rt, blocked.holds(domain));
             sent_to(blocked.retry(domain, 5), domain) == Err(SendError::UnableToDeliver)
         }
         Ok(Sent::Delivered(_)) => false,
@@ -230,100 +239,77 @@ fn waits(
 fn goes(
     rt: &impl Abort,
     alloc: Global,
-    domain: &mut Domain<Byte, Any>,
+    domain: &mut Elements,
     publisher: &Publisher<Byte, Any>,
     subscriber: &Subscriber<Byte, Any>,
     call: &Call,
 ) -> bool {
     match *call {
         Call::Lends(len, bytes) => {
-            let lent = lends(rt, alloc, domain, publisher, len);
-            is_lent(rt, lent, domain, len) == bytes
+            bytes_of(lends(rt, alloc, domain, publisher, len), domain) == bytes
         }
         Call::Room(bytes) => room(domain, publisher) == Some(bytes),
-        Call::Sends(len, bytes) => sends(rt, alloc, domain, publisher, len) == Ok(1)
-            && receives(rt, alloc, domain, subscriber) == Some((len as u64, bytes)),
-        Call::SendsNothing => sent_to(send_nothing(rt, alloc, domain, publisher), domain) == Ok(1),
-        Call::Waits => {
-            let sent = send_nothing(rt, alloc, domain, publisher);
-            waits(rt, domain, sent)
+        Call::Sends(len, bytes) => {
+            let lent = lends(rt, alloc, domain, publisher, len);
+            is_heard(rt, alloc, domain, lent, subscriber, (len, bytes))
         }
+        Call::SendsNothing => sent_to(send_nothing(rt, alloc, domain, publisher), domain) == Ok(1),
+        Call::Waits => waits(rt, send_nothing(rt, alloc, domain, publisher), domain),
     }
 }
 
-// Each call must go so.
+// How many calls go so, one after another.
 fn go_on(
     rt: &impl Abort,
     alloc: Global,
-    domain: &mut Domain<Byte, Any>,
+    domain: &mut Elements,
     publisher: &Publisher<Byte, Any>,
     subscriber: &Subscriber<Byte, Any>,
-    case: &Case,
-) {
-    for (place, call) in case.calls.iter().enumerate() {
-        assert!(rt;
-            goes(rt, alloc, domain, publisher, subscriber, call),
-            "elements of {} bytes, call {place}",
-            case.size
-        );
-    }
-}
-
-// Whether a publisher leaves.
-fn publisher_left(domain: &mut Domain<Byte, Any>, publisher: Publisher<Byte, Any>) -> bool {
-    match publisher.drop_with(domain) {
-        Ok(()) => true,
-        Err(publisher) => {
-            let _ = publisher.into_port();
-            false
+    calls: &[Call],
+) -> usize {
+    for (place, call) in calls.iter().enumerate() {
+        if !goes(rt, alloc, domain, publisher, subscriber, call) {
+            return place;
         }
     }
+    calls.len()
 }
 
-// Whether a publisher comes, each call goes so, and it leaves.
+// How many calls go so with a new publisher.
 fn converse(
     rt: &impl Abort,
     alloc: Global,
-    domain: &mut Domain<Byte, Any>,
+    domain: &mut Elements,
     subscriber: &Subscriber<Byte, Any>,
     case: &Case,
-) -> bool {
+) -> usize {
     match publish(rt, alloc, domain, case) {
-        Ok(publisher) => {
-            go_on(rt, alloc, domain, &publisher, subscriber, case);
-            publisher_left(domain, publisher)
+        Some(publisher) => {
+            let gone = go_on(rt, alloc, domain, &publisher, subscriber, case.calls);
+            let _ = publisher.into_port();
+            gone
         }
-        Err(_) => false,
+        None => 0,
     }
 }
 
-// Whether a subscriber leaves.
-fn subscriber_left(domain: &mut Domain<Byte, Any>, subscriber: Subscriber<Byte, Any>) -> bool {
-    match subscriber.drop_with(domain) {
-        Ok(()) => true,
-        Err(subscriber) => {
-            let _ = subscriber.into_port();
-            false
-        }
-    }
-}
-
-// Whether a subscriber comes, a case goes so, and the subscriber leaves.
-fn goes_in(rt: &impl Abort, alloc: Global, domain: &mut Domain<Byte, Any>, case: &Case) -> bool {
+// How many calls go so with new ports.
+fn goes_in(rt: &impl Abort, alloc: Global, domain: &mut Elements, case: &Case) -> usize {
     match subscribe(rt, alloc, domain) {
-        Ok(subscriber) => {
+        Some(subscriber) => {
             let gone = converse(rt, alloc, domain, &subscriber, case);
-            subscriber_left(domain, subscriber) && gone
+            let _ = subscriber.into_port();
+            gone
         }
-        Err(_) => false,
+        None => 0,
     }
 }
 
-// Whether a case goes so in a new domain.
-fn go(rt: &impl Abort, alloc: Global, case: &Case) -> bool {
+// How many calls go so in a new domain.
+fn go(rt: &impl Abort, alloc: Global, case: &Case) -> usize {
     match make(alloc, case.size) {
         Some(mut domain) => goes_in(rt, alloc, &mut domain, case),
-        None => false,
+        None => 0,
     }
 }
 
@@ -476,13 +462,10 @@ const CASES: [Case; 10] = [
     EIGHT, POWERS, FITS, NOTHING, ONE, TWO, SEVEN, LARGE, LARGEST, ENDS,
 ];
 
-fn all_go(rt: &impl Abort, alloc: Global) {
-    for (place, case) in CASES.iter().enumerate() {
-        assert!(rt; go(rt, alloc, case), "case {place}");
-    }
-}
-
 #[test]
 fn elements_of_all_sizes_are_sent(rt: HostRuntime) {
-    all_go(&rt, rt.alloc());
+    for (place, case) in CASES.iter().enumerate() {
+        let gone = go(&rt, rt.alloc(), case);
+        assert!(&rt; gone == case.calls.len(), "case {place}, call {gone}");
+    }
 }

@@ -1,44 +1,44 @@
-//! Services of a hub, and their domains.
-use crate::{conversations, slices};
+//! Services of a hub.
+use crate::conversations;
+use crate::ports::must_be_there;
 use iox_describe::ServiceName;
 use iox_describe::pattern::PublishSubscribe;
-use iox_domain::Domain;
+use iox_domain::Nobody;
 use iox_hub_base::{Hub, HubBuilder, HubConfig, NodeHandle, PortFactory};
-use iox_negotiate::{Payload, ServiceBuilder};
+use iox_negotiate::ServiceBuilder;
 use std::alloc::{AllocError, Global};
 use std::process::Abort;
 use std::test::Fail;
 
-/// A hub of messages of `u64`, with a `u8` for a user header.
-pub(crate) type Messages = Hub<u64, u8>;
+/// A hub of messages of `u64`, with a `u8` for a user header, for whose ports nobody decides.
+pub(crate) type Messages = Hub<u64, u8, Nobody, Nobody>;
 
 /// A service of messages.
 pub(crate) type Service = PortFactory<PublishSubscribe>;
 
-/// How the hub is made.
-pub(crate) const CONFIG: HubConfig = HubConfig {
+// How the hub is made.
+const CONFIG: HubConfig = HubConfig {
     expired_connection_buffer: 5,
     id: 7,
 };
 
-// What is asked of a service of payload `P`: mailboxes of three messages, and numbers.
-fn asked<P: Payload>(
+// What is asked of the service: mailboxes of three messages, and numbers.
+fn asked(
     rt: &impl Abort,
     hub: &Messages,
     node: &NodeHandle,
-    name: &[u8],
 ) -> Result<ServiceBuilder<PublishSubscribe>, Fail> {
-    assert!(rt; hub.holds_node(node));
+    must_be_there(rt, hub.holds_node(node));
     Ok(
-        hub.service_builder(node, ServiceName::new(name)?)
-            .publish_subscribe::<P>()
+        hub.service_builder(node, ServiceName::new(b"A")?)
+            .publish_subscribe::<u64>()
             .user_header::<u8>()
             .subscriber_max_buffer_size(3)
             .sequence_numbers(true),
     )
 }
 
-/// How a node comes to a service.
+/// How a node comes to the service.
 #[derive(Clone, Copy)]
 pub(crate) enum How {
     Create,
@@ -46,17 +46,16 @@ pub(crate) enum How {
     OpenOrCreate,
 }
 
-/// A node comes to a service of payload `P`.
-pub(crate) fn come<P: Payload>(
+// A node comes to the service.
+fn come(
     rt: &impl Abort,
     alloc: Global,
     hub: &mut Messages,
     node: &NodeHandle,
     how: How,
-    name: &[u8],
 ) -> Result<Service, Fail> {
-    let builder = asked::<P>(rt, hub, node, name)?;
-    assert!(rt; builder.holds(hub));
+    let builder = asked(rt, hub, node)?;
+    must_be_there(rt, builder.holds(hub));
     Ok(match how {
         How::Create => builder.create_in(alloc, hub, Vec::new(alloc))?,
         How::Open => builder.open_in(alloc, hub, Vec::new(alloc))?,
@@ -65,88 +64,58 @@ pub(crate) fn come<P: Payload>(
 }
 
 /// A new node does.
-pub(crate) fn come_new<P: Payload>(
+pub(crate) fn come_new(
     rt: &impl Abort,
     alloc: Global,
     hub: &mut Messages,
     how: How,
 ) -> Result<Service, Fail> {
     let node = hub.new_node()?;
-    come::<P>(rt, alloc, hub, &node, how, b"A")
+    come(rt, alloc, hub, &node, how)
 }
 
-// Whether a service's domain is here.
-fn has_domain(rt: &impl Abort, hub: &Messages, service: &Service) -> bool {
-    assert!(rt; hub.holds(service));
-    hub.domain(service).is_some()
-}
-
-// Whether a domain is put back.
-fn is_put(hub: &mut Messages, domain: Domain<u64, u8>) -> bool {
-    hub.put_domain(domain).is_ok()
-}
-
-// Whether a service's domain is taken, isn't here then, and is here once it is put back.
-fn comes_back(rt: &impl Abort, hub: &mut Messages, service: &Service) -> bool {
-    assert!(rt; hub.holds(service));
-    match hub.take_domain(service) {
-        Ok(domain) => {
-            let gone = !has_domain(rt, hub, service);
-            is_put(hub, domain) && gone && has_domain(rt, hub, service)
-        }
-        Err(_) => false,
-    }
-}
-
-// Whether a service is closed.
+// Whether the service is closed.
 fn is_closed(rt: &impl Abort, hub: &mut Messages, service: Service) -> bool {
-    assert!(rt; hub.holds(&service));
+    must_be_there(rt, hub.holds(&service));
     hub.close(service).is_ok()
 }
 
-// Whether two who came to a service close it.
-fn both_close(rt: &impl Abort, hub: &mut Messages, first: Service, second: Service) -> bool {
-    let closed = is_closed(rt, hub, second);
-    is_closed(rt, hub, first) && closed
-}
-
-// A service is created, its domain taken and put back, and the service opened once more.
-fn twice(
+// Whether a node that comes to the service twice can close it twice.
+fn comes_and_goes(
     rt: &impl Abort,
     alloc: Global,
     hub: &mut Messages,
     node: &NodeHandle,
-) -> Result<(), Fail> {
-    let first = come::<u64>(rt, alloc, hub, node, How::OpenOrCreate, b"A")?;
-    assert!(rt; comes_back(rt, hub, &first));
-    let second = come::<u64>(rt, alloc, hub, node, How::OpenOrCreate, b"A")?;
-    assert!(rt; both_close(rt, hub, first, second));
-    Ok(())
+    life: (How, How),
+) -> Result<bool, Fail> {
+    let first = come(rt, alloc, hub, node, life.0)?;
+    let second = come(rt, alloc, hub, node, life.1)?;
+    Ok(is_closed(rt, hub, second) && is_closed(rt, hub, first))
 }
 
-// A service of other messages has no domain.
-fn of_others(
-    rt: &impl Abort,
-    alloc: Global,
-    hub: &mut Messages,
-    node: &NodeHandle,
-) -> Result<(), Fail> {
-    let smaller = come::<u32>(rt, alloc, hub, node, How::Create, b"B")?;
-    assert!(rt; !has_domain(rt, hub, &smaller));
-    assert!(rt; is_closed(rt, hub, smaller));
-    Ok(())
-}
+// Lives of the service. Each begins anew.
+const LIVES: [(How, How); 2] = [
+    (How::Create, How::Open),
+    (How::OpenOrCreate, How::OpenOrCreate),
+];
 
 // Whether the first node of the hub displays so.
 fn is_shown(alloc: Global, node: &NodeHandle) -> Result<bool, AllocError> {
     Ok(format!(in alloc; "{node:?}")?.as_str() == "NodeHandle { hub: 7, number: 1 }")
 }
 
+// The service lives so often.
+fn live(rt: &impl Abort, alloc: Global, hub: &mut Messages, node: &NodeHandle) -> Result<(), Fail> {
+    for life in &LIVES {
+        assert!(rt; comes_and_goes(rt, alloc, hub, node, *life)?);
+    }
+    Ok(())
+}
+
 fn come_and_go(rt: &impl Abort, alloc: Global, hub: &mut Messages) -> Result<(), Fail> {
     let node = hub.new_node()?;
     assert!(rt; is_shown(alloc, &node)?);
-    twice(rt, alloc, hub, &node)?;
-    of_others(rt, alloc, hub, &node)
+    live(rt, alloc, hub, &node)
 }
 
 /// What is done in a new hub.
@@ -154,14 +123,12 @@ fn come_and_go(rt: &impl Abort, alloc: Global, hub: &mut Messages) -> Result<(),
 pub(crate) enum Course {
     Services,
     Values,
-    Slices,
 }
 
 fn take(rt: &impl Abort, alloc: Global, hub: &mut Messages, course: Course) -> Result<(), Fail> {
     match course {
         Course::Services => come_and_go(rt, alloc, hub),
         Course::Values => conversations::agree(rt, alloc, hub),
-        Course::Slices => slices::agree(rt, alloc, hub),
     }
 }
 

@@ -1,25 +1,40 @@
-//! Messages of slices go from node to node.
+//! Messages of slices.
 ghost use Rattle.std.specs.Prelude.{◌≤◌};
 
-use crate::ports::{lent_to, publisher_leaves, sent_to, subscriber_leaves};
-use crate::services::{Course, How, Messages, Service, come_new, go};
-use iox_delivery::slices::{Publisher, Sample, SampleMut, SampleMutUninit, Subscriber};
-use iox_delivery_factories::PortFactoryPublisher;
-use iox_domain_values::{
-    LoanError, PreallocatedSamplesFn, PreallocatedSamplesOverride, PublisherCreateError,
-    ReceiveError, SendError, SubscriberCreateError,
-};
-use iox_negotiate::Slice;
+use crate::custom::{DOMAIN, described};
+use crate::ports::{must_be_free, must_be_there};
+use iox_delivery::Sent;
+use iox_delivery::slices::{Publisher, Sample, SampleMutUninit, Subscriber};
+use iox_delivery_factories::{publisher_builder, subscriber_builder};
+use iox_describe_base::{Header, MessageTypeDetails, TypeVariant};
+use iox_describe_settings::publish_subscribe::StaticConfig;
+use iox_domain::{Domain, Nobody};
+use iox_domain_values::{PreallocatedSamplesFn, PreallocatedSamplesOverride};
 use std::alloc::Global;
 use std::cell::Cell;
 use std::process::Abort;
-use std::test::Fail;
 
 // How many values a slice has.
 const LENGTHS: [usize; 6] = [0, 1, 2, 7, 64, 1000];
 
 // As many values as any slice has.
 const SEVENS: [u64; 1000] = [7; 1000];
+
+// Slices of `u64`, with a `u8` for a user header, for whose ports nobody decides.
+type Slices = Domain<u64, u8, Nobody, Nobody>;
+
+// The domain of a service of slices, whose messages have numbers.
+fn make(alloc: Global) -> Option<Slices> {
+    let types = MessageTypeDetails::from::<Header, u8, u64>(TypeVariant::Dynamic);
+    let mut agreed = StaticConfig::new(types);
+    agreed.sequence_numbers = true;
+    let description = described(agreed)?;
+    if Slices::fits(&description) {
+        Domain::new(alloc, DOMAIN, &description, 5).ok()
+    } else {
+        None
+    }
+}
 
 // Keeps the number of places the first time that it is asked, and answers one place after that.
 #[derive(Drop)]
@@ -42,145 +57,85 @@ impl PreallocatedSamplesFn for KeptOnce {
 }
 
 // Who decides once how many slots a publisher gets.
-fn kept_once(alloc: Global) -> Result<PreallocatedSamplesOverride, PublisherCreateError> {
+fn kept_once(alloc: Global) -> Option<PreallocatedSamplesOverride> {
     let is_asked = Cell::new(false);
-    match Box::new(alloc, KeptOnce { is_asked }) {
-        Ok(object) => Ok(PreallocatedSamplesOverride::boxed(object)),
-        Err(_) => Err(PublisherCreateError::UnableToCreateDataSegment),
-    }
+    let object = Box::new(alloc, KeptOnce { is_asked }).ok()?;
+    Some(PreallocatedSamplesOverride::boxed(object))
 }
 
-// What makes publishers of slices of so many values at first, with so many slots as it is decided once. Their first message has number 41.
-fn overridden(
-    alloc: Global,
-    builder: PortFactoryPublisher<u64, u8>,
-    len: usize,
-) -> Result<PortFactoryPublisher<u64, u8>, PublisherCreateError> {
-    match kept_once(alloc) {
-        Ok(overriding) => Ok(
-            builder
-                .override_sample_preallocation(overriding)
-                .initial_max_slice_len(len)
-                .first_sequence(41),
-        ),
-        Err(error) => Err(error),
-    }
-}
-
-// A publisher that a builder makes.
-fn made(
-    rt: &impl Abort,
-    alloc: Global,
-    hub: &mut Messages,
-    builder: Result<PortFactoryPublisher<u64, u8>, PublisherCreateError>,
-) -> Result<Publisher<u64, u8>, PublisherCreateError> {
-    match builder {
-        Ok(builder) => {
-            assert!(rt; builder.holds(hub));
-            builder.create_slice(alloc, hub)
-        }
-        Err(error) => Err(error),
-    }
-}
-
-// A publisher of slices of so many values at first.
+// A publisher of slices of so many values at first, with so many slots as it is decided once. Its first message has number 41.
 fn publish(
     rt: &impl Abort,
     alloc: Global,
-    hub: &mut Messages,
-    service: &Service,
+    domain: &mut Slices,
     len: usize,
-) -> Result<Publisher<u64, u8>, PublisherCreateError> {
-    assert!(rt; hub.holds(service));
-    match hub.publisher_builder(service) {
-        Some(builder) => made(rt, alloc, hub, overridden(alloc, builder, len)),
-        None => Err(PublisherCreateError::ExceedsMaxSupportedPublishers),
-    }
+) -> Option<Publisher<u64, u8>> {
+    let overriding = kept_once(alloc)?;
+    let builder = publisher_builder(domain, 4, 3)
+        .override_sample_preallocation(overriding)
+        .initial_max_slice_len(len)
+        .first_sequence(41)
+        .set_handlers(Nobody);
+    must_be_there(rt, builder.holds(domain));
+    builder.create_slice(alloc, domain).ok()
 }
 
 // A subscriber of slices.
-fn subscribe(
+fn subscribe(rt: &impl Abort, alloc: Global, domain: &mut Slices) -> Option<Subscriber<u64, u8>> {
+    let builder = subscriber_builder(domain, 4, 3).set_handler(Nobody);
+    must_be_there(rt, builder.holds(domain));
+    builder.create_slice(alloc, domain).ok()
+}
+
+// Whether the header of a loan names the node and so many values.
+fn tells(rt: &impl Abort, domain: &Slices, loan: &SampleMutUninit<u64, u8>, len: usize) -> bool {
+    must_be_there(rt, loan.holds(domain));
+    let header = loan.header(domain);
+    (header.node_id, header.number_of_elements) == (4, len as u64)
+}
+
+// Whether so many values are lent, which are defaults or to be written. They are given up again.
+fn lends(
     rt: &impl Abort,
     alloc: Global,
-    hub: &mut Messages,
-    service: &Service,
-) -> Result<Subscriber<u64, u8>, SubscriberCreateError> {
-    assert!(rt; hub.holds(service));
-    let Some(builder) = hub.subscriber_builder(service) else {
-        return Err(SubscriberCreateError::ExceedsMaxSupportedSubscribers);
-    };
-    assert!(rt; builder.holds(hub));
-    builder.create_slice(alloc, hub)
-}
-
-// The place of a value, as the value.
-fn place(place: usize) -> u64 {
-    place as u64
-}
-
-// What was lent is written: each value is its place. Its header must name the node, the second one, and so many values.
-fn written(
-    rt: &impl Abort,
-    lent: Result<SampleMutUninit<u64, u8>, LoanError>,
-    hub: &mut Messages,
+    domain: &mut Slices,
+    publisher: &Publisher<u64, u8>,
+    are_defaults: bool,
     len: usize,
-) -> Result<SampleMut<u64, u8>, LoanError> {
-    match lent {
-        Ok(loan) => {
-            assert!(rt; loan.holds(hub));
-            let header = loan.header(hub);
-            assert!(rt; (header.node_id, header.number_of_elements) == (2, len as u64));
-            Ok(loan.write_from_fn(hub, &mut place))
-        }
-        Err(error) => Err(error),
+) -> bool {
+    must_be_free(rt, publisher.holds(domain), publisher.is_blocked(domain));
+    if are_defaults {
+        let Ok(sample) = publisher.loan_slice(alloc, domain, len) else {
+            return false;
+        };
+        sample.drop_with(domain);
+        return true;
     }
+    let Ok(loan) = publisher.loan_slice_uninit(alloc, domain, len) else {
+        return false;
+    };
+    let is = tells(rt, domain, &loan, len);
+    loan.drop_with(domain);
+    is
 }
 
-// What is sent.
-#[derive(Clone, Copy)]
-enum Values {
-    Defaults,
-    Places,
-    Sevens,
-}
-
-// To how many mailboxes a slice of so many values is sent, or why to none.
+// Whether so many values are sent to one mailbox.
 fn sends(
     rt: &impl Abort,
     alloc: Global,
-    hub: &mut Messages,
-    publisher: &Publisher<u64, u8>,
-    values: Values,
-    len: usize,
-) -> Result<usize, SendError> {
-    assert!(rt; publisher.holds(hub));
-    assert!(rt; !publisher.is_blocked(hub));
-    match values {
-        Values::Defaults => lent_to(rt, alloc, publisher.loan_slice(alloc, hub, len), hub),
-        Values::Places => {
-            let lent = written(rt, publisher.loan_slice_uninit(alloc, hub, len), hub, len);
-            lent_to(rt, alloc, lent, hub)
-        }
-        Values::Sevens => {
-            let sevens = SEVENS.get(..len).unwrap_or(&[]);
-            sent_to(publisher.send_slice(alloc, hub, sevens), hub)
-        }
-    }
-}
-
-// Three slices of so many values must be sent to one mailbox.
-fn are_sent(
-    rt: &impl Abort,
-    alloc: Global,
-    hub: &mut Messages,
+    domain: &mut Slices,
     publisher: &Publisher<u64, u8>,
     len: usize,
-) {
-    for values in [Values::Defaults, Values::Places, Values::Sevens] {
-        assert!(rt;
-            sends(rt, alloc, hub, publisher, values, len) == Ok(1),
-            "{len}"
-        );
+) -> bool {
+    must_be_free(rt, publisher.holds(domain), publisher.is_blocked(domain));
+    let values = SEVENS.get(..len).unwrap_or(&[]);
+    match publisher.send_slice(alloc, domain, values) {
+        Ok(Sent::Delivered(delivered)) => delivered == 1,
+        Ok(Sent::Blocked(blocked)) => {
+            blocked.drop_with(domain);
+            false
+        }
+        Err(_) => false,
     }
 }
 
@@ -188,98 +143,99 @@ fn are_sent(
 type Came = (usize, Option<u64>, Option<u64>);
 
 // What came; it is released again.
-fn taken(
-    rt: &impl Abort,
-    received: Result<Option<Sample<u64, u8>>, ReceiveError>,
-    hub: &mut Messages,
-) -> Option<Came> {
-    match received {
-        Ok(Some(sample)) => {
-            assert!(rt; sample.holds(hub));
-            let values = sample.payload(hub);
-            let number = sample.header(hub).sequence();
-            let came = (values.len(), values.last().copied(), number);
-            sample.release(hub);
-            Some(came)
-        }
-        Ok(None) => None,
-        Err(_) => None,
-    }
+fn taken(rt: &impl Abort, domain: &mut Slices, sample: Sample<u64, u8>) -> Came {
+    must_be_there(rt, sample.holds(domain));
+    let values = sample.payload(domain);
+    let number = sample.header(domain).sequence();
+    let came = (values.len(), values.last().copied(), number);
+    sample.release(domain);
+    came
 }
 
 // What comes next.
 fn receives(
     rt: &impl Abort,
     alloc: Global,
-    hub: &mut Messages,
+    domain: &mut Slices,
     subscriber: &Subscriber<u64, u8>,
 ) -> Option<Came> {
-    assert!(rt; subscriber.holds(hub));
-    taken(rt, subscriber.receive(alloc, hub), hub)
-}
-
-// The last of so many values, if there is one.
-fn last(len: usize, value: usize) -> Option<u64> {
-    if len == 0 { None } else { Some(value as u64) }
-}
-
-// They must be received, with the numbers from the first one on.
-fn are_received(
-    rt: &impl Abort,
-    alloc: Global,
-    hub: &mut Messages,
-    subscriber: &Subscriber<u64, u8>,
-    len: usize,
-) {
-    for (number, value) in [(41, 0), (42, len.saturating_sub(1)), (43, 7)] {
-        let wanted = Some((len, last(len, value), Some(number)));
-        assert!(rt;
-            receives(rt, alloc, hub, subscriber) == wanted,
-            "{len}, {number}"
-        );
+    must_be_there(rt, subscriber.holds(domain));
+    match subscriber.receive(alloc, domain) {
+        Ok(Some(sample)) => Some(taken(rt, domain, sample)),
+        Ok(None) => None,
+        Err(_) => None,
     }
 }
 
-// A publisher of slices of so many values must come and be heard; it leaves again.
+// Two slices of so many values, by their numbers.
+fn wanted(len: usize) -> [Option<Came>; 2] {
+    let last = if len == 0 { None } else { Some(7) };
+    [Some((len, last, Some(41))), Some((len, last, Some(42)))]
+}
+
+// Whether so many values are lent, and twice sent and received.
 fn is_heard(
     rt: &impl Abort,
     alloc: Global,
-    hub: &mut Messages,
-    service: &Service,
+    domain: &mut Slices,
+    publisher: &Publisher<u64, u8>,
     subscriber: &Subscriber<u64, u8>,
     len: usize,
-) {
-    let Ok(publisher) = publish(rt, alloc, hub, service, len) else {
-        panic!(rt; "no publisher comes: {len}");
-    };
-    are_sent(rt, alloc, hub, &publisher, len);
-    are_received(rt, alloc, hub, subscriber, len);
-    publisher_leaves(rt, hub, publisher);
+) -> bool {
+    let lent = [
+        lends(rt, alloc, domain, publisher, true, len),
+        lends(rt, alloc, domain, publisher, false, len),
+        sends(rt, alloc, domain, publisher, len),
+        sends(rt, alloc, domain, publisher, len),
+    ];
+    let came = [
+        receives(rt, alloc, domain, subscriber),
+        receives(rt, alloc, domain, subscriber),
+    ];
+    lent == [true; 4] && came == wanted(len)
 }
 
-// A publisher for each length must be heard by one subscriber.
-fn all_are_heard(
+// Whether a publisher comes and is heard.
+fn publishes_to(
     rt: &impl Abort,
     alloc: Global,
-    hub: &mut Messages,
-    service: &Service,
-) -> Result<(), Fail> {
-    let subscriber = subscribe(rt, alloc, hub, service)?;
-    for len in &LENGTHS {
-        is_heard(rt, alloc, hub, service, &subscriber, *len);
+    domain: &mut Slices,
+    subscriber: &Subscriber<u64, u8>,
+    len: usize,
+) -> bool {
+    match publish(rt, alloc, domain, len) {
+        Some(publisher) => {
+            let is = is_heard(rt, alloc, domain, &publisher, subscriber, len);
+            let _ = publisher.into_port();
+            is
+        }
+        None => false,
     }
-    subscriber_leaves(rt, hub, subscriber);
-    Ok(())
 }
 
-/// The second node creates a service of slices.
-pub(crate) fn agree(rt: &impl Abort, alloc: Global, hub: &mut Messages) -> Result<(), Fail> {
-    let _ = hub.new_node()?;
-    let service = come_new::<Slice<u64>>(rt, alloc, hub, How::Create)?;
-    all_are_heard(rt, alloc, hub, &service)
+// Whether a subscriber comes and hears a publisher.
+fn converse(rt: &impl Abort, alloc: Global, domain: &mut Slices, len: usize) -> bool {
+    match subscribe(rt, alloc, domain) {
+        Some(subscriber) => {
+            let is = publishes_to(rt, alloc, domain, &subscriber, len);
+            let _ = subscriber.into_port();
+            is
+        }
+        None => false,
+    }
+}
+
+// Whether slices of so many values go through a new domain.
+fn go(rt: &impl Abort, alloc: Global, len: usize) -> bool {
+    match make(alloc) {
+        Some(mut domain) => converse(rt, alloc, &mut domain, len),
+        None => false,
+    }
 }
 
 #[test]
-fn slices_of_all_lengths_are_sent(rt: HostRuntime) -> Result<(), Fail> {
-    go(&rt, rt.alloc(), Course::Slices)
+fn slices_of_all_lengths_are_sent(rt: HostRuntime) {
+    for len in &LENGTHS {
+        assert!(&rt; go(&rt, rt.alloc(), *len), "{len}");
+    }
 }

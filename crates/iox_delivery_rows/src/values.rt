@@ -179,10 +179,6 @@ fn hold(rt: &impl Abort, answers: &[Result<bool, AllocError>]) -> Result<(), All
 
 #[test]
 fn objects_are_asked_once_a_call(rt: HostRuntime) -> Result<(), AllocError> {
-    hold(&rt, &[is_asked(rt.alloc())])
-}
-
-#[test]
-fn objects_are_told_of_connections_and_places(rt: HostRuntime) -> Result<(), AllocError> {
-    hold(&rt, &[degrades(rt.alloc()), overrides(rt.alloc())])
+    let alloc = rt.alloc();
+    hold(&rt, &[is_asked(alloc), degrades(alloc), overrides(alloc)])
 }

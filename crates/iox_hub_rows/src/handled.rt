@@ -1,5 +1,5 @@
-//! Handlers that commands name by their places: what is asked of them, how often, and which are left.
-ghost use Rattle.std.specs.Prelude.{◌+◌, ◌<◌, ◌≤◌, ◌^◌, ⊤, length};
+//! Handlers that commands name by their places: what is asked of them, and how often. Lists of commands.
+ghost use Rattle.std.specs.Prelude.{◌≡◌, ◌<◌, ◌^◌, ⊤, true};
 ghost use Rattle.iox_hub_commands.specs.Numbers.{numbers_used};
 
 use iox_command::{Command, Reply};
@@ -8,20 +8,20 @@ use iox_domain_values::{
     DegradationCause, DegradationFn, DegradationHandler, DegradationInfo, Handlers,
 };
 use iox_hub::{GivenHandler, GivenHandlers, HandledCommand, run, step};
-use iox_hub_commands::{HubConfig, NumberedHub};
+use iox_hub_commands::{HubConfig, NumberedHub, RunReport};
 use iox_line::{Scratch, print_reply, read_command};
 use std::alloc::{AllocError, Global};
 use std::cell::Cell;
 use std::process::Abort;
 
-// A hub of messages of numbers, for whose ports boxed handlers may decide.
-type Numbers = NumberedHub<u64, u64, Handlers, DegradationHandler>;
+/// A hub of messages of numbers, for whose ports boxed handlers may decide.
+pub(crate) type Numbers = NumberedHub<u64, u64, Handlers, DegradationHandler>;
 
-// Handlers that are handed in.
-type Given = GivenHandlers<BackpressureHandler, DegradationHandler>;
+/// Handlers that are handed in.
+pub(crate) type Given = GivenHandlers<BackpressureHandler, DegradationHandler>;
 
-// Its list of expired connections holds one, where one sample of a publisher may be held.
-const CONFIG: HubConfig = HubConfig {
+/// Its list of expired connections holds one, where one sample of a publisher may be held.
+pub(crate) const CONFIG: HubConfig = HubConfig {
     expired_connection_buffer: 0,
     id: 0,
 };
@@ -73,10 +73,9 @@ fn hand_full(
     alloc: Global,
     given: &mut Given,
     actions: (BackpressureAction, BackpressureAction),
-) -> Result<(), AllocError> {
+) -> Result<u64, AllocError> {
     let object = Box::new(alloc, InTurn::new(actions))?;
-    given.hand_in(GivenHandler::Backpressure(BackpressureHandler::boxed(object)))?;
-    Ok(())
+    given.hand_in(GivenHandler::Backpressure(BackpressureHandler::boxed(object)))
 }
 
 // Hands in an object for connections that failed.
@@ -84,10 +83,9 @@ fn hand_failure(
     alloc: Global,
     given: &mut Given,
     actions: (DegradationAction, DegradationAction),
-) -> Result<(), AllocError> {
+) -> Result<u64, AllocError> {
     let object = Box::new(alloc, InTurn::new(actions))?;
-    given.hand_in(GivenHandler::Degradation(DegradationHandler::boxed(object)))?;
-    Ok(())
+    given.hand_in(GivenHandler::Degradation(DegradationHandler::boxed(object)))
 }
 
 // What those for full mailboxes do, at places 1 to 4.
@@ -116,17 +114,8 @@ const AT_FAILURE: [(DegradationAction, DegradationAction); 2] = [
     ),
 ];
 
-// Hands in six objects: at places 1 to 4 for full mailboxes, at places 5 and 6 for connections that failed.
-fn hand_in(alloc: Global, given: &mut Given) -> Result<(), AllocError> {
-    for actions in &AT_FULL {
-        hand_full(alloc, given, *actions)?;
-    }
-    hand_failure(alloc, given, AT_FAILURE[0])?;
-    hand_failure(alloc, given, AT_FAILURE[1])
-}
-
-// A line, the places that it names, at a full mailbox and where a connection failed, and the reply.
-type Row = (&'static str, Option<u64>, Option<u64>, &'static str);
+/// A line, the places that it names, at a full mailbox and where a connection failed, and the reply.
+pub(crate) type Row = (&'static str, Option<u64>, Option<u64>, &'static str);
 
 // The command of a line, with the places that are named.
 fn named<'a>(
@@ -160,6 +149,17 @@ fn is_reply(alloc: Global, reply: &Reply<u64>, wanted: &str) -> Result<bool, All
     Ok(line.as_slice() == wanted.as_bytes())
 }
 
+// Whether fewer than a thousand numbers of each kind were given out.
+fn are_few(hub: &Numbers) -> bool
+    ensures { result ≡ true → numbers_used hub.now < 2 ^ 32 }
+{
+    hub.factories.made.next_number() < 1000
+        && hub.made.publishers.next_number() < 1000
+        && hub.made.subscribers.next_number() < 1000
+        && hub.made.loans.next_number() < 1000
+        && hub.made.samples.next_number() < 1000
+}
+
 // Whether a line is replied to so.
 fn goes(
     alloc: Global,
@@ -167,10 +167,10 @@ fn goes(
     given: &mut Given,
     scratch: &mut Scratch,
     row: &Row,
-) -> Result<bool, AllocError>
-    requires { numbers_used hub.old + 1 < 2 ^ 64 }
-    ensures { numbers_used hub.new ≤ numbers_used hub.old + 1 }
-{
+) -> Result<bool, AllocError> {
+    if !are_few(hub) {
+        return Ok(false);
+    }
     let (line, at_full, at_failure, wanted) = *row;
     let Ok(command) = read_command(alloc, line.as_bytes(), scratch)? else {
         return Ok(false);
@@ -179,70 +179,152 @@ fn goes(
     is_reply(alloc, &reply, wanted)
 }
 
-// Each line must be replied to as its row says.
-fn go_on(
+// How many lines are replied to as their rows say, one after another.
+fn number_gone(
+    alloc: Global,
+    hub: &mut Numbers,
+    given: &mut Given,
+    scratch: &mut Scratch,
+    rows: &[Row],
+) -> Result<usize, AllocError> {
+    for (place, row) in rows.iter().enumerate() {
+        if !goes(alloc, hub, given, scratch, row)? {
+            return Ok(place);
+        }
+    }
+    Ok(rows.len())
+}
+
+/// Each line must be replied to as its row says.
+pub(crate) fn go_on(
     rt: &impl Abort,
     alloc: Global,
     hub: &mut Numbers,
     given: &mut Given,
     rows: &[Row],
-) -> Result<(), AllocError>
-    requires { numbers_used hub.old + length rows.now < 2 ^ 32 }
+) -> Result<(), AllocError> {
+    let gone = number_gone(alloc, hub, given, &mut Scratch::new(alloc)?, rows)?;
+    assert!(rt; gone == rows.len(), "row {gone}");
+    Ok(())
+}
+
+// A loan, for whose number the publisher made room.
+const LOAN: Command<'static, u64> = Command::Loan {
+    publisher: 1,
+    length: 1,
+};
+
+// So many loans.
+fn loans(alloc: Global, len: usize) -> Result<Vec<Command<'static, u64>>, AllocError> {
+    let mut commands = Vec::new(alloc);
+    for _ in 0..len {
+        commands.push(LOAN)?;
+    }
+    Ok(commands)
+}
+
+// So many nodes.
+fn nodes(alloc: Global, len: usize) -> Result<Vec<HandledCommand<'static, u64>>, AllocError> {
+    let mut commands = Vec::new(alloc);
+    for _ in 0..len {
+        commands.push(HandledCommand::Plain(Command::Node))?;
+    }
+    Ok(commands)
+}
+
+// Whether so many commands were replied to.
+fn is_whole(report: &RunReport<u64>, len: usize) -> bool {
+    !report.stopped && report.replies.len() == len
+}
+
+// Whether each of so many commands is replied to, in a run with handlers or without.
+fn runs(
+    alloc: Global,
+    hub: &mut Numbers,
+    given: &mut Given,
+    len: usize,
+    with_handlers: bool,
+) -> Result<bool, AllocError>
+    requires { numbers_used hub.old < 2 ^ 32 }
 {
-    let mut scratch = Scratch::new(alloc)?;
-    for (place, row) in rows.iter().enumerate() {
-        assert!(rt; goes(alloc, hub, given, &mut scratch, row)?, "{place}");
+    if with_handlers {
+        let commands = nodes(alloc, len)?;
+        Ok(is_whole(&run(hub, alloc, commands, given), len))
+    } else {
+        let commands = loans(alloc, len)?;
+        Ok(is_whole(&hub.run(alloc, commands), len))
+    }
+}
+
+// Hands in four objects for full mailboxes, and then two for connections that failed.
+fn hand_in(alloc: Global, given: &mut Given) -> Result<u64, AllocError> {
+    for actions in &AT_FULL {
+        hand_full(alloc, given, *actions)?;
+    }
+    hand_failure(alloc, given, AT_FAILURE[0])?;
+    hand_failure(alloc, given, AT_FAILURE[1])
+}
+
+// Hands in so many objects for connections that failed.
+fn hand_in_more(alloc: Global, given: &mut Given, len: usize) -> Result<(), AllocError> {
+    for _ in 0..len {
+        hand_failure(alloc, given, AT_FAILURE[0])?;
     }
     Ok(())
 }
 
-// Lines, and which places have objects left behind them.
-struct Case {
-    rows: &'static [Row],
-    left: &'static [bool],
+// Each line must be replied to as its row says, and then each of so many commands, with as many more objects handed in.
+fn take(
+    rt: &impl Abort,
+    alloc: Global,
+    hub: &mut Numbers,
+    given: &mut Given,
+    rows: &[Row],
+    len: usize,
+    with_handlers: bool,
+) -> Result<(), AllocError> {
+    hand_in(alloc, given)?;
+    hand_in_more(alloc, given, len)?;
+    go_on(rt, alloc, hub, given, rows)?;
+    assert!(rt; are_few(hub));
+    assert!(rt; runs(alloc, hub, given, len, with_handlers)?, "{len}");
+    Ok(())
 }
 
-// Whether just at these places objects are left.
-fn are_left(given: &Given, left: &[bool]) -> bool {
-    for (place, kept) in given.places.iter().enumerate() {
-        if left.get(place) != Some(&kept.is_some()) {
-            return false;
-        }
-    }
-    given.places.len() == left.len()
-}
-
-// On a new hub each line must be replied to as its row says.
+// The same on a new hub.
 fn go_anew(
     rt: &impl Abort,
     alloc: Global,
     given: &mut Given,
     rows: &[Row],
+    len: usize,
+    with_handlers: bool,
 ) -> Result<(), AllocError> {
-    assert!(rt; rows.len() < 1000);
-    go_on(rt, alloc, &mut Numbers::new(alloc, CONFIG), given, rows)
+    take(
+        rt,
+        alloc,
+        &mut Numbers::new(alloc, CONFIG),
+        given,
+        rows,
+        len,
+        with_handlers,
+    )
 }
 
-// With six objects handed in each line must, and of the objects these must be left.
-fn go_with(
+// The same where no objects were handed in before.
+fn go(
     rt: &impl Abort,
     alloc: Global,
-    given: &mut Given,
-    case: &Case,
+    rows: &[Row],
+    len: usize,
+    with_handlers: bool,
 ) -> Result<(), AllocError> {
-    hand_in(alloc, given)?;
-    go_anew(rt, alloc, given, case.rows)?;
-    assert!(rt; are_left(given, case.left));
-    Ok(())
-}
-
-fn go(rt: &impl Abort, alloc: Global, case: &Case) -> Result<(), AllocError> {
-    go_with(rt, alloc, &mut Given::new(alloc), case)
+    go_anew(rt, alloc, &mut Given::new(alloc), rows, len, with_handlers)
 }
 
 // A full mailbox of a service without overflow is asked of the object that the publisher took, and of no action that the command names:
 // once a try, and not where the mailbox has room. Where each connection is made, none is asked about it.
-const FULL: [Row; 27] = [
+const FULL: &[Row] = &[
     ("node", None, None, "ok n1"),
     (
         "create n1 ps A overflow=0 buffer=1 publishers=5",
@@ -288,7 +370,7 @@ const FULL: [Row; 27] = [
 ];
 
 // A connection that fails is asked of the object that the subscriber took: once at each call that tries it, and not where it is made.
-const FAILURE: [Row; 25] = [
+const FAILURE: &[Row] = &[
     ("node", None, None, "ok n1"),
     (
         "create n1 ps A publishers=1 borrowed=1",
@@ -336,159 +418,27 @@ const FAILURE: [Row; 25] = [
     ),
 ];
 
-// Skipped are commands that name place 0, a place past the last, one of the other kind, or an empty one; also where they name another that
-// has what they want. They take nothing, nor do those that are skipped for their factory.
-const SKIPPED: [Row; 17] = [
-    ("node", None, None, "ok n1"),
-    ("create n1 ps A publishers=2", None, None, "ok f1"),
-    ("create n1 ev B", None, None, "ok f2"),
-    ("publisher f1", Some(0), None, "skip"),
-    ("publisher f1", Some(7), None, "skip"),
-    ("publisher f1", Some(18446744073709551615), None, "skip"),
-    ("publisher f1", Some(5), None, "skip"),
-    ("publisher f1", None, Some(1), "skip"),
-    ("publisher f1", Some(1), Some(2), "skip"),
-    ("publisher f1", Some(6), Some(6), "skip"),
-    ("subscriber f1", None, Some(0), "skip"),
-    ("subscriber f1", None, Some(2), "skip"),
-    ("publisher f2", Some(1), Some(5), "skip"),
-    ("publisher f3", Some(1), None, "skip"),
-    ("subscriber f2", None, Some(5), "skip"),
-    ("publisher f1", Some(1), Some(5), "ok p1"),
-    ("publisher f1", Some(1), None, "skip"),
-];
-
-// A port that is refused has spent its objects.
-const REFUSED: [Row; 8] = [
-    ("node", None, None, "ok n1"),
-    (
-        "create n1 ps A publishers=1 subscribers=1 buffer=2",
-        None,
-        None,
-        "ok f1",
-    ),
-    ("publisher f1", None, None, "ok p1"),
-    (
-        "publisher f1",
-        Some(1),
-        Some(5),
-        "err PublisherCreateError::ExceedsMaxSupportedPublishers",
-    ),
-    (
-        "subscriber f1 buffer=3",
-        None,
-        Some(6),
-        "err SubscriberCreateError::BufferSizeExceedsMaxSupportedBufferSizeOfService",
-    ),
-    ("subscriber f1", None, Some(6), "skip"),
-    ("leave p1", None, None, "ok"),
-    ("publisher f1", Some(1), None, "skip"),
-];
-
-const CASES: [Case; 4] = [
-    Case {
-        rows: &FULL,
-        left: &[false, false, false, false, true, false],
-    },
-    Case {
-        rows: &FAILURE,
-        left: &[true, true, true, true, false, false],
-    },
-    Case {
-        rows: &SKIPPED,
-        left: &[false, true, true, true, false, true],
-    },
-    Case {
-        rows: &REFUSED,
-        left: &[false, true, true, true, false, false],
-    },
-];
-
-fn all_go(rt: &impl Abort, alloc: Global) -> Result<(), AllocError> {
-    for case in &CASES {
-        go(rt, alloc, case)?;
-    }
-    Ok(())
-}
-
 #[test]
 fn handlers_that_are_named_are_asked(rt: HostRuntime) -> Result<(), AllocError> {
-    all_go(&rt, rt.alloc())
+    go(&rt, rt.alloc(), FULL, 0, true)?;
+    go(&rt, rt.alloc(), FAILURE, 0, true)
 }
 
-// How many commands are run, with as many objects handed in.
+// How many commands are run, with as many more objects handed in.
 const LENGTHS: [usize; 6] = [0, 1, 2, 7, 64, 1000];
 
-// A loan, for whose number a run makes room, of a publisher that isn't there.
-const LOAN: Command<'static, u64> = Command::Loan {
-    publisher: 1,
-    length: 1,
-};
-
-// So many loans.
-fn loans(alloc: Global, len: usize) -> Result<Vec<Command<'static, u64>>, AllocError> {
-    let mut commands = Vec::new(alloc);
-    for _ in 0..len {
-        commands.push(LOAN)?;
-    }
-    Ok(commands)
-}
-
-// So many nodes, and behind each a loan.
-fn nodes(alloc: Global, len: usize) -> Result<Vec<HandledCommand<'static, u64>>, AllocError> {
-    let mut commands = Vec::new(alloc);
-    for _ in 0..len {
-        commands.push(HandledCommand::Plain(Command::Node))?;
-        commands.push(HandledCommand::Plain(LOAN))?;
-    }
-    Ok(commands)
-}
-
-// So many objects.
-fn objects(alloc: Global, len: usize) -> Result<Given, AllocError> {
-    let mut given = Given::new(alloc);
-    for _ in 0..len {
-        hand_failure(alloc, &mut given, AT_FAILURE[0])?;
-    }
-    Ok(given)
-}
-
-// Whether all these are replied to on a new hub, which are two for each of so many objects, and all of those are left.
-fn is_run(
-    alloc: Global,
-    given: &mut Given,
-    commands: Vec<HandledCommand<'static, u64>>,
-    len: usize,
-) -> bool {
-    let report = run(&mut Numbers::new(alloc, CONFIG), alloc, commands, given);
-    !report.stopped && report.replies.len() / 2 == len && given.places.len() == len
-}
-
-// Whether as many commands are replied to, and as many objects are left.
-fn runs(alloc: Global, len: usize) -> Result<bool, AllocError> {
-    let commands = nodes(alloc, len)?;
-    match objects(alloc, len) {
-        Ok(mut given) => Ok(is_run(alloc, &mut given, commands, len)),
-        Err(error) => Err(error),
-    }
-}
-
-// Whether so many loans are replied to in a run without handlers.
-fn is_run_alone(alloc: Global, commands: Vec<Command<'static, u64>>, len: usize) -> bool {
-    let report = NumberedHub::<u64, u64>::new(alloc, CONFIG).run(alloc, commands);
-    !report.stopped && report.replies.len() == len
-}
-
-// Whether as many are.
-fn runs_alone(alloc: Global, len: usize) -> Result<bool, AllocError> {
-    Ok(is_run_alone(alloc, loans(alloc, len)?, len))
-}
+// A publisher comes.
+const PUBLISHER: &[Row] = &[
+    ("node", None, None, "ok n1"),
+    ("create n1 ps A", None, None, "ok f1"),
+    ("publisher f1", None, None, "ok p1"),
+];
 
 #[test]
 fn lists_of_commands_are_run(rt: HostRuntime) -> Result<(), AllocError> {
     for len in &LENGTHS {
-        assert!(rt; runs(rt.alloc(), *len)?, "{len}");
-        assert!(rt; runs_alone(rt.alloc(), *len)?, "{len} alone");
+        go(&rt, rt.alloc(), PUBLISHER, *len, true)?;
+        go(&rt, rt.alloc(), PUBLISHER, *len, false)?;
     }
     Ok(())
 }

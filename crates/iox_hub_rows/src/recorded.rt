@@ -233,8 +233,8 @@ fn converse(
     is_asked && goes && fits && publisher_left && subscriber_left
 }
 
-fn goes(alloc: Global, values: &[u64]) -> bool {
-    let mut hub = Recorded::new(alloc, HubConfig::default());
+// Whether a service is opened, and messages go through it.
+fn begin(alloc: Global, hub: &mut Recorded, values: &[u64]) -> bool {
     let Ok(node) = hub.new_node() else {
         return false;
     };
@@ -242,9 +242,18 @@ fn goes(alloc: Global, values: &[u64]) -> bool {
         return false;
     };
     match hub.open_or_create(alloc, &node, name, &SERVICE, AttributeVerifier::new()) {
-        Some(Ok(service)) => converse(alloc, &mut hub, &service, values),
+        Some(Ok(service)) => converse(alloc, hub, &service, values),
         _ => false,
     }
+}
+
+// Whether that goes well in a new hub.
+fn goes(alloc: Global, values: &[u64]) -> bool {
+    begin(
+        alloc,
+        &mut Recorded::new(alloc, HubConfig::default()),
+        values,
+    )
 }
 
 #[test]
