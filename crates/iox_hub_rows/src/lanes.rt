@@ -1,0 +1,149 @@
+//! The domain of a service goes by lanes for a while, in a hub that commands drive.
+use crate::handled::{CONFIG, Given, Numbers, Row, go_on};
+use iox_container::by_number::Numbered;
+use iox_hub::prelude::*;
+use iox_hub::service::Domain;
+use iox_hub_commands::services::MadeFactory;
+use iox_lanes::{Call, Entry, Move, Party, into_lanes};
+use std::alloc::AllocError;
+use std::process::Abort;
+use std::test::Fail;
+
+// A publisher has two slots, and a message waits in one.
+const BEFORE: [Row; 3] = [
+    ("publisher f1 slots=2", None, None, "ok p1"),
+    ("subscriber f1", None, None, "ok s1"),
+    ("put p1 10", None, None, "ok 1"),
+];
+
+// Of a domain that is out each command is skipped, and its service is in use; all else goes on.
+const MEANWHILE: [Row; 5] = [
+    ("put p1 20", None, None, "skip"),
+    ("receive s1", None, None, "skip"),
+    ("publisher f1", None, None, "skip"),
+    ("close f1", None, None, "err CloseError::StillInUse"),
+    ("node", None, None, "ok n2"),
+];
+
+// What waited before comes first, then what lanes sent, and then what is sent behind it.
+const BEHIND: [Row; 7] = [
+    ("receive s1", None, None, "ok m1 10"),
+    ("release m1", None, None, "ok"),
+    ("receive s1", None, None, "ok m2 30"),
+    ("receive s1", None, None, "none"),
+    ("put p1 40", None, None, "ok 1"),
+    ("receive s1", None, None, "ok m3 40"),
+    ("publisher f1", None, None, "ok p2"),
+];
+
+// A factory goes by the next number.
+fn insert(
+    rt: &impl Abort,
+    table: &mut Numbered<MadeFactory>,
+    factory: MadeFactory,
+) -> Result<(), AllocError> {
+    table.reserve(1)?;
+    assert!(rt; table.next_number() < 1000);
+    assert!(rt; table.len() < table.room());
+    table.insert_next(factory);
+    Ok(())
+}
+
+// A service of single values is created: those that commands create are of slices.
+fn create(
+    rt: &impl Abort,
+    alloc: Global,
+    hub: &mut Hub<u64, u64>,
+) -> Result<PortFactory<PublishSubscribe>, Fail> {
+    let node = hub.new_node()?;
+    assert!(rt; hub.holds_node(&node));
+    let asked = hub
+        .service_builder(&node, ServiceName::new(b"A")?)
+        .publish_subscribe::<u64>()
+        .user_header::<u64>();
+    assert!(rt; asked.holds(hub));
+    Ok(asked.create_in(alloc, hub, Vec::new(alloc))?)
+}
+
+// The domain of the service, if it is there.
+fn take(rt: &impl Abort, hub: &mut Numbers) -> Option<Domain<u64, u64>> {
+    let service = hub.factories.publish_subscribe(1)?;
+    assert!(rt; hub.hub.holds(service));
+    hub.hub.take_domain(service).ok()
+}
+
+// A whole call of the publisher: it goes on more often than any call takes. What doesn't fit is left out.
+fn add(entries: &mut Vec<Entry>, call: Call) -> Result<(), AllocError> {
+    let party = Party::Publisher(0);
+    entries.push(Entry {
+        party,
+        step: Move::Begin(call),
+    })?;
+    for _ in 0..30 {
+        entries.push(Entry {
+            party,
+            step: Move::GoOn,
+        })?;
+    }
+    Ok(())
+}
+
+// A value is sent in the slot that is lent.
+fn schedule(alloc: Global) -> Result<Vec<Entry>, AllocError> {
+    let mut entries = Vec::new(alloc);
+    add(&mut entries, Call::LoanUninit)?;
+    for slot in 0..2u64 {
+        add(&mut entries, Call::write(alloc, slot, &30u64, &0u64)?)?;
+        add(&mut entries, Call::Send { loan: slot })?;
+    }
+    Ok(entries)
+}
+
+// The domain, once its lanes made these entries; none where it doesn't become lanes, or they no domain.
+fn gone_by(alloc: Global, entries: &[Entry], domain: Domain<u64, u64>) -> Option<Domain<u64, u64>> {
+    let mut opened = into_lanes(alloc, domain).ok()?;
+    opened.lanes.run(entries);
+    opened.into_domain().ok()
+}
+
+// Whether the domain goes by lanes, behind commands of its hub, and is put back there.
+fn goes_by_lanes(
+    rt: &impl Abort,
+    alloc: Global,
+    hub: &mut Numbers,
+    given: &mut Given,
+    entries: &[Entry],
+) -> Result<bool, AllocError> {
+    let Some(domain) = take(rt, hub) else {
+        return Ok(false);
+    };
+    let went = go_on(rt, alloc, hub, given, &MEANWHILE);
+    let is_back = match gone_by(alloc, entries, domain) {
+        Some(domain) => hub.hub.put_domain(domain).is_ok(),
+        None => false,
+    };
+    went?;
+    Ok(is_back)
+}
+
+fn go(rt: &impl Abort, alloc: Global, hub: &mut Numbers, given: &mut Given) -> Result<(), Fail> {
+    let service = create(rt, alloc, &mut hub.hub)?;
+    let factory = MadeFactory::PublishSubscribe(service);
+    insert(rt, &mut hub.factories.made, factory)?;
+    go_on(rt, alloc, hub, given, &BEFORE)?;
+    let entries = schedule(alloc)?;
+    assert!(rt; goes_by_lanes(rt, alloc, hub, given, entries.as_slice())?);
+    go_on(rt, alloc, hub, given, &BEHIND)?;
+    Ok(())
+}
+
+#[test]
+fn a_service_of_commands_goes_by_lanes(rt: HostRuntime) -> Result<(), Fail> {
+    let alloc = rt.alloc();
+    go(
+        &rt,
+        alloc,
+        &mut Numbers::new(alloc, CONFIG),
+        &mut Given::new(alloc),
+    )
+}
