@@ -9,6 +9,11 @@ pub(crate) fn hold(rt: &impl Abort, answer: Result<bool, AllocError>) -> Result<
     Ok(())
 }
 
+/// What goes wherever memory is found for it: else that was refused.
+pub(crate) fn in_memory(goes: bool) -> Result<bool, AllocError> {
+    if goes { Ok(true) } else { Err(AllocError) }
+}
+
 /// Whether each value displays as the text beside it.
 pub(crate) fn display<E: Display>(alloc: Global, rows: &[(E, &str)]) -> Result<bool, AllocError> {
     for row in rows {

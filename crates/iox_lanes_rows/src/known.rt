@@ -1,46 +1,23 @@
-//! What is known of the ports of lanes beside them: what was written, sent and received, and a plain mailbox for each connection.
-ghost use Rattle.std.specs.Prelude.{◌≡◌};
-
-use crate::stepping::Stepping;
-use iox_lanes_base::calls::Receipt;
-use iox_lanes_machine::{LaneSizes, Link};
-use iox_lanes_parties::publisher::LoanAnswer;
-use iox_lanes_parties::{Answer, Call, CallName, FinishedCall, Move, Party};
-use iox_queues_steps::rings::RingKind;
-use iox_queues_steps::{Act, Placed, PopAnswer, PushAnswer};
+//! What is known of the ports of lanes beside them: what was written and sent, and a plain mailbox for each connection.
+use crate::stepping::{last_call, order, words_read};
+use iox_lanes::{
+    Act, Answer, Call, CallName, FinishedCall, Link, LoanAnswer, Move, Party, Placed, PopAnswer,
+    PushAnswer, Receipt, RecordedLanes, RingKind,
+};
 use std::alloc::{AllocError, Global};
-
-/// One publisher and one subscriber, at whose connection one message may wait, with payloads of one word.
-pub(crate) fn sizes(kind: RingKind, most_borrowed: u64, slots: u64) -> LaneSizes
-    ensures { result.buffer ≡ 1 }
-{
-    LaneSizes {
-        publishers: 1,
-        subscribers: 1,
-        kind,
-        buffer: 1,
-        most_borrowed,
-        history: 0,
-        most_loans: 1,
-        slots,
-        user_header_words: 0,
-        payload_words: 1,
-    }
-}
 
 /// How many slots there are in all.
 pub(crate) const SLOTS: u64 = 16;
 
-// What stands where a subscriber holds no sample.
+// What no slot is, and what stands where nothing was written.
 const NONE: u64 = u64::MAX;
 
-/// What was written into each slot and what was sent with it, what each subscriber holds in it, and which slot each party got
-/// last; how many reads were right, which party rests, and where chance stands.
+/// What was written into each slot, what was sent with it, and which slot each party got last; how many reads were right, which
+/// party rests, and where chance stands.
 #[derive(Clone, Copy)]
 pub(crate) struct Known {
     pub(crate) written: [u64; 16],
     pub(crate) sent: [u64; 16],
-    pub(crate) held: [u64; 48],
     pub(crate) last: [u64; 5],
     pub(crate) reads: u64,
     pub(crate) rests: u64,
@@ -50,7 +27,6 @@ pub(crate) struct Known {
 pub(crate) const NOTHING: Known = Known {
     written: [NONE; 16],
     sent: [NONE; 16],
-    held: [NONE; 48],
     last: [NONE; 5],
     reads: 0,
     rests: 0,
@@ -67,23 +43,6 @@ pub(crate) fn kept(words: &[u64], at: u64) -> u64 {
     words.get(at as usize).copied().unwrap_or(NONE)
 }
 
-// Where it stands what a party holds in a slot.
-fn held_at(party: Party, slot: u64) -> u64 {
-    match party {
-        Party::Subscriber(place) => (place as u64).saturating_mul(SLOTS).saturating_add(slot),
-        Party::Publisher(_) => NONE,
-    }
-}
-
-// Whether a subscriber holds a slot.
-fn is_held(held: &[u64], slot: u64) -> bool {
-    [
-        kept(held, slot),
-        kept(held, slot.saturating_add(SLOTS)),
-        kept(held, slot.saturating_add(2 * SLOTS)),
-    ] != [NONE; 3]
-}
-
 /// Where it stands which slot a party got last.
 pub(crate) fn last_at(party: Party) -> u64 {
     match party {
@@ -92,75 +51,49 @@ pub(crate) fn last_at(party: Party) -> u64 {
     }
 }
 
-/// A call of a publisher on a slot, which writes this value if it writes.
-pub(crate) fn sending(alloc: Global, kind: u64, loan: u64, value: u64) -> Result<Call, AllocError> {
-    match kind {
-        0 => Ok(Call::DropLoan { loan }),
-        1..=5 => Ok(Call::LoanUninit),
-        6..=10 => Ok(Call::Send { loan }),
-        _ => Ok(Call::Write {
-            loan,
-            user_header: Vec::new(alloc),
-            payload: Vec::from_slice(alloc, &[value])?,
-        }),
-    }
-}
-
-/// A call of a subscriber on a slot.
-pub(crate) fn receiving(kind: u64, sample: u64) -> Call {
-    match kind {
-        0..=5 => Call::Receive,
-        6..=9 => Call::Read { sample },
-        _ => Call::Release { sample },
-    }
-}
-
 /// What is known once a call began.
-pub(crate) fn begun(known: &mut Known, party: Party, step: &Move) {
-    match step {
-        Move::Begin(Call::Send { loan }) => {
-            let value = kept(&known.written, *loan);
-            keep(&mut known.sent, *loan, value);
-        }
-        Move::Begin(Call::Release { sample }) => {
-            keep(&mut known.held, held_at(party, *sample), NONE);
-        }
-        _ => {}
+pub(crate) fn begun(known: &mut Known, step: &Move) {
+    if let Move::Begin(Call::Send { loan }) = step {
+        let value = kept(&known.written, *loan);
+        keep(&mut known.sent, *loan, value);
     }
 }
 
-// Whether a subscriber reads what it received.
-fn is_read(known: &mut Known, at: u64, word: Option<&u64>) -> bool {
-    known.reads = known.reads.saturating_add(1);
-    word == Some(&kept(&known.held, at))
+// The slot that a call writes or reads.
+fn slot_of(call: CallName) -> u64 {
+    match call {
+        CallName::Write { loan } => loan,
+        CallName::Read { sample } => sample,
+        _ => NONE,
+    }
 }
 
-// What is known once a call ended, whose first moment is the value that it wrote; whether it answered what it should.
+// Whether a subscriber reads what was sent.
+fn is_read(known: &mut Known, sample: u64, word: Option<&u64>) -> bool {
+    known.reads = known.reads.saturating_add(1);
+    word == Some(&kept(&known.sent, sample))
+}
+
+// What is known once a call ended, whose first moment is the value that it wrote; whether it read what it should.
 fn ended(known: &mut Known, call: &FinishedCall, word: Option<&u64>) -> bool {
-    match (call.call, call.answer) {
-        (CallName::Write { loan }, _) => {
-            keep(&mut known.written, loan, call.first);
+    match call.answer {
+        Answer::Lent(LoanAnswer::Slot(slot)) | Answer::Received(Receipt::Taken { slot, .. }) => {
+            keep(&mut known.last, last_at(call.party), slot);
             true
         }
-        (_, Answer::Lent(LoanAnswer::Slot(slot))) => {
-            keep(&mut known.last, last_at(call.party), slot);
-            !is_held(&known.held, slot)
-        }
-        (_, Answer::Received(Receipt::Taken { slot, .. })) => {
-            let value = kept(&known.sent, slot);
-            keep(&mut known.last, last_at(call.party), slot);
-            keep(&mut known.held, held_at(call.party, slot), value);
+        Answer::Written => {
+            keep(&mut known.written, slot_of(call.call), call.first);
             true
         }
-        (CallName::Read { sample }, _) => is_read(known, held_at(call.party, sample), word),
+        Answer::Read { .. } => is_read(known, slot_of(call.call), word),
         _ => true,
     }
 }
 
-/// Whether the call that ended last answered what it should.
-pub(crate) fn is_answered<L: Stepping>(known: &mut Known, lanes: &L) -> bool {
-    match lanes.ended() {
-        Some(call) => ended(known, &call, lanes.words_read().last()),
+/// Whether the call that ended last read what it should, if it read.
+pub(crate) fn is_answered(known: &mut Known, lanes: &RecordedLanes) -> bool {
+    match last_call(lanes) {
+        Some(call) => ended(known, &call, words_read(lanes).last()),
         None => false,
     }
 }
@@ -210,15 +143,14 @@ fn answers(waits: &mut Vec<u64>, room: Room, act: Act) -> Result<bool, AllocErro
     }
 }
 
-// Whether a connection's order is that of a plain mailbox.
-fn is_mailbox(alloc: Global, room: Room, order: &[Placed]) -> Result<bool, AllocError> {
-    let mut waits = Vec::new(alloc);
+// Whether a connection's order is that of a plain mailbox, and something was done there.
+fn is_mailbox(waits: &mut Vec<u64>, room: Room, order: &[Placed]) -> Result<bool, AllocError> {
     for placed in order {
-        if !answers(&mut waits, room, placed.act)? {
+        if !answers(waits, room, placed.act)? {
             return Ok(false);
         }
     }
-    Ok(true)
+    Ok(!order.is_empty())
 }
 
 fn room_of(link: &Link) -> Room {
@@ -229,9 +161,10 @@ fn room_of(link: &Link) -> Room {
 }
 
 /// Whether all are.
-pub(crate) fn are_mailboxes<L: Stepping>(alloc: Global, lanes: &L) -> Result<bool, AllocError> {
-    for (connection, link) in lanes.links().iter().enumerate() {
-        if !is_mailbox(alloc, room_of(link), lanes.order(connection as u64))? {
+pub(crate) fn are_mailboxes(alloc: Global, lanes: &RecordedLanes) -> Result<bool, AllocError> {
+    for (connection, link) in lanes.lanes().links().iter().enumerate() {
+        let order = order(lanes, connection as u64);
+        if !is_mailbox(&mut Vec::new(alloc), room_of(link), order)? {
             return Ok(false);
         }
     }

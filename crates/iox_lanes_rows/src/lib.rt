@@ -1,43 +1,30 @@
 //! What no contract of lanes can say, and no line of `script_cases`.
 //!
-//! It has no items of its own, only tests. Of lanes alone `random` has schedules by chance, `every` all schedules of small worlds
-//! to some depth, beside what is `known` of their messages, and `messages` the messages that lanes keep. `in_turn` has a message of lanes
-//! whose calls go in turn. Of their ports in
-//! threads `service` makes services of two publishers and two subscribers, `streams` sends numbers through four threads, `turns`
-//! has two threads answer each other, both once all of them run (`start`), and `handing` goes from lanes to threads and to ports
-//! that stand still. `answers` are what tests hold.
+//! It has no items of its own, only tests. Of lanes alone `random` has schedules by chance, beside what is `known` of their messages,
+//! `counted` a schedule that is run at once, and `messages` the messages that lanes keep. `in_turn` has a message of lanes whose calls go
+//! in turn. Of their ports in threads `service` makes services of two publishers and two subscribers, `streams` sends numbers through
+//! four threads, and `turns` has two threads answer each other, both once all of them run (`start`). `answers` are what tests hold, and
+//! `texts` how errors display.
 //!
-//! Tests go by traits that have no clauses, so that what they call is read once alone: `stepping` has lanes, `recorded` lanes that
-//! keep their messages, and `ports` ports in threads.
+//! What lanes promise is read once alone: `stepping` has their calls without it.
 //!
 //! Domains become lanes, go on in threads, and become domains again:
 //!
-//! - `driven`: a domain, by the calls of its ports.
-//! - `driving`: what is done to these.
-//! - `lanes`: what its lanes do.
+//! - `domain`: a domain, by the calls of its ports.
+//! - `lanes`: what its lanes send and receive.
 //! - `threads`: what its ports do in threads.
-//! - `stages`: what a domain, its lanes and its ports in threads become.
-//! - `ways`: what a domain comes to by all of them.
-//! - `refusals`: each reason why it can't become lanes, and domains to which none applies.
-//! - `openings`: what lanes find of each kind of domain.
-//! - `returns`: what lanes leave in the domain that they become again.
-//! - `sizes`: domains with up to 1,000 messages.
-//! - `threading`: what goes on in threads, and lanes and ports that come back.
-//! - `cases`: single cases.
+//! - `worlds`: what is done to each of these, step by step.
+//! - `refusals`: each reason why a domain can't become lanes.
+//! - `returns`: what lanes find, and what they and threads leave.
+//! - `sizes`: domains with up to 1,000 messages, and with up to 64 publishers and subscribers.
 #![tactic(auto)]
 
 #[cfg(test)]
 mod answers;
 #[cfg(test)]
-mod cases;
+mod counted;
 #[cfg(test)]
-mod driven;
-#[cfg(test)]
-mod driving;
-#[cfg(test)]
-mod every;
-#[cfg(test)]
-mod handing;
+mod domain;
 #[cfg(test)]
 mod in_turn;
 #[cfg(test)]
@@ -47,13 +34,7 @@ mod lanes;
 #[cfg(test)]
 mod messages;
 #[cfg(test)]
-mod openings;
-#[cfg(test)]
-mod ports;
-#[cfg(test)]
 mod random;
-#[cfg(test)]
-mod recorded;
 #[cfg(test)]
 mod refusals;
 #[cfg(test)]
@@ -63,18 +44,16 @@ mod service;
 #[cfg(test)]
 mod sizes;
 #[cfg(test)]
-mod stages;
-#[cfg(test)]
 mod start;
 #[cfg(test)]
 mod stepping;
 #[cfg(test)]
 mod streams;
 #[cfg(test)]
-mod threading;
+mod texts;
 #[cfg(test)]
 mod threads;
 #[cfg(test)]
 mod turns;
 #[cfg(test)]
-mod ways;
+mod worlds;

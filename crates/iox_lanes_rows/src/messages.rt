@@ -1,11 +1,6 @@
 //! Messages that lanes keep, beside what a read gives.
-use crate::lanes::write;
-use crate::recorded::Recorded;
-use crate::stepping::{Stepping, whole};
-use iox_lanes::RecordedLanes;
-use iox_lanes_machine::{LaneSizes, Lanes};
-use iox_lanes_parties::{Call, Party};
-use iox_queues_steps::rings::RingKind;
+use crate::stepping::{new_lanes, whole, words_read};
+use iox_lanes::{Call, LaneSizes, Party, RecordedLanes, RingKind};
 use std::alloc::{AllocError, Global};
 use std::process::Abort;
 
@@ -19,49 +14,61 @@ const SIZES: LaneSizes = LaneSizes {
     most_loans: 2,
     slots: 6,
     user_header_words: 1,
-    payload_words: 2,
+    payload_words: 1,
 };
 
 const PUBLISHER: Party = Party::Publisher(0);
 
 const SUBSCRIBER: Party = Party::Subscriber(0);
 
-// Whether a message is sent in a slot, and given up by whoever received it.
-fn goes<L: Stepping>(lanes: &mut L, slot: u64, write: Call) -> bool {
+// Whether a message is sent in a slot.
+fn sends(lanes: &mut RecordedLanes, slot: u64, write: Call) -> bool {
     whole(lanes, PUBLISHER, Call::LoanUninit).is_some()
         && whole(lanes, PUBLISHER, write).is_some()
         && whole(lanes, PUBLISHER, Call::Send { loan: slot }).is_some()
-        && whole(lanes, SUBSCRIBER, Call::Receive).is_some()
+}
+
+// Whether it is received, read and given up.
+fn takes(lanes: &mut RecordedLanes, slot: u64) -> bool {
+    whole(lanes, SUBSCRIBER, Call::Receive).is_some()
         && whole(lanes, SUBSCRIBER, Call::Read { sample: slot }).is_some()
         && whole(lanes, SUBSCRIBER, Call::Release { sample: slot }).is_some()
 }
 
-// Whether the message of a number stands as it was sent, and was read so: in the first slot and the second by turns.
-fn is_kept<L: Recorded>(lanes: &L, number: u64) -> bool {
-    let words = [0, 0, 1, 5, 7, number];
-    let from = (number as usize).saturating_mul(6);
-    lanes.words_read().get(from..) == Some(&words)
-        && lanes.place(number as usize) == Some((0, number % 2))
-        && lanes.words(number as usize) == Some(&words)
+// Whether the message of a number stands as it was sent, and was read so.
+fn is_kept(lanes: &RecordedLanes, number: u64) -> bool {
+    let words = [0, 0, 1, 5, number];
+    let from = (number as usize).saturating_mul(5);
+    match lanes.message(number as usize) {
+        Some(message) => {
+            message.slot() == number % 2
+                && message.words() == words.as_slice()
+                && words_read(lanes).get(from..) == Some(&words)
+        }
+        None => false,
+    }
 }
 
-// Whether so many messages are sent, read and kept.
-fn keep<L: Recorded>(alloc: Global, lanes: &mut L, count: u64) -> Result<bool, AllocError> {
+// Whether the message of a number is sent in the first slot or the second, by turns, and read and kept.
+fn keeps(alloc: Global, lanes: &mut RecordedLanes, number: u64) -> Result<bool, AllocError> {
+    let slot = number % 2;
+    let write = Call::write(alloc, slot, &number, &5u8)?;
+    Ok(sends(lanes, slot, write) && takes(lanes, slot) && is_kept(lanes, number))
+}
+
+// Whether so many are.
+fn keep(alloc: Global, lanes: &mut RecordedLanes, count: u64) -> Result<bool, AllocError> {
     for number in 0..count {
-        let write = write(alloc, number % 2, &[5], &[7, number])?;
-        if !goes(lanes, number % 2, write) || !is_kept(lanes, number) {
+        if !keeps(alloc, lanes, number)? {
             return Ok(false);
         }
     }
-    Ok(lanes.count() as u64 == count)
+    Ok(lanes.len() as u64 == count)
 }
 
-// Whether new lanes do.
+// Whether they are in new lanes.
 fn are_kept(alloc: Global, count: u64) -> Result<bool, AllocError> {
-    match Lanes::new(alloc, SIZES) {
-        Ok(lanes) => keep(alloc, &mut RecordedLanes::new(alloc, lanes), count),
-        Err(error) => Err(error),
-    }
+    keep(alloc, &mut new_lanes(alloc, SIZES)?, count)
 }
 
 fn all_are_kept(rt: &impl Abort, alloc: Global) -> Result<(), AllocError> {

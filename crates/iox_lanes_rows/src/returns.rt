@@ -1,189 +1,165 @@
-//! What lanes leave in the domain that they become again.
-use crate::driving::Step;
-use crate::lanes::Lane;
-use crate::openings::{FULL, KEPT, NUMBERED, OVERFLOWING, PORTS, REFUSING, REMEMBERING};
-use crate::ways::{Case, Way, go_all};
-use iox_domain_ports::Sent;
-use iox_lanes::IntoDomainError;
-use iox_lanes_parties::Party;
-use iox_lanes_parties::publisher::LoanAnswer;
+//! What lanes find of a domain, and what they and its ports in threads leave in the domain that they become again.
+use crate::domain::{Plan, Service};
+use crate::worlds::{Case, Step, Told, go_all};
+use iox_describe_base::TypeVariant;
+use iox_lanes::{IntoDomainError, OpenError};
 use std::alloc::AllocError;
 
-const AS_BEFORE: [Step; 8] = [
-    Step::Take(1, 43),
-    Step::Take(1, 51),
-    Step::Take(2, 42),
-    Step::Take(2, 43),
-    Step::Take(2, 51),
-    Step::Take(3, 41),
-    Step::Put(4, 44, Sent::Delivered(3)),
-    Step::Take(1, 44),
-];
+// Three messages may wait at a connection, and the last two of a publisher are its history.
+const OVERFLOWING: Service = Service {
+    variant: TypeVariant::FixedSize,
+    overflow: true,
+    buffer: 3,
+    history: 2,
+    numbered: true,
+    ports: 3,
+};
 
-// One message is taken, and one is sent to all.
-const SOME_STEPS: [Lane; 2] = [Lane::Gets(0, 4, 43), Lane::Sends(1, 52, 3, 0)];
+// One message may wait, and a full mailbox refuses.
+const REFUSING: Service = Service {
+    variant: TypeVariant::FixedSize,
+    overflow: false,
+    buffer: 1,
+    history: 0,
+    numbered: true,
+    ports: 2,
+};
 
-// For the first subscriber one message may wait at a connection, for the second two.
-const WHAT_WAITS: [Step; 11] = [
-    Step::Take(1, 52),
-    Step::Take(2, 42),
-    Step::Take(2, 43),
-    Step::Take(2, 51),
-    Step::Take(2, 52),
-    Step::Take(3, 41),
-    Step::Take(3, 42),
-    Step::Take(3, 43),
-    Step::Put(4, 44, Sent::Delivered(3)),
-    Step::Take(1, 44),
-    Step::Take(3, 44),
-];
-
-const ONE_MORE: [Lane; 1] = [Lane::Sends(0, 14, 1, 0)];
-
-// The history is of the last two messages, and one comes later who gets both.
-const REMEMBERED: [Step; 6] = [
-    Step::Take(2, 14),
-    Step::Subscribe(3, Some(2)),
-    Step::Update(1),
-    Step::Follow(3),
-    Step::Take(3, 13),
-    Step::Take(3, 14),
-];
-
-const A_LOAN: [Lane; 1] = [Lane::Lends(0, 1, LoanAnswer::ExceedsMaxLoans)];
-
-const BEGUN: [Lane; 1] = [Lane::Begins(Party::Subscriber(0))];
-
-const GOES_ON: [Lane; 1] = [Lane::Lends(0, 0, LoanAnswer::ExceedsMaxLoans)];
-
-// The first message is taken; two wait, the second and a third that is sent.
-const NUMBERED_STEPS: [Lane; 6] = [
-    Lane::Messages(2),
-    Lane::MessageNumbered(0, 2, 1, 7),
-    Lane::GetsNumbered(0, 2, 1, 7),
-    Lane::SendsNumbered(0, 9, 1, 0),
-    Lane::MessageNumbered(2, 2, 3, 9),
-    Lane::GetsNumbered(0, 2, 2, 8),
-];
-
-pub(crate) const NUMBERED_PORTS: [Step; 5] = [
-    Step::Subscribe(1, None),
-    Step::Publish(2, 2, None),
-    Step::Follow(1),
-    Step::Put(2, 7, Sent::Delivered(1)),
-    Step::Put(2, 8, Sent::Delivered(1)),
-];
-
-const NUMBERS_GO_ON: [Step; 3] = [
-    Step::TakeNumbered(1, 9, 3),
-    Step::Put(2, 10, Sent::Delivered(1)),
-    Step::TakeNumbered(1, 10, 4),
-];
-
-// One publisher, and two subscribers for each of which a message waits.
-const NUMBERED_FOR_TWO: [Step; 6] = [
-    Step::Subscribe(1, None),
-    Step::Subscribe(2, None),
-    Step::Publish(3, 2, None),
-    Step::Follow(1),
-    Step::Follow(2),
-    Step::Put(3, 7, Sent::Delivered(2)),
-];
-
-const NUMBERED_BY_TWO: [Lane; 4] = [
-    Lane::GetsNumbered(0, 3, 1, 7),
-    Lane::SendsNumbered(0, 9, 2, 0),
-    Lane::GetsNumbered(1, 3, 1, 7),
-    Lane::GetsNumbered(1, 3, 2, 9),
-];
-
-const NUMBERS_OF_TWO: [Step; 4] = [
-    Step::TakeNumbered(1, 9, 2),
-    Step::Put(3, 10, Sent::Delivered(2)),
-    Step::TakeNumbered(1, 10, 3),
-    Step::TakeNumbered(2, 10, 3),
-];
-
-const CASES: [Case; 7] = [
+const LANES: [Case; 5] = [
     Case {
-        name: "both subscribers get a message's number",
-        service: &NUMBERED,
-        ways: &[
-            Way::Calls(&NUMBERED_FOR_TWO),
-            Way::Opens(Ok(())),
-            Way::Lanes(&NUMBERED_BY_TWO),
-            Way::Returns(Ok(())),
-            Way::Calls(&NUMBERS_OF_TWO),
-        ],
+        name: "no ports",
+        service: &REFUSING,
+        steps: &[Step::Opens(None), Step::Returns(None)],
     },
     Case {
-        name: "no step between",
+        name: "ports of different sizes",
         service: &OVERFLOWING,
-        ways: &[
-            Way::Calls(&PORTS),
-            Way::Opens(Ok(())),
-            Way::Returns(Ok(())),
-            Way::Calls(&AS_BEFORE),
+        steps: &[
+            Step::Subscribe(Some(1)),
+            Step::Subscribe(Some(3)),
+            Step::Publish(Plan::Plain),
+            Step::Publish(Plan::Plain),
+            Step::Meet,
+            Step::Sends(0, 41, Told::To(2)),
+            Step::Sends(0, 42, Told::To(2)),
+            Step::Sends(1, 51, Told::To(2)),
+            Step::Opens(None),
+            Step::Gets(0, 2, 42),
+            Step::Gets(0, 1, 51),
+            Step::Nothing(0),
+            Step::Gets(1, 1, 41),
+            Step::Sends(1, 52, Told::To(2)),
+            Step::Returns(None),
+            Step::Gets(0, 2, 52),
+            Step::Gets(1, 2, 42),
+            Step::Gets(1, 1, 51),
+            Step::Sends(1, 53, Told::To(2)),
+            Step::Gets(1, 2, 52),
+            Step::Gets(1, 3, 53),
         ],
     },
     Case {
-        name: "what waits comes back",
+        name: "a history",
         service: &OVERFLOWING,
-        ways: &[
-            Way::Calls(&PORTS),
-            Way::Opens(Ok(())),
-            Way::Lanes(&SOME_STEPS),
-            Way::Returns(Ok(())),
-            Way::Calls(&WHAT_WAITS),
-        ],
-    },
-    Case {
-        name: "the history comes back",
-        service: &REMEMBERING,
-        ways: &[
-            Way::Calls(&KEPT),
-            Way::Opens(Ok(())),
-            Way::Lanes(&ONE_MORE),
-            Way::Returns(Ok(())),
-            Way::Calls(&REMEMBERED),
-        ],
-    },
-    Case {
-        name: "numbers come back and go on",
-        service: &NUMBERED,
-        ways: &[
-            Way::Calls(&NUMBERED_PORTS),
-            Way::Opens(Ok(())),
-            Way::Lanes(&NUMBERED_STEPS),
-            Way::Returns(Ok(())),
-            Way::Calls(&NUMBERS_GO_ON),
+        steps: &[
+            Step::Publish(Plan::Plain),
+            Step::Sends(0, 11, Told::To(0)),
+            Step::Sends(0, 12, Told::To(0)),
+            Step::Opens(None),
+            Step::Sends(0, 13, Told::To(0)),
+            Step::Returns(None),
+            Step::Subscribe(None),
+            Step::Meet,
+            Step::Gets(0, 2, 12),
+            Step::Gets(0, 3, 13),
+            Step::Nothing(0),
         ],
     },
     Case {
         name: "a loan that is out",
         service: &REFUSING,
-        ways: &[
-            Way::Calls(&FULL),
-            Way::Opens(Ok(())),
-            Way::Lanes(&A_LOAN),
-            Way::Returns(Err(IntoDomainError::SamplesOut)),
-            Way::Lanes(&GOES_ON),
+        steps: &[
+            Step::Publish(Plan::Plain),
+            Step::Opens(None),
+            Step::Lends(0),
+            Step::Returns(Some(IntoDomainError::SamplesOut)),
+            Step::Starts(Some(OpenError::SamplesOut)),
         ],
     },
     Case {
         name: "a party in a call",
         service: &REFUSING,
-        ways: &[
-            Way::Calls(&FULL),
-            Way::Opens(Ok(())),
-            Way::Lanes(&BEGUN),
-            Way::Returns(Err(IntoDomainError::PartyInCall)),
-            Way::Lanes(&A_LOAN),
+        steps: &[
+            Step::Subscribe(None),
+            Step::Publish(Plan::Plain),
+            Step::Meet,
+            Step::Opens(None),
+            Step::Begins(0),
+            Step::Returns(Some(IntoDomainError::PartyInCall)),
+            Step::Starts(Some(OpenError::PartyInCall)),
         ],
     },
 ];
 
 #[test]
 fn a_domain_has_what_its_lanes_left(rt: HostRuntime) -> Result<(), AllocError> {
-    go_all(&rt, rt.alloc(), &CASES)
+    go_all(&rt, rt.alloc(), &LANES)
+}
+
+const THREADS: [Case; 2] = [
+    Case {
+        name: "by calls and lanes and in threads and by calls",
+        service: &OVERFLOWING,
+        steps: &[
+            Step::Subscribe(None),
+            Step::Subscribe(None),
+            Step::Publish(Plan::Plain),
+            Step::Publish(Plan::Plain),
+            Step::Meet,
+            Step::Sends(0, 31, Told::To(2)),
+            Step::Sends(1, 41, Told::To(2)),
+            Step::Opens(None),
+            Step::Gets(0, 1, 31),
+            Step::Sends(1, 42, Told::To(2)),
+            Step::Starts(None),
+            Step::Gets(0, 1, 41),
+            Step::Gets(0, 2, 42),
+            Step::Nothing(0),
+            Step::Gets(1, 1, 31),
+            Step::Sends(0, 32, Told::To(2)),
+            Step::Gets(1, 2, 32),
+            Step::Ends,
+            Step::Nothing(0),
+            Step::Nothing(1),
+            Step::Sends(1, 43, Told::To(2)),
+            Step::Gets(0, 3, 43),
+            Step::Gets(1, 3, 43),
+        ],
+    },
+    Case {
+        name: "a publisher that fails at a full mailbox",
+        service: &REFUSING,
+        steps: &[
+            Step::Subscribe(None),
+            Step::Publish(Plan::Failing),
+            Step::Meet,
+            Step::Sends(0, 21, Told::To(1)),
+            Step::Sends(0, 22, Told::Fails),
+            Step::Gets(0, 1, 21),
+            Step::Opens(None),
+            Step::Sends(0, 23, Told::To(1)),
+            Step::Sends(0, 24, Told::Fails),
+            Step::Starts(None),
+            Step::Sends(0, 25, Told::Fails),
+            Step::Gets(0, 3, 23),
+            Step::Ends,
+            Step::Sends(0, 26, Told::To(1)),
+            Step::Sends(0, 27, Told::Fails),
+        ],
+    },
+];
+
+#[test]
+fn a_domain_goes_on_in_threads(rt: HostRuntime) -> Result<(), AllocError> {
+    go_all(&rt, rt.alloc(), &THREADS)
 }

@@ -1,21 +1,21 @@
 //! A service of two publishers and two subscribers, with payloads of 8 words.
-ghost use Rattle.std.specs.Prelude.{◌≡◌};
+ghost use Rattle.std.specs.Prelude.{◌≡◌, ◌<◌};
 
-use crate::ports::{Receives, Sends, sent};
-use iox_lanes_machine::{LaneSizes, Lanes};
-use iox_lanes_parties::SendAnswer;
-use iox_lanes_threads::{LaneThreads, end, open_threads};
-use iox_queues_steps::rings::RingKind;
+use iox_lanes::{
+    LanePublisher, LaneSizes, LaneSubscriber, LaneThreads, Lanes, LoanAnswer, RingKind, SendAnswer,
+    end, open_threads,
+};
 use std::alloc::{AllocError, Global};
 
-fn sizes(kind: RingKind) -> LaneSizes
-    ensures { result.buffer ≡ 8 }
+// So many messages may wait at a connection.
+fn sizes(kind: RingKind, buffer: u64) -> LaneSizes
+    ensures { result.buffer ≡ buffer }
 {
     LaneSizes {
         publishers: 2,
         subscribers: 2,
         kind,
-        buffer: 8,
+        buffer,
         most_borrowed: 2,
         history: 0,
         most_loans: 2,
@@ -25,40 +25,25 @@ fn sizes(kind: RingKind) -> LaneSizes
     }
 }
 
-// The same with room for two messages at a connection.
-fn narrow_sizes(kind: RingKind) -> LaneSizes
-    ensures { result.buffer ≡ 2 }
-{
-    LaneSizes {
-        publishers: 2,
-        subscribers: 2,
-        kind,
-        buffer: 2,
-        most_borrowed: 2,
-        history: 0,
-        most_loans: 2,
-        slots: 12,
-        user_header_words: 0,
-        payload_words: 8,
-    }
-}
-
-/// Its lanes, on which nothing was done yet.
-pub(crate) fn lanes(alloc: Global, kind: RingKind) -> Result<Lanes, AllocError> {
-    Lanes::new(alloc, sizes(kind))
-}
-
-/// The lanes of a service where two messages may wait at a connection.
-pub(crate) fn narrow_lanes(alloc: Global, kind: RingKind) -> Result<Lanes, AllocError> {
-    Lanes::new(alloc, narrow_sizes(kind))
-}
-
-/// The ports of lanes in threads.
-pub(crate) fn opened(alloc: Global, lanes: Lanes) -> Result<LaneThreads, AllocError> {
+// The ports of lanes in threads.
+fn started(alloc: Global, lanes: Lanes) -> Result<LaneThreads, AllocError> {
     match open_threads(alloc, 1, lanes) {
         Ok(threads) => Ok(threads),
         Err(_) => Err(AllocError),
     }
+}
+
+/// Its ports in threads, where so many messages may wait at a connection, and nothing was done yet.
+pub(crate) fn opened(alloc: Global, kind: RingKind, buffer: u64) -> Result<LaneThreads, AllocError>
+    requires { 0 < buffer }
+{
+    started(alloc, Lanes::new(alloc, sizes(kind, buffer))?)
+}
+
+/// The first two ports.
+pub(crate) fn pair<P>(ports: &mut [P]) -> Option<(&mut P, &mut P)> {
+    let (first, others) = ports.split_first_mut()?;
+    Some((first, others.first_mut()?))
 }
 
 /// Whether all ports come back.
@@ -67,19 +52,35 @@ pub(crate) fn is_ended(threads: LaneThreads) -> bool {
 }
 
 /// Sends this word eight times over; what that answered.
-pub(crate) fn sent_eight<P: Sends>(port: &mut P, value: u64) -> Option<SendAnswer> {
-    sent(port, &[value; 8], &[])
+pub(crate) fn sent_eight(port: &mut LanePublisher, value: u64) -> Option<SendAnswer> {
+    let LoanAnswer::Slot(loan) = port.loan_uninit()? else {
+        return None;
+    };
+    if port.write(loan, &[value; 8], &[]) {
+        port.send(loan)
+    } else {
+        None
+    }
 }
 
-/// The first word of a sample's payload, behind the three of its header; the sample is given back.
-pub(crate) fn read_back<P: Receives>(port: &mut P, slot: u64) -> Option<u64> {
-    if !port.reads(slot) {
-        return None;
-    }
-    let value = *port.words().get(3)?;
-    if port.releases(slot) {
+// The word that a payload has eight times over, behind the three of a header.
+fn eight(words: &[u64]) -> Option<u64> {
+    let value = *words.get(3)?;
+    if words.get(3..) == Some(&[value; 8]) {
         Some(value)
     } else {
         None
+    }
+}
+
+/// The word that a sample has eight times over; the sample is given back.
+pub(crate) fn read_eight(port: &mut LaneSubscriber, slot: u64) -> Option<u64> {
+    if !port.read(slot) {
+        return None;
+    }
+    let value = eight(port.words());
+    match port.release(slot) {
+        Some(true) => value,
+        _ => None,
     }
 }

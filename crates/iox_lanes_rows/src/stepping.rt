@@ -1,110 +1,60 @@
-//! Lanes that go step by step, of which nothing is known here but what they answer.
-use iox_lanes::RecordedLanes;
-use iox_lanes_machine::{Lanes, Link};
-use iox_lanes_parties::{Answer, Call, Entry, FinishedCall, Move, Party};
-use iox_queues_steps::{Placed, Stepped};
+//! Lanes that keep their messages, step by step: of these calls nothing is known here but what they answer.
+ghost use Rattle.std.specs.Prelude.{◌<◌};
 
-/// Lanes, by their steps and by what these came to.
-pub(crate) trait Stepping {
-    /// Makes a step.
-    fn step(&mut self, party: Party, entry: &Move) -> Stepped;
+use iox_lanes::{
+    Answer, Call, FinishedCall, LaneSizes, Lanes, Move, Party, Placed, RecordedLanes, Stepped,
+};
+use std::alloc::{AllocError, Global};
 
-    /// How many steps were made.
-    fn moments(&self) -> u64;
-
-    /// The call that ended last.
-    fn ended(&self) -> Option<FinishedCall>;
-
-    /// The words of all reads.
-    fn words_read(&self) -> &[u64];
-
-    /// Makes these entries; how many were made.
-    fn run(&mut self, schedule: &[Entry]) -> usize;
-
-    /// The order of a connection.
-    fn order(&self, connection: u64) -> &[Placed];
-
-    /// The connections.
-    fn links(&self) -> &[Link];
+/// Lanes of these sizes, on which nothing was done yet.
+pub(crate) fn new_lanes(alloc: Global, sizes: LaneSizes) -> Result<RecordedLanes, AllocError>
+    requires { 0 < sizes.buffer }
+{
+    Ok(RecordedLanes::new(alloc, Lanes::new(alloc, sizes)?))
 }
 
-impl Stepping for Lanes {
-    fn step(&mut self, party: Party, entry: &Move) -> Stepped {
-        self.step(party, entry)
-    }
-
-    fn moments(&self) -> u64 {
-        self.moments()
-    }
-
-    fn ended(&self) -> Option<FinishedCall> {
-        self.finished().last().copied()
-    }
-
-    fn words_read(&self) -> &[u64] {
-        self.words_read()
-    }
-
-    fn run(&mut self, schedule: &[Entry]) -> usize {
-        self.run(schedule)
-    }
-
-    fn order(&self, connection: u64) -> &[Placed] {
-        self.order(connection)
-    }
-
-    fn links(&self) -> &[Link] {
-        self.links()
-    }
+/// Makes a step.
+pub(crate) fn step(lanes: &mut RecordedLanes, party: Party, entry: &Move) -> Stepped {
+    lanes.step(party, entry)
 }
 
-impl Stepping for RecordedLanes {
-    fn step(&mut self, party: Party, entry: &Move) -> Stepped {
-        self.step(party, entry)
-    }
-
-    fn moments(&self) -> u64 {
-        self.lanes().moments()
-    }
-
-    fn ended(&self) -> Option<FinishedCall> {
-        self.lanes().finished().last().copied()
-    }
-
-    fn words_read(&self) -> &[u64] {
-        self.lanes().words_read()
-    }
-
-    fn run(&mut self, schedule: &[Entry]) -> usize {
-        self.run(schedule)
-    }
-
-    fn order(&self, connection: u64) -> &[Placed] {
-        self.lanes().order(connection)
-    }
-
-    fn links(&self) -> &[Link] {
-        self.lanes().links()
-    }
+/// The call that ended last.
+pub(crate) fn last_call(lanes: &RecordedLanes) -> Option<FinishedCall> {
+    lanes.lanes().finished().last().copied()
 }
 
-/// Makes a step, and once more where it found no memory, by which nothing has changed.
-pub(crate) fn step<L: Stepping>(lanes: &mut L, party: Party, entry: &Move) -> Stepped {
-    match lanes.step(party, entry) {
-        Stepped::NoMemory => lanes.step(party, entry),
+/// The words of all reads.
+pub(crate) fn words_read(lanes: &RecordedLanes) -> &[u64] {
+    lanes.lanes().words_read()
+}
+
+/// The order of a connection.
+pub(crate) fn order(lanes: &RecordedLanes, connection: u64) -> &[Placed] {
+    lanes.lanes().order(connection)
+}
+
+// Makes a step, and once more where it found no memory, by which nothing has changed.
+fn step_again(lanes: &mut RecordedLanes, party: Party, entry: &Move) -> Stepped {
+    match step(lanes, party, entry) {
+        Stepped::NoMemory => step(lanes, party, entry),
         stepped => stepped,
     }
 }
 
-/// Makes a whole call, and gives its answer.
-pub(crate) fn whole<L: Stepping>(lanes: &mut L, party: Party, call: Call) -> Option<Answer> {
-    if step(lanes, party, &Move::Begin(call)) != Stepped::Went {
-        return None;
-    }
+// Goes on inside a call up to its end, and gives its answer.
+fn rest(lanes: &mut RecordedLanes, party: Party) -> Option<Answer> {
     for _ in 0..1000 {
-        if step(lanes, party, &Move::GoOn) == Stepped::Finished {
-            return Some(lanes.ended()?.answer);
+        if step_again(lanes, party, &Move::GoOn) == Stepped::Finished {
+            return Some(last_call(lanes)?.answer);
         }
     }
     None
+}
+
+/// Makes a whole call, and gives its answer.
+pub(crate) fn whole(lanes: &mut RecordedLanes, party: Party, call: Call) -> Option<Answer> {
+    match step_again(lanes, party, &Move::Begin(call)) {
+        Stepped::Went => rest(lanes, party),
+        _ => None,
+    }
 }

@@ -1,12 +1,8 @@
 //! Numbers through four threads: two publishers and two subscribers.
 use crate::answers::hold;
-use crate::ports::{Receives, Sends, sent};
-use crate::service::{is_ended, lanes, opened};
+use crate::service::{is_ended, opened, pair, read_eight, sent_eight};
 use crate::start::Start;
-use iox_lanes_base::calls::Receipt;
-use iox_lanes_parties::SendAnswer;
-use iox_lanes_threads::{LanePublisher, LaneSubscriber};
-use iox_queues_steps::rings::RingKind;
+use iox_lanes::{LanePublisher, LaneSubscriber, Receipt, RingKind};
 use std::alloc::{AllocError, Global};
 use std::sync::Wait;
 use std::sync::atomic::{AtomicU64, Ordering};
@@ -17,44 +13,25 @@ const COUNT: u64 = 500_000;
 
 const TRIES: u64 = 1 << 26;
 
-// The word at a place of the payload that a publisher sends with a number.
-fn word(publisher: u64, number: u64, place: u64) -> u64 {
-    number
-        .saturating_mul(16)
-        .saturating_add(publisher.saturating_mul(8))
-        .saturating_add(place)
+// The word that a publisher sends with a number.
+fn word(publisher: u64, number: u64) -> u64 {
+    number.saturating_mul(2).saturating_add(publisher)
 }
 
-// What the send of a number answered.
-fn send<P: Sends>(port: &mut P, publisher: u64, number: u64) -> Option<SendAnswer> {
-    let payload = [
-        word(publisher, number, 0),
-        word(publisher, number, 1),
-        word(publisher, number, 2),
-        word(publisher, number, 3),
-        word(publisher, number, 4),
-        word(publisher, number, 5),
-        word(publisher, number, 6),
-        word(publisher, number, 7),
-    ];
-    sent(port, &payload, &[])
-}
-
-// Once all run, sends 0 up to COUNT, and the last one again until both took it at once; then one publisher more is done.
-fn send_all<P: Sends>(port: &mut P, publisher: u64, start: &Start, done: &AtomicU64) -> bool {
-    let well = start.all_begin(4) && send_numbers(port, publisher);
-    done.fetch_add(1, Ordering::SeqCst);
-    well
-}
-
-fn send_numbers<P: Sends>(port: &mut P, publisher: u64) -> bool {
+// Sends 0 up to COUNT.
+fn send_numbers(port: &mut LanePublisher, publisher: u64) -> bool {
     for number in 0..COUNT {
-        if send(port, publisher, number).is_none() {
+        if sent_eight(port, word(publisher, number)).is_none() {
             return false;
         }
     }
+    true
+}
+
+// Sends the last number until both took it at once.
+fn send_last(port: &mut LanePublisher, publisher: u64) -> bool {
     for _ in 0..TRIES {
-        match send(port, publisher, COUNT) {
+        match sent_eight(port, word(publisher, COUNT)) {
             Some(told) if told.delivery().taken == 2 => return true,
             Some(_) => thread::yield_now(),
             None => return false,
@@ -63,65 +40,43 @@ fn send_numbers<P: Sends>(port: &mut P, publisher: u64) -> bool {
     false
 }
 
-// What a subscriber saw last of each publisher, and whether all was well.
-#[derive(Drop)]
+// Once all run, sends all; then one publisher more is done.
+fn send_all(port: &mut LanePublisher, publisher: u64, start: &Start, done: &AtomicU64) -> bool {
+    let well = start.all_begin(4) && send_numbers(port, publisher) && send_last(port, publisher);
+    done.fetch_add(1, Ordering::SeqCst);
+    well
+}
+
+// What a subscriber saw last of each publisher.
+#[derive(Clone, Copy)]
 struct Seen {
     first: u64,
     second: u64,
 }
 
-impl Seen {
-    fn is_last(&self) -> bool {
-        self.first == COUNT && self.second == COUNT
-    }
-
-    // Notes a payload: whether it is whole, and its number not below the last of its publisher.
-    fn note(&mut self, payload: &[u64]) -> bool {
-        let Some(base) = payload.first() else {
-            return false;
-        };
-        let publisher = *base / 8 % 2;
-        let number = *base / 16;
-        let before = if publisher == 0 {
-            &mut self.first
-        } else {
-            &mut self.second
-        };
-        let rises = *before <= number;
-        *before = number;
-        rises && is_whole(payload, publisher, number)
-    }
+// Notes a word: whether its number isn't below the last of its publisher.
+fn note(seen: &mut Seen, word: u64) -> bool {
+    let number = word / 2;
+    let before = if word % 2 == 0 {
+        &mut seen.first
+    } else {
+        &mut seen.second
+    };
+    let rises = *before <= number;
+    *before = number;
+    rises
 }
 
-fn is_whole(payload: &[u64], publisher: u64, number: u64) -> bool {
-    let mut place = 0u64;
-    for held in payload {
-        if *held != word(publisher, number, place) {
-            return false;
-        }
-        place = place.saturating_add(1);
-    }
-    place == 8
-}
-
-// Reads a sample, notes its payload behind the three words of its header, and gives it back.
-fn take<P: Receives>(port: &mut P, seen: &mut Seen, slot: u64) -> bool {
-    if !port.reads(slot) {
-        return false;
-    }
-    match port.words().get(3..) {
-        Some(payload) => seen.note(payload) && port.releases(slot),
+// Reads a sample and notes its word.
+fn take(port: &mut LaneSubscriber, seen: &mut Seen, slot: u64) -> bool {
+    match read_eight(port, slot) {
+        Some(word) => note(seen, word),
         None => false,
     }
 }
 
-// Once all run, receives until both publishers are done and nothing waits; whether all that came was well, and the last number of
-// each came.
-fn receive_all<P: Receives>(rt: &impl Wait, port: &mut P, start: &Start, done: &AtomicU64) -> bool {
-    start.all_begin(4) && receive_numbers(rt, port, done)
-}
-
-fn receive_numbers<P: Receives>(rt: &impl Wait, port: &mut P, done: &AtomicU64) -> bool {
+// Receives until both publishers are done and nothing waits; whether all that came was well, and the last number of each came.
+fn receive_numbers(rt: &impl Wait, port: &mut LaneSubscriber, done: &AtomicU64) -> bool {
     let mut seen = Seen {
         first: 0,
         second: 0,
@@ -134,12 +89,17 @@ fn receive_numbers<P: Receives>(rt: &impl Wait, port: &mut P, done: &AtomicU64) 
                     return false;
                 }
             }
-            Receipt::Nothing if ended => return seen.is_last(),
+            Receipt::Nothing if ended => return seen.first == COUNT && seen.second == COUNT,
             Receipt::Nothing => thread::yield_now(),
             Receipt::ExceedsMaxBorrows => return false,
         }
     }
     false
+}
+
+// Once all run, receives.
+fn receive_all(rt: &impl Wait, port: &mut LaneSubscriber, start: &Start, done: &AtomicU64) -> bool {
+    start.all_begin(4) && receive_numbers(rt, port, done)
 }
 
 // All four in threads of their own.
@@ -149,16 +109,10 @@ fn all_run<R: Threads + Wait + Sync>(
     subscribers: &mut [LaneSubscriber],
     start: &Start,
 ) -> bool {
-    let Some((first, others)) = publishers.split_first_mut() else {
+    let Some((first, second)) = pair(publishers) else {
         return false;
     };
-    let Some(second) = others.first_mut() else {
-        return false;
-    };
-    let Some((here, elsewhere)) = subscribers.split_first_mut() else {
-        return false;
-    };
-    let Some(there) = elsewhere.first_mut() else {
+    let Some((here, there)) = pair(subscribers) else {
         return false;
     };
     let done = AtomicU64::new(0);
@@ -184,7 +138,7 @@ fn goes<R: Threads + Wait + Sync>(
     alloc: Global,
     kind: RingKind,
 ) -> Result<bool, AllocError> {
-    let mut threads = opened(alloc, lanes(alloc, kind)?)?;
+    let mut threads = opened(alloc, kind, 8)?;
     let start = Start::new();
     let well = all_run(
         rt,

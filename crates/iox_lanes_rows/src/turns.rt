@@ -1,11 +1,8 @@
 //! Two threads that answer each other, each with a publisher and a subscriber.
 use crate::answers::hold;
-use crate::ports::{Receives, Sends};
-use crate::service::{is_ended, narrow_lanes, opened, read_back, sent_eight};
+use crate::service::{is_ended, opened, pair, read_eight, sent_eight};
 use crate::start::Start;
-use iox_lanes_base::calls::Receipt;
-use iox_lanes_threads::{LanePublisher, LaneSubscriber};
-use iox_queues_steps::rings::RingKind;
+use iox_lanes::{LanePublisher, LaneSubscriber, Receipt, RingKind};
 use std::alloc::{AllocError, Global};
 use std::sync::Wait;
 use std::thread;
@@ -14,10 +11,10 @@ use std::thread::Threads;
 const TRIES: u64 = 1 << 24;
 
 // Receives until this word comes, and gives each sample back; whether it came.
-fn comes<P: Receives>(rt: &impl Wait, port: &mut P, value: u64) -> bool {
+fn comes(rt: &impl Wait, port: &mut LaneSubscriber, value: u64) -> bool {
     for _ in 0..TRIES {
         match port.receive(rt) {
-            Receipt::Taken { slot, .. } => match read_back(port, slot) {
+            Receipt::Taken { slot, .. } => match read_eight(port, slot) {
                 Some(found) if found == value => return true,
                 Some(_) => {}
                 None => return false,
@@ -30,20 +27,20 @@ fn comes<P: Receives>(rt: &impl Wait, port: &mut P, value: u64) -> bool {
 }
 
 // Once both run, sends 1, and receives until 2 comes.
-fn asks<P: Sends, S: Receives>(
+fn asks(
     rt: &impl Wait,
-    sender: &mut P,
-    receiver: &mut S,
+    sender: &mut LanePublisher,
+    receiver: &mut LaneSubscriber,
     start: &Start,
 ) -> bool {
     start.all_begin(2) && sent_eight(sender, 1).is_some() && comes(rt, receiver, 2)
 }
 
 // Once both run, receives until 1 comes, and sends 2.
-fn answers<P: Sends, S: Receives>(
+fn answers(
     rt: &impl Wait,
-    sender: &mut P,
-    receiver: &mut S,
+    sender: &mut LanePublisher,
+    receiver: &mut LaneSubscriber,
     start: &Start,
 ) -> bool {
     start.all_begin(2) && comes(rt, receiver, 1) && sent_eight(sender, 2).is_some()
@@ -54,16 +51,19 @@ fn both_run<R: Threads + Wait + Sync>(
     publishers: &mut [LanePublisher],
     subscribers: &mut [LaneSubscriber],
     start: &Start,
-) -> Option<(bool, bool)> {
-    let (first, others) = publishers.split_first_mut()?;
-    let second = others.first_mut()?;
-    let (here, elsewhere) = subscribers.split_first_mut()?;
-    let there = elsewhere.first_mut()?;
-    Some(thread::join(
+) -> bool {
+    let Some((first, second)) = pair(publishers) else {
+        return false;
+    };
+    let Some((here, there)) = pair(subscribers) else {
+        return false;
+    };
+    let (asked, answered) = thread::join(
         rt,
         || asks(rt, first, here, start),
         || answers(rt, second, there, start),
-    ))
+    );
+    asked && answered
 }
 
 // Opens, runs and ends; whether both threads ended well.
@@ -72,7 +72,7 @@ fn goes<R: Threads + Wait + Sync>(
     alloc: Global,
     kind: RingKind,
 ) -> Result<bool, AllocError> {
-    let mut threads = opened(alloc, narrow_lanes(alloc, kind)?)?;
+    let mut threads = opened(alloc, kind, 2)?;
     let start = Start::new();
     let well = both_run(
         rt,
@@ -81,7 +81,7 @@ fn goes<R: Threads + Wait + Sync>(
         &start,
     );
     let ended = is_ended(threads);
-    start.judge(well == Some((true, true)) && ended)
+    start.judge(well && ended)
 }
 
 #[test]

@@ -1,4 +1,4 @@
-use Rattle.iox_lanes_rows.proofs.in_turn.goes.Goals as goal
+use Rattle.iox_lanes_rows.proofs.in_turn.takes.Goals as goal
 
 pub release-requires : goal.release-requires
 release-requires c =

@@ -1,0 +1,80 @@
+//! A schedule that lanes run at once: how many of its entries are made.
+use crate::answers::hold;
+use crate::stepping::new_lanes;
+use iox_lanes::{Call, Entry, LaneSizes, Lanes, Move, Party, RecordedLanes, RingKind};
+use std::alloc::{AllocError, Global};
+
+// One message may wait, and more are refused.
+const SIZES: LaneSizes = LaneSizes {
+    publishers: 1,
+    subscribers: 1,
+    kind: RingKind::Refusing,
+    buffer: 1,
+    most_borrowed: 1,
+    history: 0,
+    most_loans: 1,
+    slots: 3,
+    user_header_words: 0,
+    payload_words: 1,
+};
+
+const PUBLISHER: Party = Party::Publisher(0);
+
+const SUBSCRIBER: Party = Party::Subscriber(0);
+
+// A call and twelve steps behind its begin, which is one more than the longest has. Those behind its last step don't fit.
+fn ask(schedule: &mut Vec<Entry>, party: Party, call: Call) -> Result<(), AllocError> {
+    let step = Move::Begin(call);
+    schedule.push(Entry { party, step })?;
+    for _ in 0..12 {
+        schedule.push(Entry {
+            party,
+            step: Move::GoOn,
+        })?;
+    }
+    Ok(())
+}
+
+// A loan, which gets this slot, the write of its number into it, and its send.
+fn ask_send(alloc: Global, schedule: &mut Vec<Entry>, loan: u64) -> Result<(), AllocError> {
+    ask(schedule, PUBLISHER, Call::LoanUninit)?;
+    ask(schedule, PUBLISHER, Call::write(alloc, loan, &loan, &())?)?;
+    ask(schedule, PUBLISHER, Call::Send { loan })
+}
+
+// Two messages are sent, of which the second one is refused. The first one is received and released.
+fn ask_all(alloc: Global, schedule: &mut Vec<Entry>) -> Result<(), AllocError> {
+    ask_send(alloc, schedule, 0)?;
+    ask_send(alloc, schedule, 1)?;
+    ask(schedule, SUBSCRIBER, Call::Receive)?;
+    ask(schedule, SUBSCRIBER, Call::Release { sample: 0 })
+}
+
+// A loan has 4 steps, a write 3, a send 12 where there is room, and 10 where there is none, a receive 6 and a release 6.
+const MADE: usize = 4 + 3 + 12 + 4 + 3 + 10 + 6 + 6;
+
+fn run(lanes: &mut Lanes, schedule: &[Entry]) -> usize {
+    lanes.run(schedule)
+}
+
+fn run_recorded(lanes: &mut RecordedLanes, schedule: &[Entry]) -> usize {
+    lanes.run(schedule)
+}
+
+// Whether lanes make so many entries of it, and so do lanes that keep messages.
+fn both_make(alloc: Global, schedule: &[Entry]) -> Result<bool, AllocError> {
+    let alone = run(&mut Lanes::new(alloc, SIZES)?, schedule);
+    let recorded = run_recorded(&mut new_lanes(alloc, SIZES)?, schedule);
+    Ok([alone, recorded] == [MADE, MADE])
+}
+
+fn both_run(alloc: Global) -> Result<bool, AllocError> {
+    let mut schedule = Vec::new(alloc);
+    ask_all(alloc, &mut schedule)?;
+    both_make(alloc, &schedule)
+}
+
+#[test]
+fn a_run_counts_its_steps(rt: HostRuntime) -> Result<(), AllocError> {
+    hold(&rt, both_run(rt.alloc()))
+}
