@@ -11,6 +11,14 @@ use std::alloc::{AllocError, Global};
 /// What is drawn so far.
 pub type Shapes<'a> = Vec<Shape<'a>>;
 
+/// Draws one more shape.
+pub fn push<'a>(shapes: &mut Shapes<'a>, shape: Shape<'a>) -> Result<(), AllocError>
+    ensures items { OnOk result (shapes.new.items ≡ shapes.old.items ++ shape.entry ∷ []) }
+{
+    shapes.push(shape)?;
+    Ok(())
+}
+
 /// The first row from this one on that ended what has this name, or the row behind the last.
 pub fn end(conversation: &[Exchange<'_>], name: &[u8], from: usize) -> usize {
     for (row, it) in conversation.iter().enumerate() {
@@ -19,6 +27,16 @@ pub fn end(conversation: &[Exchange<'_>], name: &[u8], from: usize) -> usize {
         }
     }
     conversation.len()
+}
+
+/// How long the longest line is, and the longest reply.
+fn longest(conversation: &[Exchange<'_>]) -> (usize, usize) {
+    let (mut line, mut reply) = (0usize, 0usize);
+    for it in conversation {
+        line = line.max(it.line.len());
+        reply = reply.max(it.reply.len());
+    }
+    (line, reply)
 }
 
 /// How far to the right the replies of a picture are, and its lifelines, each with the row in which it begins.
@@ -32,23 +50,27 @@ pub struct Frame<'a> {
 impl<'a> Frame<'a> {
     /// The frame of a conversation: as wide as its longest line and reply, and its lifelines.
     pub fn new(alloc: Global, conversation: &[Exchange<'a>]) -> Result<Self, AllocError> {
-        let line = conversation.iter().map(|it| it.line.len()).max();
-        let reply = conversation.iter().map(|it| it.reply.len()).max();
-        let replies = line.unwrap_or(0).saturating_mul(8).saturating_add(32);
-        let widest = reply.unwrap_or(0).saturating_mul(8).saturating_add(48);
-        let mut width = widest.saturating_add(replies);
-        let mut lifelines = Vec::new(alloc);
-        for (row, it) in conversation.iter().enumerate() {
-            if let Some(name) = made(it.reply) {
-                lifelines.push((name, (width, row)))?;
-                width = width.saturating_add(64);
-            }
-        }
-        Ok(Frame {
+        let (line, reply) = longest(conversation);
+        let replies = line.saturating_mul(8).saturating_add(32);
+        let widest = reply.saturating_mul(8).saturating_add(48);
+        let mut frame = Frame {
             replies,
-            lifelines,
-            width,
-        })
+            lifelines: Vec::new(alloc),
+            width: widest.saturating_add(replies),
+        };
+        for (row, it) in conversation.iter().enumerate() {
+            frame.push_lifeline(row, it)?;
+        }
+        Ok(frame)
+    }
+
+    /// Adds the lifeline of what was made in a row, if anything was.
+    fn push_lifeline(&mut self, row: usize, it: &Exchange<'a>) -> Result<(), AllocError> {
+        if let Some(name) = made(it.reply) {
+            self.lifelines.push((name, (self.width, row)))?;
+            self.width = self.width.saturating_add(64);
+        }
+        Ok(())
     }
 
     /// How far to the right the lifeline of this name is; the left edge, where nothing of this name was made.
@@ -74,11 +96,11 @@ impl<'a> Frame<'a> {
         ensures reply { OnOk result (texts_of (codes "reply") shapes.new.items ≡ texts_of (codes "reply") shapes.old.items
             ++ (row, it.now.reply.now) ∷ []) }
     {
-        shapes.push(Shape::Text("line", (8, row), it.line))?;
-        shapes.push(Shape::Text("reply", (self.replies, row), it.reply))?;
+        push(shapes, Shape::Text("line", (8, row), it.line))?;
+        push(shapes, Shape::Text("reply", (self.replies, row), it.reply))?;
         if is(it.reply, b"ok 0") {
             let x = self.find(word(word(it.line).1).0).saturating_add(8);
-            shapes.push(Shape::Text("nobody", (x, row), b"x"))?;
+            push(shapes, Shape::Text("nobody", (x, row), b"x"))?;
         }
         Ok(())
     }
@@ -93,7 +115,8 @@ impl<'a> Frame<'a> {
         for it in &self.lifelines {
             let (x, row) = it.1;
             let until = end(conversation, it.0, row);
-            shapes.push(Shape::Stroke("life", (x, row), (x, until)))?;
+            let life = Shape::Stroke("life", (x, row), (x, until));
+            push(&mut shapes, life)?;
         }
         Ok(shapes)
     }
@@ -124,7 +147,8 @@ impl<'a> Frame<'a> {
     {
         for it in &self.lifelines {
             let (x, row) = it.1;
-            shapes.push(Shape::Text("name", (x.saturating_sub(8), row), it.0))?;
+            let name = Shape::Text("name", (x.saturating_sub(8), row), it.0);
+            push(shapes, name)?;
         }
         Ok(())
     }

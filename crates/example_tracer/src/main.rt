@@ -32,7 +32,7 @@ mod picture;
 mod record;
 mod replay;
 
-use exchange::conversation;
+use exchange::{Exchange, conversation};
 use gateway::{Gateway, replies};
 use iox_conversation::{Input, Output, serve, status};
 use picture::picture;
@@ -51,17 +51,24 @@ const NO_TABLE: &str = "the table can't be read";
 
 fn main(rt: HostRuntime) -> io::Result<ExitCode> {
     let word = env::args(&rt)?.nth(1);
-    match word.as_deref() {
-        None | Some("draw") => draw(&rt),
-        Some("record") => print_record(&rt),
-        Some("replay") => print_script(&rt),
-        Some("serve") => Ok(carry(&rt, rt.stdin())),
-        Some("all") => print_all(&rt),
-        Some(_) => {
-            rt.eprintln("the argument is draw, record, replay, serve or all")?;
-            Ok(ExitCode::from(MISUSED))
-        }
+    give(&rt, word.as_deref().unwrap_or("draw"))
+}
+
+/// Gives what an argument asks for.
+fn give(rt: &HostRuntime, word: &str) -> io::Result<ExitCode> {
+    match word {
+        "draw" => draw(rt, &read(rt)?),
+        "record" => print_record(rt, &read(rt)?),
+        "replay" => print_script(rt, &read(rt)?),
+        "serve" => Ok(carry(rt, rt.stdin())),
+        "all" => print_all(rt, &read(rt)?),
+        _ => misused(rt),
     }
+}
+
+fn misused(rt: &HostRuntime) -> io::Result<ExitCode> {
+    rt.eprintln("the argument is draw, record, replay, serve or all")?;
+    Ok(ExitCode::from(MISUSED))
 }
 
 /// All of standard input.
@@ -81,25 +88,26 @@ fn fail(rt: &HostRuntime, why: &str) -> io::Result<ExitCode> {
     Ok(ExitCode::FAILURE)
 }
 
-fn draw(rt: &HostRuntime) -> io::Result<ExitCode> {
-    let text = read(rt)?;
-    let conversation = conversation(rt.alloc(), &text)?;
-    let picture = picture(rt.alloc(), &conversation)?;
+fn draw(rt: &HostRuntime, text: &[u8]) -> io::Result<ExitCode> {
+    let conversation = conversation(rt.alloc(), text)?;
+    print_picture(rt, &conversation)
+}
+
+fn print_picture(rt: &HostRuntime, conversation: &[Exchange<'_>]) -> io::Result<ExitCode> {
+    let picture = picture(rt.alloc(), conversation)?;
     print(rt, picture.as_bytes())
 }
 
-fn print_record(rt: &HostRuntime) -> io::Result<ExitCode> {
-    let text = read(rt)?;
-    let conversation = conversation(rt.alloc(), &text)?;
+fn print_record(rt: &HostRuntime, text: &[u8]) -> io::Result<ExitCode> {
+    let conversation = conversation(rt.alloc(), text)?;
     match record(rt.alloc(), &conversation) {
         Ok(table) => print(rt, &table),
         Err(_) => fail(rt, NO_RECORD),
     }
 }
 
-fn print_script(rt: &HostRuntime) -> io::Result<ExitCode> {
-    let table = read(rt)?;
-    match replay(rt.alloc(), &table) {
+fn print_script(rt: &HostRuntime, table: &[u8]) -> io::Result<ExitCode> {
+    match replay(rt.alloc(), table) {
         Ok(script) => print(rt, &script),
         Err(_) => fail(rt, NO_TABLE),
     }
@@ -113,22 +121,41 @@ fn carry<R: Read + Drop>(rt: &HostRuntime, replies: R) -> ExitCode {
 }
 
 /// Prints what all other arguments give of a conversation, each below its name.
-fn print_all(rt: &HostRuntime) -> io::Result<ExitCode> {
-    let text = read(rt)?;
-    let conversation = conversation(rt.alloc(), &text)?;
+fn print_all(rt: &HostRuntime, text: &[u8]) -> io::Result<ExitCode> {
+    let conversation = conversation(rt.alloc(), text)?;
     rt.println("picture:")?;
-    rt.print(&picture(rt.alloc(), &conversation)?)?;
-    let Ok(table) = record(rt.alloc(), &conversation) else {
-        return fail(rt, NO_RECORD);
-    };
+    let _ = print_picture(rt, &conversation)?;
+    print_tables(rt, &conversation)
+}
+
+fn print_tables(rt: &HostRuntime, conversation: &[Exchange<'_>]) -> io::Result<ExitCode> {
+    match record(rt.alloc(), conversation) {
+        Ok(table) => print_table(rt, conversation, &table),
+        Err(_) => fail(rt, NO_RECORD),
+    }
+}
+
+fn print_table(
+    rt: &HostRuntime,
+    conversation: &[Exchange<'_>],
+    table: &[u8],
+) -> io::Result<ExitCode> {
     rt.println("record:")?;
-    rt.write_all(&table)?;
-    let Ok(script) = replay(rt.alloc(), &table) else {
-        return fail(rt, NO_TABLE);
-    };
+    rt.write_all(table)?;
+    match replay(rt.alloc(), table) {
+        Ok(script) => print_lines(rt, conversation, &script),
+        Err(_) => fail(rt, NO_TABLE),
+    }
+}
+
+fn print_lines(
+    rt: &HostRuntime,
+    conversation: &[Exchange<'_>],
+    script: &[u8],
+) -> io::Result<ExitCode> {
     rt.println("script of the record:")?;
-    rt.write_all(&script)?;
+    rt.write_all(script)?;
     rt.println("lines for another hub:")?;
-    let replies = replies(rt.alloc(), &conversation)?;
+    let replies = replies(rt.alloc(), conversation)?;
     Ok(carry(rt, &replies[..]))
 }

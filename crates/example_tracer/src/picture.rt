@@ -6,7 +6,7 @@ ghost use Rattle.example_tracer.specs.Picture.{makes, rows_of_way, lost_rows, Is
 use crate::arrows::{Arrow, is_lost, trace};
 use crate::drawing::{Shape, drawing};
 use crate::exchange::{Exchange, is, made, word};
-use crate::lifelines::{Frame, Shapes, end};
+use crate::lifelines::{Frame, Shapes, end, push};
 use std::alloc::{AllocError, Global};
 
 /// How each class of shape looks.
@@ -46,11 +46,11 @@ fn push_way(
 ) -> Result<(), AllocError>
     ensures { OnOk result (ways_in shapes.new.items ≡ ways_in shapes.old.items ++ rows_of_way arrow.now ∷ []) }
 {
-    shapes.push(match arrow.origin {
+    let way = match arrow.origin {
         Some(origin) => Shape::Stroke("message", (from, origin), (to, arrow.receipt)),
         None => Shape::Text("untold", (to.saturating_sub(16), arrow.receipt), b"?"),
-    })?;
-    Ok(())
+    };
+    push(shapes, way)
 }
 
 /// Adds a stroke in the row of each line that an arrow shows as lost.
@@ -67,7 +67,8 @@ fn push_losses(
     let since = birth(conversation, arrow.subscriber).unwrap_or(0);
     for line in 0..conversation.len() {
         if is_lost(conversation, before, arrow, line, since) {
-            shapes.push(Shape::Stroke("lost", (from, line), (from / 2 + to / 2, line)))?;
+            let lost = Shape::Stroke("lost", (from, line), (from / 2 + to / 2, line));
+            push(shapes, lost)?;
         }
     }
     Ok(())
@@ -87,7 +88,8 @@ fn push_arrow(
     let (from, to) = (frame.find(arrow.publisher), frame.find(arrow.subscriber));
     if let Some(it) = conversation.get(arrow.receipt) {
         let until = end(conversation, word(word(it.reply).1).0, arrow.receipt);
-        shapes.push(Shape::Stroke("held", (to, arrow.receipt), (to, until)))?;
+        let held = Shape::Stroke("held", (to, arrow.receipt), (to, until));
+        push(shapes, held)?;
     }
     push_way(shapes, arrow, from, to)?;
     push_losses(shapes, conversation, before, arrow, from, to)

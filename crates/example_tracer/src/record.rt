@@ -1,5 +1,5 @@
 //! The record of a conversation, as CSV.
-ghost use Rattle.std.specs.Prelude.{◌≡◌, ◌∷◌, ◌+◌, IfOk, length, map};
+ghost use Rattle.std.specs.Prelude.{◌≡◌, ◌∷◌, ◌++◌, ◌+◌, IfOk, OnOk, length, map};
 ghost use Rattle.csv.specs.Reading.{default_config, records_from};
 ghost use Rattle.csv.specs.Writing.{default_writer, row_text};
 ghost use Rattle.csv.specs.declared.parser.State.TheVariants as st;
@@ -65,6 +65,17 @@ fn row(alloc: Global, it: &Exchange<'_>) -> Result<Vec<u8>, Error>
     )
 }
 
+/// Adds the row of a line and its reply to a table.
+fn push_row(alloc: Global, table: &mut Vec<u8>, it: &Exchange<'_>) -> Result<(), Error>
+    ensures { OnOk result (table.new.items ≡ table.old.items ++ row_text default_writer (fields_of it.now)) }
+{
+    let row = row(alloc, it)?;
+    match table.extend_from_slice(&row) {
+        Ok(()) => Ok(()),
+        Err(_) => Err(Error::out_of_memory()),
+    }
+}
+
 /// The record of a conversation.
 pub fn record(alloc: Global, conversation: &[Exchange<'_>]) -> Result<Vec<u8>, Error>
     ensures table { IfOk result (λ text. text.items ≡ table_of conversation.now) }
@@ -74,10 +85,7 @@ pub fn record(alloc: Global, conversation: &[Exchange<'_>]) -> Result<Vec<u8>, E
 {
     let mut table = row_text(alloc, &HEADER)?;
     for it in conversation {
-        let row = row(alloc, it)?;
-        if table.extend_from_slice(&row).is_err() {
-            return Err(Error::out_of_memory());
-        }
+        push_row(alloc, &mut table, it)?;
     }
     Ok(table)
 }
