@@ -49,16 +49,24 @@ pub fn advertise<T: Words + ZeroCopySend>(
     values: usize,
 ) -> Result<PortId> {
     let service = join(alloc, bus, node, name)?;
-    ensure!(bus.holds(&service), "a service of another bus");
+    make_publisher(alloc, bus, &service, values)
+}
+
+fn make_publisher<T: Copy + ZeroCopySend>(
+    alloc: Global,
+    bus: &mut Bus<T>,
+    service: &PortFactory<PublishSubscribe>,
+    values: usize,
+) -> Result<PortId> {
+    ensure!(bus.holds(service), "a service of another bus");
     let builder = bus
-        .publisher_builder(&service)
+        .publisher_builder(service)
         .context("other messages")?
         .initial_max_slice_len(values)
         .max_loaned_samples(1)
         .set_handlers(Nobody);
     ensure!(builder.holds(bus), "no service");
-    let publisher = builder.create_slice(alloc, bus)?;
-    Ok(publisher.into_port())
+    Ok(builder.create_slice(alloc, bus)?.into_port())
 }
 
 /// Makes a subscriber.
@@ -69,14 +77,21 @@ pub fn listen<T: Words + ZeroCopySend>(
     name: &[u8],
 ) -> Result<PortId> {
     let service = join(alloc, bus, node, name)?;
-    ensure!(bus.holds(&service), "a service of another bus");
+    make_subscriber(alloc, bus, &service)
+}
+
+fn make_subscriber<T: Copy + ZeroCopySend>(
+    alloc: Global,
+    bus: &mut Bus<T>,
+    service: &PortFactory<PublishSubscribe>,
+) -> Result<PortId> {
+    ensure!(bus.holds(service), "a service of another bus");
     let builder = bus
-        .subscriber_builder(&service)
+        .subscriber_builder(service)
         .context("other messages")?
         .set_handler(Nobody);
     ensure!(builder.holds(bus), "no service");
-    let subscriber = builder.create_slice(alloc, bus)?;
-    Ok(subscriber.into_port())
+    Ok(builder.create_slice(alloc, bus)?.into_port())
 }
 
 /// Lets a publisher know who came to listen: they get its last messages.
@@ -91,14 +106,14 @@ pub fn follow<T: Copy>(alloc: Global, bus: &mut Bus<T>, port: PortId) -> Result<
     Ok(followed?)
 }
 
-/// Sends these values with a time stamp; the answer is to how many subscribers.
-pub fn publish<T: Copy>(
+/// A message of these values with a time stamp, which is still to be sent.
+fn write<T: Copy>(
     alloc: Global,
     bus: &mut Bus<T>,
     port: PortId,
     stamp: u64,
     values: &[T],
-) -> Result<usize> {
+) -> Result<slice::SampleMut<T, u64>> {
     let publisher = slice::Publisher::of_port(
         port,
         BackpressureStrategy::DiscardData,
@@ -112,7 +127,18 @@ pub fn publish<T: Copy>(
     publisher.into_port();
     let mut loan = loan?;
     loan.user_header_write(bus, stamp);
-    let sample = loan.write_from_slice(bus, values);
+    Ok(loan.write_from_slice(bus, values))
+}
+
+/// Sends these values with a time stamp; the answer is to how many subscribers.
+pub fn publish<T: Copy>(
+    alloc: Global,
+    bus: &mut Bus<T>,
+    port: PortId,
+    stamp: u64,
+    values: &[T],
+) -> Result<usize> {
+    let sample = write(alloc, bus, port, stamp, values)?;
     if !sample.holds(bus) || sample.is_blocked(bus) {
         sample.drop_with(bus);
         bail!("no loan");

@@ -122,45 +122,60 @@ fn is_last(display: &Shown) -> bool {
     display.of_first == LAST && display.of_second == LAST
 }
 
-// All four at once: how many numbers each sensor sent, and whether each display ended with the last one of both.
-fn run<R: Threads + Wait + Sync>(
-    rt: &R,
-    publishers: &mut [LanePublisher],
-    subscribers: &mut [LaneSubscriber],
-) -> Option<((u64, u64), (Shown, Shown))> {
-    let (first, others) = publishers.split_first_mut()?;
+// Both sensors at once: how many numbers each sent.
+fn sense<R: Threads + Sync>(rt: &R, ports: &mut [LanePublisher]) -> Option<(u64, u64)> {
+    let (first, others) = ports.split_first_mut()?;
     let second = others.first_mut()?;
-    let (here, elsewhere) = subscribers.split_first_mut()?;
-    let there = elsewhere.first_mut()?;
-    Some(thread::join(
-        rt,
-        || thread::join(rt, || measure(first, 0), || measure(second, 1)),
-        || thread::join(rt, || display(rt, here), || display(rt, there)),
-    ))
+    Some(thread::join(rt, || measure(first, 0), || measure(second, 1)))
 }
 
-// The lines that are printed.
-fn report<R: Threads + Wait + Sync>(rt: &R, alloc: Global) -> Result<String, AllocError> {
-    let lanes = Lanes::new(alloc, sizes())?;
-    let Ok(threads) = open_threads(alloc, 1, lanes) else {
-        return Err(AllocError);
-    };
+// Both displays at once: what each shows in the end.
+fn show<R: Threads + Wait + Sync>(rt: &R, ports: &mut [LaneSubscriber]) -> Option<(Shown, Shown)> {
+    let (here, elsewhere) = ports.split_first_mut()?;
+    let there = elsewhere.first_mut()?;
+    Some(thread::join(rt, || display(rt, here), || display(rt, there)))
+}
+
+// The lines that are printed, if there were two sensors and two displays.
+fn lines(
+    alloc: Global,
+    sent: Option<(u64, u64)>,
+    seen: Option<(Shown, Shown)>,
+    ended: bool,
+) -> Result<String, AllocError> {
+    let ((first, second), (here, there)) = sent.zip(seen).ok_or(AllocError)?;
+    let (here, there) = (is_last(&here), is_last(&there));
+    format!(in alloc;
+        "sensors sent {first} and {second}\ndisplays ended with both last numbers: {here} and {there}\nall ports ended: {ended}\n",
+    )
+}
+
+// All four at once, and then the end of their ports.
+fn run<R: Threads + Wait + Sync>(
+    rt: &R,
+    alloc: Global,
+    threads: LaneThreads,
+) -> Result<String, AllocError> {
     let LaneThreads {
         board,
         mut publishers,
         mut subscribers,
     } = threads;
-    let Some((sent, seen)) = run(rt, &mut publishers, &mut subscribers) else {
-        return Err(AllocError);
-    };
+    let (sent, seen) = thread::join(
+        rt,
+        || sense(rt, &mut publishers),
+        || show(rt, &mut subscribers),
+    );
     let ended = end(board, publishers, subscribers).is_ok();
-    format!(in alloc;
-        "sensors sent {} and {}\ndisplays ended with both last numbers: {} and {}\nall ports ended: {ended}\n",
-        sent.0,
-        sent.1,
-        is_last(&seen.0),
-        is_last(&seen.1),
-    )
+    lines(alloc, sent, seen, ended)
+}
+
+fn report<R: Threads + Wait + Sync>(rt: &R, alloc: Global) -> Result<String, AllocError> {
+    let lanes = Lanes::new(alloc, sizes())?;
+    match open_threads(alloc, 1, lanes) {
+        Ok(threads) => run(rt, alloc, threads),
+        Err(_) => Err(AllocError),
+    }
 }
 
 fn main(rt: HostRuntime) -> io::Result<()> {

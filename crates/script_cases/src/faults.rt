@@ -59,14 +59,15 @@ fn line_length(bytes: &[u8]) -> usize
     line.min(bytes.len())
 }
 
-/// How a conversation on a new hub ends where so many reads and writes go well, and whether just this was written.
-fn ends(
+/// Whether a conversation on a new hub ends so where so many reads and writes go well, and just this was written.
+fn ends_so(
     alloc: Global,
     config: HubConfig,
     script: &str,
     (reads, writes): (usize, usize),
     replies: &[u8],
-) -> (Result<(), ServeError>, bool) {
+    error: ServeError,
+) -> bool {
     let mut input = Input::new(LineByLine {
         rest: script.as_bytes(),
         good_calls: reads,
@@ -76,7 +77,7 @@ fn ends(
         good_calls: writes,
     });
     let ending = serve(alloc, config, &mut input, &mut output);
-    (ending, output.writer().bytes.as_slice() == replies)
+    ending == Err(error) && output.writer().bytes.as_slice() == replies
 }
 
 /// A script is said again, once for each read that may fail, also that which would find its end, and once for each write. How
@@ -88,20 +89,30 @@ pub fn left_by_faults(
     replies: &str,
 ) -> (usize, usize) {
     let replies = replies.as_bytes();
-    let mut counts = (0usize, 0usize);
+    let all = usize::MAX;
+    let (mut reads, mut writes) = (0usize, 0usize);
     let mut written = 0usize;
     for place in 0..=script.lines().count() {
         let before = &replies[..written.min(replies.len())];
-        let all = usize::MAX;
-        if ends(alloc, config, script, (place, all), before) == (Err(ServeError::ReadFault), true) {
-            counts.0 = counts.0.saturating_add(1);
-        }
-        if ends(alloc, config, script, (all, place), before)
-            == (Err(ServeError::WriteFault), true)
-        {
-            counts.1 = counts.1.saturating_add(1);
-        }
+        let read = ends_so(
+            alloc,
+            config,
+            script,
+            (place, all),
+            before,
+            ServeError::ReadFault,
+        );
+        let wrote = ends_so(
+            alloc,
+            config,
+            script,
+            (all, place),
+            before,
+            ServeError::WriteFault,
+        );
+        reads = reads.saturating_add(usize::from(read));
+        writes = writes.saturating_add(usize::from(wrote));
         written = written.saturating_add(line_length(&replies[before.len()..]));
     }
-    counts
+    (reads, writes)
 }

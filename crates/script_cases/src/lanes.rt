@@ -8,29 +8,30 @@ mod words;
 use iox_lanes_machine::Lanes;
 use std::alloc::Global;
 use std::io;
-use std::str::Lines;
 use words::word;
 
+// Prints a line of lanes with its answer.
+fn serve_line(rt: &HostRuntime, alloc: Global, lanes: &mut Lanes, line: &str) -> io::Result<()> {
+    let mut words = line.split_whitespace();
+    let first = word(&mut words);
+    let answer = viewing::answer(alloc, lanes, first, &mut words)?;
+    println!(rt; "{line} -> {answer}")
+}
+
 // Prints each line of lanes with its answer.
-fn serve_lanes(rt: &HostRuntime, mut lanes: Lanes, lines: Lines<'_>) -> io::Result<()> {
-    for line in lines {
-        let mut words = line.split_whitespace();
-        let first = word(&mut words);
-        let answer = viewing::answer(rt.alloc(), &mut lanes, first, &mut words)?;
-        println!(rt; "{line} -> {answer}")?;
+fn serve_lanes(rt: &HostRuntime, alloc: Global, lanes: &mut Lanes, lines: &str) -> io::Result<()> {
+    for line in lines.lines() {
+        serve_line(rt, alloc, lanes, line)?;
     }
     Ok(())
 }
 
 /// Prints the line that says which lanes they are, and each line behind it with its answer.
 pub(crate) fn answer_lanes(rt: &HostRuntime, alloc: Global, lines: &str) -> io::Result<()> {
-    let mut lines = lines.lines();
-    let head = lines.next().unwrap_or("");
+    let (head, rest) = lines.split_once('\n').unwrap_or((lines, ""));
     println!(rt; "{head}")?;
-    let mut words = head.split_whitespace();
-    let _ = words.next();
-    match making::lanes(alloc, &mut words)? {
-        Some(lanes) => serve_lanes(rt, lanes, lines),
+    match making::lanes(alloc, head)? {
+        Some(mut lanes) => serve_lanes(rt, alloc, &mut lanes, rest),
         None => Ok(()),
     }
 }

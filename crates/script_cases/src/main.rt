@@ -36,64 +36,72 @@ const EXPIRED_CONNECTION_BUFFER: u32 = 128;
 fn main(rt: HostRuntime) -> io::Result<()> {
     let text = io::read_to_string(rt.alloc(), rt.stdin())?;
     for block in text.split("\n\n") {
-        let (title, lines) = block.split_once('\n').unwrap_or((block, ""));
-        println!(rt; "{title}")?;
-        if title.starts_with("storage") {
-            answer_builders(&rt, lines)?;
-        } else if lines.starts_with("lanes ") {
-            answer_lanes(&rt, rt.alloc(), lines)?;
-        } else {
-            answer(&rt, expired(title), lines)?;
-        }
-        println!(rt; "")?;
+        answer_block(&rt, block)?;
     }
     Ok(())
+}
+
+// Prints a block with its answers, and the empty line behind it.
+fn answer_block(rt: &HostRuntime, block: &str) -> io::Result<()> {
+    let (title, lines) = block.split_once('\n').unwrap_or((block, ""));
+    println!(rt; "{title}")?;
+    answer_lines(rt, title, lines)?;
+    println!(rt; "")
+}
+
+fn answer_lines(rt: &HostRuntime, title: &str, lines: &str) -> io::Result<()> {
+    if title.starts_with("storage") {
+        answer_builders(rt, lines)
+    } else if lines.starts_with("lanes ") {
+        answer_lanes(rt, rt.alloc(), lines)
+    } else {
+        answer(rt, config(title), lines)
+    }
 }
 
 // Prints each call of a builder with what it comes to over a storage that answers so.
 fn answer_builders(rt: &HostRuntime, lines: &str) -> io::Result<()> {
     for line in lines.lines() {
-        let told = answered(rt.alloc(), line)?;
-        println!(rt; "{line} -> {told}")?;
+        answer_builder(rt, line)?;
     }
     Ok(())
+}
+
+fn answer_builder(rt: &HostRuntime, line: &str) -> io::Result<()> {
+    let told = answered(rt.alloc(), line)?;
+    println!(rt; "{line} -> {told}")
 }
 
 // How many connections of publishers that left a subscriber keeps.
-fn expired(title: &str) -> u32 {
-    let Some((_, rest)) = title.split_once("expired ") else {
-        return EXPIRED_CONNECTION_BUFFER;
-    };
-    let (number, _) = rest.split_once(':').unwrap_or((rest, ""));
-    number.parse::<u32>().unwrap_or(EXPIRED_CONNECTION_BUFFER)
+fn expired(title: &str) -> Option<u32> {
+    let (_, rest) = title.split_once("expired ")?;
+    let (number, _) = rest.split_once(':')?;
+    number.parse::<u32>().ok()
+}
+
+fn config(title: &str) -> HubConfig {
+    HubConfig {
+        expired_connection_buffer: expired(title).unwrap_or(EXPIRED_CONNECTION_BUFFER),
+        id: 0,
+    }
 }
 
 // Prints each line of a block with what a new hub replies.
-fn answer(rt: &HostRuntime, expired: u32, lines: &str) -> io::Result<()> {
-    let (said, faults) = match lines.strip_suffix("\nfaults") {
-        Some(said) => (said, true),
-        None => (lines, false),
-    };
+fn answer(rt: &HostRuntime, config: HubConfig, lines: &str) -> io::Result<()> {
+    let said = lines.strip_suffix("\nfaults").unwrap_or(lines);
     let script = spelled(rt.alloc(), said)?;
-    let replies = replied(rt.alloc(), expired, script.as_bytes())?;
+    let replies = replied(rt.alloc(), config, script.as_bytes());
     tell(rt, said, &mut replies.lines())?;
-    if faults {
-        let (reads, writes) = left_by_faults(
-            rt.alloc(),
-            config(expired),
-            script.as_str(),
-            replies.as_str(),
-        );
-        println!(rt; "faults -> {reads} reads, {writes} writes")?;
+    if said == lines {
+        Ok(())
+    } else {
+        tell_faults(rt, config, script.as_str(), replies.as_str())
     }
-    Ok(())
 }
 
-fn config(expired: u32) -> HubConfig {
-    HubConfig {
-        expired_connection_buffer: expired,
-        id: 0,
-    }
+fn tell_faults(rt: &HostRuntime, config: HubConfig, script: &str, replies: &str) -> io::Result<()> {
+    let (reads, writes) = left_by_faults(rt.alloc(), config, script, replies);
+    println!(rt; "faults -> {reads} reads, {writes} writes")
 }
 
 // How often lines are said, and the lines.
@@ -111,44 +119,50 @@ fn counted(line: &str) -> (usize, &str) {
 fn spelled(alloc: Global, lines: &str) -> Result<String, AllocError> {
     let mut script = String::new(alloc);
     for line in lines.lines() {
-        let (times, once) = counted(line);
-        for time in 0..times {
-            say(alloc, &mut script, once, time)?;
-        }
+        spell(alloc, &mut script, line)?;
     }
     Ok(script)
+}
+
+// Says lines as often as they ask for.
+fn spell(alloc: Global, script: &mut String, line: &str) -> Result<(), AllocError> {
+    let (times, once) = counted(line);
+    let once = once.replace(alloc, "; ", "\n")?;
+    for time in 0..times {
+        say(alloc, script, once.as_str(), time)?;
+    }
+    Ok(())
 }
 
 // Says lines once more, after so many times.
 fn say(alloc: Global, script: &mut String, once: &str, time: usize) -> Result<(), AllocError> {
     let number = format!(in alloc; "{}", time.saturating_add(1))?;
     let numbered = once.replace(alloc, "#", number.as_str())?;
-    for line in numbered.split("; ") {
-        script.push_str(line)?;
-        script.push('\n')?;
-    }
-    Ok(())
+    script.push_str(numbered.as_str())?;
+    script.push('\n')
 }
 
 // What a new hub replies to a script.
-fn replied(alloc: Global, expired: u32, script: &[u8]) -> io::Result<String> {
-    let mut input = Input::new(script);
+fn replied(alloc: Global, config: HubConfig, script: &[u8]) -> String {
     let mut output = Output::new(Vec::new(alloc));
-    let _ = serve(alloc, config(expired), &mut input, &mut output);
-    let replies = output.into_writer();
-    Ok(String::from_utf8(replies).unwrap_or(String::new(alloc)))
+    let _ = serve(alloc, config, &mut Input::new(script), &mut output);
+    String::from_utf8(output.into_writer()).unwrap_or(String::new(alloc))
 }
 
 // The next replies, as many as lines are said at once.
 fn heard(alloc: Global, lines: usize, replies: &mut Lines<'_>) -> Result<String, AllocError> {
     let mut text = String::new(alloc);
     for place in 0..lines {
-        if place > 0 {
-            text.push_str("; ")?;
-        }
-        text.push_str(replies.next().unwrap_or(""))?;
+        push_reply(&mut text, place, replies.next().unwrap_or(""))?;
     }
     Ok(text)
+}
+
+fn push_reply(text: &mut String, place: usize, reply: &str) -> Result<(), AllocError> {
+    if place > 0 {
+        text.push_str("; ")?;
+    }
+    text.push_str(reply)
 }
 
 // What lines are told that are said so often.
@@ -156,24 +170,37 @@ fn told(alloc: Global, line: &str, replies: &mut Lines<'_>) -> Result<String, Al
     let (times, once) = counted(line);
     let lines = once.split("; ").count();
     let first = heard(alloc, lines, replies)?;
+    match last_if_other(alloc, first.as_str(), (times, lines), replies)? {
+        Some(last) => format!(in alloc; "{first} .. {last}"),
+        None => Ok(first),
+    }
+}
+
+// What so many lines are told the last of so many times, if any time differs from the first.
+fn last_if_other(
+    alloc: Global,
+    first: &str,
+    (times, lines): (usize, usize),
+    replies: &mut Lines<'_>,
+) -> Result<Option<String>, AllocError> {
     let mut last = String::new(alloc);
-    let mut same = true;
+    let mut differs = false;
     for _ in 1..times {
         last = heard(alloc, lines, replies)?;
-        same = same && last == first;
+        differs = differs || last.as_str() != first;
     }
-    if same {
-        Ok(first)
-    } else {
-        format!(in alloc; "{first} .. {last}")
-    }
+    Ok(if differs { Some(last) } else { None })
 }
 
 // Prints each line with what it is told.
 fn tell(rt: &HostRuntime, lines: &str, replies: &mut Lines<'_>) -> io::Result<()> {
     for line in lines.lines() {
-        let answer = told(rt.alloc(), line, replies)?;
-        println!(rt; "{line} -> {answer}")?;
+        tell_line(rt, line, replies)?;
     }
     Ok(())
+}
+
+fn tell_line(rt: &HostRuntime, line: &str, replies: &mut Lines<'_>) -> io::Result<()> {
+    let answer = told(rt.alloc(), line, replies)?;
+    println!(rt; "{line} -> {answer}")
 }

@@ -1,5 +1,5 @@
 //! Calls of the parties of lanes, by steps and whole.
-use crate::lanes::said::Said;
+use crate::lanes::said::{NONE, Said, UNKNOWN};
 use crate::lanes::words::{number, word};
 use iox_lanes_base::calls::Receipt;
 use iox_lanes_machine::Lanes;
@@ -15,46 +15,79 @@ const MOST: u64 = 100_000;
 // What each word of a user header is, where a line names none.
 const USER_HEADER: u64 = 6;
 
+/// What a line of a party came to.
+#[derive(Clone, Copy)]
+pub(crate) enum CameTo {
+    /// A step that is none, or not the last of its call.
+    Step(Stepped),
+    /// The end of a call, or of none: the call that ended last has the answer.
+    End,
+    /// A read, whose words begin at this place.
+    Words(usize),
+    /// Nothing, since the line isn't understood.
+    Nothing,
+}
+
+// The words that were read, from a place on.
+fn words_from(lanes: &Lanes, from: usize) -> Said<'_> {
+    Said::Words(lanes.words_read().get(from..).unwrap_or(&[]))
+}
+
 // What the call that ended last answered, and of a read its words.
 fn ended(lanes: &Lanes) -> Said<'_> {
     let Some(call) = lanes.finished().last() else {
-        return Said::Nothing;
+        return NONE;
     };
     match call.answer {
-        Answer::Read { from } => match lanes.words_read().get(from..) {
-            Some(words) => Said::Words(words),
-            None => Said::Unknown,
-        },
+        Answer::Read { from } => words_from(lanes, from),
         answer => Said::Ended(answer),
     }
 }
 
+/// What is said where a line came to this.
+pub(crate) fn said(lanes: &Lanes, came_to: CameTo) -> Said<'_> {
+    match came_to {
+        CameTo::Step(stepped) => Said::Stepped(stepped),
+        CameTo::End => ended(lanes),
+        CameTo::Words(from) => words_from(lanes, from),
+        CameTo::Nothing => UNKNOWN,
+    }
+}
+
+// What a call came to whose last step came to this.
+fn came_to(stepped: Stepped) -> CameTo {
+    match stepped {
+        Stepped::Finished => CameTo::End,
+        stepped => CameTo::Step(stepped),
+    }
+}
+
+fn step(lanes: &mut Lanes, party: Party, next: Move) -> Stepped {
+    lanes.step(party, &next)
+}
+
 // Makes so many steps at most of the call that a party is in; what the last one came to.
 fn goes_on(lanes: &mut Lanes, party: Party, steps: u64) -> Stepped {
-    let mut stepped = Stepped::Went;
     for _ in 0..steps {
-        stepped = lanes.step(party, &Move::GoOn);
+        let stepped = step(lanes, party, Move::GoOn);
         if stepped != Stepped::Went {
             return stepped;
         }
     }
-    stepped
+    Stepped::Went
 }
 
 // Makes a call of so many steps at most, its begin among them; what its last one came to.
 fn called(lanes: &mut Lanes, party: Party, call: Call, steps: u64) -> Stepped {
-    match lanes.step(party, &Move::Begin(call)) {
+    match step(lanes, party, Move::Begin(call)) {
         Stepped::Went => goes_on(lanes, party, steps.saturating_sub(1)),
         stepped => stepped,
     }
 }
 
-// What is said of a step: the answer of the call, if that was its last.
-fn said(lanes: &Lanes, stepped: Stepped) -> Said<'_> {
-    match stepped {
-        Stepped::Finished => ended(lanes),
-        stepped => Said::Stepped(stepped),
-    }
+// Makes a whole call; whether it came to its end.
+fn ends(lanes: &mut Lanes, party: Party, call: Call) -> bool {
+    called(lanes, party, call, MOST) == Stepped::Finished
 }
 
 // So many words of this value.
@@ -77,10 +110,17 @@ fn filling(alloc: Global, lanes: &Lanes, loan: u64, value: u64) -> Result<Call, 
     })
 }
 
-// The rest of a line.
-fn numbers(alloc: Global, words: &mut SplitWhitespace<'_>) -> Result<Vec<u64>, AllocError> {
+// So many numbers of a line, or as many as it has left.
+fn numbers(
+    alloc: Global,
+    words: &mut SplitWhitespace<'_>,
+    count: u64,
+) -> Result<Vec<u64>, AllocError> {
     let mut numbers = Vec::new(alloc);
-    while let Some(word) = words.next() {
+    for _ in 0..count {
+        let Some(word) = words.next() else {
+            return Ok(numbers);
+        };
         numbers.push(word.parse::<u64>().unwrap_or(u64::MAX))?;
     }
     Ok(numbers)
@@ -90,15 +130,31 @@ fn numbers(alloc: Global, words: &mut SplitWhitespace<'_>) -> Result<Vec<u64>, A
 fn write(alloc: Global, words: &mut SplitWhitespace<'_>) -> Result<Call, AllocError> {
     let loan = number(words);
     let count = number(words);
-    let mut user_header = Vec::new(alloc);
-    for _ in 0..count {
-        user_header.push(number(words))?;
-    }
+    let user_header = numbers(alloc, words, count)?;
     Ok(Call::Write {
         loan,
-        payload: numbers(alloc, words)?,
+        payload: numbers(alloc, words, u64::MAX)?,
         user_header,
     })
+}
+
+// The call of a verb at the loan or sample that a line names.
+fn call_at(verb: &str, words: &mut SplitWhitespace<'_>) -> Option<Call> {
+    match verb {
+        "send" => Some(Call::Send {
+            loan: number(words),
+        }),
+        "drop" => Some(Call::DropLoan {
+            loan: number(words),
+        }),
+        "read" => Some(Call::Read {
+            sample: number(words),
+        }),
+        "release" => Some(Call::Release {
+            sample: number(words),
+        }),
+        _ => None,
+    }
 }
 
 // The call of a verb.
@@ -107,36 +163,17 @@ fn call_of(
     verb: &str,
     words: &mut SplitWhitespace<'_>,
 ) -> Result<Option<Call>, AllocError> {
-    Ok(Some(match verb {
-        "loan" => Call::LoanUninit,
-        "write" => return named(write(alloc, words)),
-        "send" => Call::Send {
-            loan: number(words),
-        },
-        "drop" => Call::DropLoan {
-            loan: number(words),
-        },
-        "receive" => Call::Receive,
-        "read" => Call::Read {
-            sample: number(words),
-        },
-        "release" => Call::Release {
-            sample: number(words),
-        },
-        _ => return Ok(None),
-    }))
-}
-
-fn named(call: Result<Call, AllocError>) -> Result<Option<Call>, AllocError> {
-    match call {
-        Ok(call) => Ok(Some(call)),
-        Err(error) => Err(error),
+    match verb {
+        "loan" => Ok(Some(Call::LoanUninit)),
+        "receive" => Ok(Some(Call::Receive)),
+        "write" => Ok(Some(write(alloc, words)?)),
+        _ => Ok(call_at(verb, words)),
     }
 }
 
 // The slot that a whole loan gives.
 fn lend(lanes: &mut Lanes, party: Party) -> Option<u64> {
-    if called(lanes, party, Call::LoanUninit, MOST) != Stepped::Finished {
+    if !ends(lanes, party, Call::LoanUninit) {
         return None;
     }
     match lanes.finished().last()?.answer {
@@ -145,46 +182,54 @@ fn lend(lanes: &mut Lanes, party: Party) -> Option<u64> {
     }
 }
 
-// Lends, writes this value and sends; whether it came to the end of the send.
-fn put(alloc: Global, lanes: &mut Lanes, party: Party, value: u64) -> Result<bool, AllocError> {
-    let Some(loan) = lend(lanes, party) else {
-        return Ok(false);
-    };
+// Writes this value into a loan and sends it; whether it came to the end of the send.
+fn fill(
+    alloc: Global,
+    lanes: &mut Lanes,
+    party: Party,
+    loan: u64,
+    value: u64,
+) -> Result<bool, AllocError> {
     let write = filling(alloc, lanes, loan, value)?;
-    Ok(
-        called(lanes, party, write, MOST) == Stepped::Finished
-            && called(lanes, party, Call::Send { loan }, MOST) == Stepped::Finished,
-    )
+    Ok(ends(lanes, party, write) && ends(lanes, party, Call::Send { loan }))
 }
 
-// Puts so many values, from 0 on; what the last call answered.
+// Lends, writes this value and sends; whether it came to the end of the send.
+fn put(alloc: Global, lanes: &mut Lanes, party: Party, value: u64) -> Result<bool, AllocError> {
+    match lend(lanes, party) {
+        Some(loan) => fill(alloc, lanes, party, loan, value),
+        None => Ok(false),
+    }
+}
+
+// Puts the values from one up to another, as long as that goes on.
 fn puts(
     alloc: Global,
     lanes: &mut Lanes,
     party: Party,
-    count: u64,
-) -> Result<Said<'_>, AllocError> {
-    for value in 0..count {
+    (from, to): (u64, u64),
+) -> Result<CameTo, AllocError> {
+    for value in from..to {
         if !put(alloc, lanes, party, value)? {
-            break;
+            return Ok(CameTo::End);
         }
     }
-    Ok(ended(lanes))
+    Ok(CameTo::End)
 }
 
-// Lends so many slots; what the last loan answered.
-fn loans(lanes: &mut Lanes, party: Party, count: u64) -> Said<'_> {
+// Lends so many slots, as long as that goes on.
+fn loans(lanes: &mut Lanes, party: Party, count: u64) -> CameTo {
     for _ in 0..count {
         if lend(lanes, party).is_none() {
-            break;
+            return CameTo::End;
         }
     }
-    ended(lanes)
+    CameTo::End
 }
 
 // The slot that a whole receive gives.
 fn receive(lanes: &mut Lanes, party: Party) -> Option<u64> {
-    if called(lanes, party, Call::Receive, MOST) != Stepped::Finished {
+    if !ends(lanes, party, Call::Receive) {
         return None;
     }
     match lanes.finished().last()?.answer {
@@ -193,114 +238,98 @@ fn receive(lanes: &mut Lanes, party: Party) -> Option<u64> {
     }
 }
 
-// Receives so many messages; what the last receive answered.
-fn receives(lanes: &mut Lanes, party: Party, count: u64) -> Said<'_> {
+// Receives so many messages, as long as that goes on.
+fn receives(lanes: &mut Lanes, party: Party, count: u64) -> CameTo {
     for _ in 0..count {
         if receive(lanes, party).is_none() {
-            break;
+            return CameTo::End;
         }
     }
-    ended(lanes)
+    CameTo::End
 }
 
 // Receives, reads and releases; where the words begin that were read, if all that came to its end.
 fn take(lanes: &mut Lanes, party: Party) -> Option<usize> {
     let sample = receive(lanes, party)?;
     let from = lanes.words_read().len();
-    if called(lanes, party, Call::Read { sample }, MOST) == Stepped::Finished
-        && called(lanes, party, Call::Release { sample }, MOST) == Stepped::Finished
-    {
+    if ends(lanes, party, Call::Read { sample }) && ends(lanes, party, Call::Release { sample }) {
         Some(from)
     } else {
         None
     }
 }
 
-// Takes so many messages; the words of the last one, or what a call answered that gave none.
-fn takes(lanes: &mut Lanes, party: Party, count: u64) -> Said<'_> {
+// Takes so many messages: it comes to the words of the last one, or to a call that gave none.
+fn takes(lanes: &mut Lanes, party: Party, count: u64) -> CameTo {
     let mut last = 0;
     for _ in 0..count {
         match take(lanes, party) {
             Some(from) => last = from,
-            None => return ended(lanes),
+            None => return CameTo::End,
         }
     }
-    Said::Words(lanes.words_read().get(last..).unwrap_or(&[]))
+    CameTo::Words(last)
 }
 
 // A call of so many steps at most.
-fn whole<'a>(
+fn within(
     alloc: Global,
-    lanes: &'a mut Lanes,
+    lanes: &mut Lanes,
+    party: Party,
+    steps: u64,
+    words: &mut SplitWhitespace<'_>,
+) -> Result<CameTo, AllocError> {
+    let verb = word(words);
+    match call_of(alloc, verb, words)? {
+        Some(call) => Ok(came_to(called(lanes, party, call, steps))),
+        None => Ok(CameTo::Nothing),
+    }
+}
+
+// What so many of a verb come to.
+fn counted(
+    alloc: Global,
+    lanes: &mut Lanes,
+    party: Party,
+    verb: &str,
+    number: u64,
+) -> Result<CameTo, AllocError> {
+    match verb {
+        "go" => Ok(came_to(goes_on(lanes, party, number))),
+        "put" => puts(alloc, lanes, party, (number, number.saturating_add(1))),
+        "puts" => puts(alloc, lanes, party, (0, number)),
+        "loans" => Ok(loans(lanes, party, number)),
+        "receives" => Ok(receives(lanes, party, number)),
+        "takes" => Ok(takes(lanes, party, number)),
+        _ => Ok(CameTo::Nothing),
+    }
+}
+
+// A whole call, or so many of a verb.
+fn whole(
+    alloc: Global,
+    lanes: &mut Lanes,
     party: Party,
     verb: &str,
     words: &mut SplitWhitespace<'_>,
-    steps: u64,
-) -> Result<Said<'a>, AllocError> {
-    let Some(call) = call_of(alloc, verb, words)? else {
-        return Ok(Said::Unknown);
-    };
-    let stepped = called(lanes, party, call, steps);
-    Ok(said(lanes, stepped))
+) -> Result<CameTo, AllocError> {
+    match call_of(alloc, verb, words)? {
+        Some(call) => Ok(came_to(called(lanes, party, call, MOST))),
+        None => counted(alloc, lanes, party, verb, number(words)),
+    }
 }
 
-// The first step of a call.
-fn begin<'a>(
+/// What a line of a party comes to.
+pub(crate) fn answer(
     alloc: Global,
     lanes: &mut Lanes,
     party: Party,
     words: &mut SplitWhitespace<'_>,
-) -> Result<Said<'a>, AllocError> {
-    let verb = word(words);
-    let Some(call) = call_of(alloc, verb, words)? else {
-        return Ok(Said::Unknown);
-    };
-    Ok(Said::Stepped(lanes.step(party, &Move::Begin(call))))
-}
-
-fn go(lanes: &mut Lanes, party: Party, steps: u64) -> Said<'_> {
-    let stepped = goes_on(lanes, party, steps);
-    said(lanes, stepped)
-}
-
-fn within<'a>(
-    alloc: Global,
-    lanes: &'a mut Lanes,
-    party: Party,
-    words: &mut SplitWhitespace<'_>,
-) -> Result<Said<'a>, AllocError> {
-    let steps = number(words);
-    let verb = word(words);
-    whole(alloc, lanes, party, verb, words, steps)
-}
-
-fn put_one<'a>(
-    alloc: Global,
-    lanes: &'a mut Lanes,
-    party: Party,
-    value: u64,
-) -> Result<Said<'a>, AllocError> {
-    let _ = put(alloc, lanes, party, value)?;
-    Ok(ended(lanes))
-}
-
-/// What a line of a party answers.
-pub(crate) fn answer<'a>(
-    alloc: Global,
-    lanes: &'a mut Lanes,
-    party: Party,
-    words: &mut SplitWhitespace<'_>,
-) -> Result<Said<'a>, AllocError> {
+) -> Result<CameTo, AllocError> {
     match word(words) {
-        "begin" => begin(alloc, lanes, party, words),
-        "go" => Ok(go(lanes, party, number(words))),
-        "within" => within(alloc, lanes, party, words),
-        "put" => put_one(alloc, lanes, party, number(words)),
-        "puts" => puts(alloc, lanes, party, number(words)),
-        "loans" => Ok(loans(lanes, party, number(words))),
-        "receives" => Ok(receives(lanes, party, number(words))),
+        "begin" => within(alloc, lanes, party, 1, words),
+        "within" => within(alloc, lanes, party, number(words), words),
         "take" => Ok(takes(lanes, party, 1)),
-        "takes" => Ok(takes(lanes, party, number(words))),
-        verb => whole(alloc, lanes, party, verb, words, MOST),
+        verb => whole(alloc, lanes, party, verb, words),
     }
 }

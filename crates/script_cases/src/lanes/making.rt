@@ -1,62 +1,49 @@
 //! Lanes as a line asks for them.
-use crate::lanes::words::{setting, word};
+use crate::lanes::words::setting;
 use iox_lanes_machine::{LaneSizes, Lanes};
 use iox_queues_steps::rings::RingKind;
 use std::alloc::{AllocError, Global};
-use std::str::SplitWhitespace;
 
-// What the next word says of full rings.
-fn kind(words: &mut SplitWhitespace<'_>) -> RingKind {
-    match word(words) {
-        "refusing" => RingKind::Refusing,
-        _ => RingKind::Overflowing,
+// What a line says of full rings.
+fn kind(line: &str) -> RingKind {
+    if line.starts_with("lanes refusing") {
+        RingKind::Refusing
+    } else {
+        RingKind::Overflowing
     }
 }
 
-// One of each, where a line names no other number.
-fn least(kind: RingKind) -> LaneSizes {
+// The size that a line gives under a name, or another where it gives none.
+fn size(line: &str, name: &str, otherwise: u64) -> u64 {
+    for word in line.split_whitespace() {
+        if let Some((named, size)) = setting(word) {
+            if named == name {
+                return size;
+            }
+        }
+    }
+    otherwise
+}
+
+// The sizes that a line names, and one of each other.
+fn sizes(line: &str) -> LaneSizes {
     LaneSizes {
-        publishers: 1,
-        subscribers: 1,
-        kind,
-        buffer: 1,
-        most_borrowed: 1,
-        history: 0,
-        most_loans: 1,
-        slots: 3,
-        user_header_words: 0,
-        payload_words: 1,
-    }
-}
-
-// Takes in a size.
-fn set(sizes: &mut LaneSizes, word: &str) {
-    let Some((name, size)) = setting(word) else {
-        return;
-    };
-    match name {
-        "publishers" => sizes.publishers = size,
-        "subscribers" => sizes.subscribers = size,
-        "buffer" => sizes.buffer = size,
-        "borrowed" => sizes.most_borrowed = size,
-        "history" => sizes.history = size,
-        "loans" => sizes.most_loans = size,
-        "slots" => sizes.slots = size,
-        "user_header" => sizes.user_header_words = size,
-        "payload" => sizes.payload_words = size,
-        _ => {}
+        publishers: size(line, "publishers", 1),
+        subscribers: size(line, "subscribers", 1),
+        kind: kind(line),
+        buffer: size(line, "buffer", 1),
+        most_borrowed: size(line, "borrowed", 1),
+        history: size(line, "history", 0),
+        most_loans: size(line, "loans", 1),
+        slots: size(line, "slots", 3),
+        user_header_words: size(line, "user_header", 0),
+        payload_words: size(line, "payload", 1),
     }
 }
 
 /// Lanes of the sizes that a line names; none where no message could wait.
-pub(crate) fn lanes(
-    alloc: Global,
-    words: &mut SplitWhitespace<'_>,
-) -> Result<Option<Lanes>, AllocError> {
-    let mut sizes = least(kind(words));
-    while let Some(word) = words.next() {
-        set(&mut sizes, word);
-    }
+pub(crate) fn lanes(alloc: Global, line: &str) -> Result<Option<Lanes>, AllocError> {
+    let sizes = sizes(line);
     if sizes.buffer == 0 {
         return Ok(None);
     }

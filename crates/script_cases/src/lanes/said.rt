@@ -2,7 +2,7 @@
 use iox_lanes_machine::Positions;
 use iox_lanes_parties::Answer;
 use iox_queues_steps::{Placed, Stepped};
-use std::fmt;
+use std::fmt::{self, Debug, Display};
 
 /// What a line answers.
 #[derive(Clone, Copy)]
@@ -11,12 +11,10 @@ pub(crate) enum Said<'a> {
     Is(bool),
     /// A number.
     Number(u64),
-    /// What was asked for is done.
-    Done,
-    /// There is nothing.
-    Nothing,
-    /// It is refused, for the reason of this text.
-    Refused(&'static str),
+    /// So many messages waited at a connection before the first step, of so many that may.
+    Waited(usize, u64),
+    /// This text: `none`, or `unknown` where the line isn't understood or doesn't fit what is there.
+    Text(&'static str),
     /// What a step came to.
     Stepped(Stepped),
     /// What a call answered as it ended.
@@ -27,27 +25,26 @@ pub(crate) enum Said<'a> {
     Positions(Positions),
     /// An entry of an order.
     Placed(Placed),
-    /// So many messages waited at a connection before the first step, of so many that may.
-    Waited(usize, u64),
-    /// The line isn't understood, or doesn't fit what is there.
-    Unknown,
 }
 
-impl<'a> fmt::Display for Said<'a> {
+/// What is said where there is nothing.
+pub(crate) const NONE: Said<'static> = Said::Text("none");
+
+/// What is said of a line that isn't understood, or doesn't fit what is there.
+pub(crate) const UNKNOWN: Said<'static> = Said::Text("unknown");
+
+impl Display for Said<'_> {
     fn fmt<W: fmt::Write>(&self, f: &mut fmt::Formatter<W>) -> fmt::Result {
         match self {
-            Said::Is(yes) => write!(f, "{yes}"),
-            Said::Number(number) => write!(f, "{number}"),
-            Said::Done => f.write_str("ok"),
-            Said::Nothing => f.write_str("none"),
-            Said::Refused(text) => f.write_str(text),
-            Said::Stepped(stepped) => write!(f, "{stepped:?}"),
-            Said::Ended(answer) => write!(f, "{answer:?}"),
-            Said::Words(words) => write!(f, "{words:?}"),
-            Said::Positions(positions) => write!(f, "{positions:?}"),
-            Said::Placed(placed) => write!(f, "{placed:?}"),
+            Said::Is(yes) => Display::fmt(yes, f),
+            Said::Number(number) => Display::fmt(number, f),
             Said::Waited(found, limit) => write!(f, "{found} of {limit}"),
-            Said::Unknown => f.write_str("unknown"),
+            Said::Text(text) => f.write_str(text),
+            Said::Stepped(stepped) => Debug::fmt(stepped, f),
+            Said::Ended(answer) => Debug::fmt(answer, f),
+            Said::Words(words) => Debug::fmt(words, f),
+            Said::Positions(positions) => Debug::fmt(positions, f),
+            Said::Placed(placed) => Debug::fmt(placed, f),
         }
     }
 }

@@ -1,86 +1,103 @@
 //! What lanes find before their first step, and what can be seen of them.
 use crate::lanes::calling;
-use crate::lanes::said::Said;
+use crate::lanes::said::{NONE, Said, UNKNOWN};
 use crate::lanes::words::{number, number_if, party, word};
 use iox_lanes_base::words::SlotWord;
 use iox_lanes_machine::{Found, Lanes};
+use iox_lanes_parties::Party;
 use std::alloc::{AllocError, Global};
 use std::str::SplitWhitespace;
 
-// What a line says is found. Of a publisher it may say a last number of a message; without one messages have no numbers.
+// What is found of a publisher, and at the connection at a place of its.
+fn found_at(kind: &str, publisher: usize, place: u64, third: u64) -> Option<Found> {
+    match kind {
+        "waiting" => Some(Found::Waiting {
+            publisher,
+            place,
+            slot: third,
+        }),
+        "back" => Some(Found::GivenBack {
+            publisher,
+            place,
+            slot: third,
+        }),
+        "newest" => Some(Found::Newest {
+            publisher,
+            slot: place,
+        }),
+        "buffer" => Some(Found::Buffer {
+            publisher,
+            place,
+            messages: third,
+        }),
+        "slots" => Some(Found::Slots {
+            publisher,
+            slots: place,
+            most_loans: third,
+        }),
+        _ => None,
+    }
+}
+
+// What is found of a sender: a line may say a last number of a message; without one messages have no numbers.
+fn sender(
+    publisher: usize,
+    (node_id, publisher_id): (u64, u64),
+    fails: bool,
+    last: Option<u64>,
+) -> Found {
+    Found::Sender {
+        publisher,
+        node_id,
+        publisher_id,
+        fails,
+        last,
+    }
+}
+
+fn held(slot: u64, word: SlotWord, value: u64) -> Found {
+    Found::Held { slot, word, value }
+}
+
+// What a line says is found.
 fn found(words: &mut SplitWhitespace<'_>) -> Option<Found> {
     let kind = word(words);
     let port = number(words);
     let place = number(words);
     let third = number(words);
-    let publisher = port as usize;
-    Some(match kind {
-        "waiting" => Found::Waiting {
-            publisher,
-            place,
-            slot: third,
-        },
-        "back" => Found::GivenBack {
-            publisher,
-            place,
-            slot: third,
-        },
-        "newest" => Found::Newest {
-            publisher,
-            slot: place,
-        },
-        "payload" => Found::Held {
-            slot: port,
-            word: SlotWord::Payload(place),
-            value: third,
-        },
-        "user_header" => Found::Held {
-            slot: port,
-            word: SlotWord::UserHeader(place),
-            value: third,
-        },
-        "buffer" => Found::Buffer {
-            publisher,
-            place,
-            messages: third,
-        },
-        "slots" => Found::Slots {
-            publisher,
-            slots: place,
-            most_loans: third,
-        },
-        "sender" | "failing" => Found::Sender {
-            publisher,
-            node_id: place,
-            publisher_id: third,
-            fails: kind == "failing",
-            last: number_if(words),
-        },
-        "swapped" => Found::Swapped {
-            subscriber: publisher,
+    match kind {
+        "payload" => Some(held(port, SlotWord::Payload(place), third)),
+        "user_header" => Some(held(port, SlotWord::UserHeader(place), third)),
+        "sender" | "failing" => Some(sender(
+            port as usize,
+            (place, third),
+            kind == "failing",
+            number_if(words),
+        )),
+        "swapped" => Some(Found::Swapped {
+            subscriber: port as usize,
             one: place,
             other: third,
-        },
-        _ => return None,
-    })
+        }),
+        _ => found_at(kind, port as usize, place, third),
+    }
 }
 
 fn find<'a>(lanes: &mut Lanes, words: &mut SplitWhitespace<'_>) -> Result<Said<'a>, AllocError> {
     match found(words) {
         Some(found) => Ok(Said::Is(lanes.find(found)?)),
-        None => Ok(Said::Unknown),
+        None => Ok(UNKNOWN),
     }
 }
 
 // The first so many slots wait at the first connection; how many of them were taken in.
 fn find_first<'a>(lanes: &mut Lanes, count: u64) -> Result<Said<'a>, AllocError> {
     for slot in 0..count {
-        let waiting = Found::Waiting {
+        if !lanes.find(Found::Waiting {
             publisher: 0,
             place: 0,
             slot,
-        };
-        if !lanes.find(waiting)? {
+        })? {
             return Ok(Said::Number(slot));
         }
     }
@@ -91,14 +108,14 @@ fn position(lanes: &Lanes, connection: u64) -> Said<'_> {
     if connection < lanes.links().len() as u64 {
         Said::Positions(lanes.position(connection))
     } else {
-        Said::Nothing
+        NONE
     }
 }
 
 fn link(lanes: &Lanes, connection: u64) -> Said<'_> {
     match lanes.links().get(connection as usize) {
         Some(link) => Said::Waited(link.found().len(), link.limit()),
-        None => Said::Nothing,
+        None => NONE,
     }
 }
 
@@ -111,14 +128,14 @@ fn remembered(lanes: &Lanes, publisher: u64, at: u64) -> Option<u64> {
 fn history(lanes: &Lanes, publisher: u64, at: u64) -> Said<'_> {
     match remembered(lanes, publisher, at) {
         Some(slot) => Said::Number(slot),
-        None => Said::Nothing,
+        None => NONE,
     }
 }
 
 fn order(lanes: &Lanes, connection: u64, at: u64) -> Said<'_> {
     match lanes.order(connection).get(at as usize) {
         Some(placed) => Said::Placed(*placed),
-        None => Said::Nothing,
+        None => NONE,
     }
 }
 
@@ -126,19 +143,24 @@ fn order(lanes: &Lanes, connection: u64, at: u64) -> Said<'_> {
 fn view<'a>(lanes: &'a Lanes, verb: &str, words: &mut SplitWhitespace<'_>) -> Said<'a> {
     match verb {
         "links" => Said::Number(lanes.links().len() as u64),
-        "link" => link(lanes, number(words)),
-        "history" => {
-            let publisher = number(words);
-            history(lanes, publisher, number(words))
-        }
-        "position" => position(lanes, number(words)),
-        "order" => {
-            let connection = number(words);
-            order(lanes, connection, number(words))
-        }
         "moments" => Said::Number(lanes.moments()),
-        _ => Said::Unknown,
+        "link" => link(lanes, number(words)),
+        "position" => position(lanes, number(words)),
+        "history" => history(lanes, number(words), number(words)),
+        "order" => order(lanes, number(words), number(words)),
+        _ => UNKNOWN,
     }
+}
+
+// What a line of a party answers.
+fn called<'a>(
+    alloc: Global,
+    lanes: &'a mut Lanes,
+    party: Party,
+    words: &mut SplitWhitespace<'_>,
+) -> Result<Said<'a>, AllocError> {
+    let came_to = calling::answer(alloc, lanes, party, words)?;
+    Ok(calling::said(lanes, came_to))
 }
 
 /// What a line of lanes answers.
@@ -149,7 +171,7 @@ pub(crate) fn answer<'a>(
     words: &mut SplitWhitespace<'_>,
 ) -> Result<Said<'a>, AllocError> {
     if let Some(party) = party(first) {
-        return calling::answer(alloc, lanes, party, words);
+        return called(alloc, lanes, party, words);
     }
     match first {
         "find" => find(lanes, words),

@@ -1,0 +1,156 @@
+//! What lies near the line of a service: its parts, and lines with another byte or a space more.
+use super::answering::Answering;
+use super::{NAME, called, published_line};
+use iox_describe::{ServiceHash, decode, encode_v1};
+use std::alloc::{AllocError, Global};
+
+// Whether a service can't be opened where these bytes lie in place of its line, as they are corrupted.
+fn is_corrupted(alloc: Global, pattern: &str, bytes: &[u8]) -> Result<bool, AllocError> {
+    let mut storage = Answering::new(alloc, "Found Registered", bytes, &[]);
+    let text = called(alloc, ("open", pattern, NAME), &mut storage)?;
+    Ok(text.as_str() == "ServiceInCorruptedState")
+}
+
+// These bytes with others in place of some.
+fn changed(
+    alloc: Global,
+    line: &[u8],
+    (from, to): (usize, usize),
+    others: &[u8],
+) -> Result<Vec<u8>, AllocError> {
+    let (from, to) = (from.min(line.len()), to.min(line.len()));
+    [&line[..from], others, &line[to..]].concat(alloc)
+}
+
+// One where a line isn't corrupted though others stand in place of some of its bytes.
+fn sound(
+    alloc: Global,
+    pattern: &str,
+    line: &[u8],
+    place: (usize, usize),
+    others: &[u8],
+) -> Result<usize, AllocError> {
+    let bytes = changed(alloc, line, place, others)?;
+    let is_corrupted = is_corrupted(alloc, pattern, bytes.as_slice())?;
+    Ok(usize::from(!is_corrupted))
+}
+
+// One where what stands before a place of a line, and isn't all of it, isn't corrupted.
+fn sound_prefix(
+    alloc: Global,
+    pattern: &str,
+    line: &[u8],
+    place: usize,
+) -> Result<usize, AllocError> {
+    if place == line.len() {
+        return Ok(0);
+    }
+    sound(alloc, pattern, line, (place, line.len()), b"")
+}
+
+// Whether a string has begun in these bytes, and not ended.
+fn is_inside(bytes: &[u8]) -> bool {
+    let mut is_inside = false;
+    for byte in bytes {
+        is_inside = is_inside != (*byte == b'"');
+    }
+    is_inside
+}
+
+// One where a space may come at a place of a line outside its strings, and it isn't corrupted.
+fn sound_space(
+    alloc: Global,
+    pattern: &str,
+    line: &[u8],
+    place: usize,
+) -> Result<usize, AllocError> {
+    if is_inside(&line[..place.min(line.len())]) {
+        return Ok(0);
+    }
+    sound(alloc, pattern, line, (place, place), b" ")
+}
+
+// The service of which a line is a description.
+fn hash_in(alloc: Global, line: &[u8]) -> Option<ServiceHash> {
+    match decode(alloc, line) {
+        Ok(description) => Some(*description.service_hash()),
+        Err(_) => None,
+    }
+}
+
+// One where a line with this byte at a place is neither corrupted nor the line of a description of the service.
+fn odd_byte(
+    alloc: Global,
+    pattern: &str,
+    line: &[u8],
+    place: usize,
+    byte: u8,
+) -> Result<usize, AllocError> {
+    let bytes = changed(alloc, line, (place, place.saturating_add(1)), &[byte])?;
+    let bytes = bytes.as_slice();
+    let describes = hash_in(alloc, bytes) == hash_in(alloc, line);
+    Ok(usize::from(is_corrupted(alloc, pattern, bytes)? == describes))
+}
+
+// How many changes of a byte of a line, to one of a few others, are odd.
+fn odd_bytes(alloc: Global, pattern: &str, line: &[u8], place: usize) -> Result<usize, AllocError> {
+    let mut odd = 0usize;
+    for byte in b"0\"}" {
+        odd = odd.saturating_add(odd_byte(alloc, pattern, line, place, *byte)?);
+    }
+    Ok(odd)
+}
+
+// How many lines that differ from a line at a place are amiss.
+fn amiss_at(
+    alloc: Global,
+    (verb, pattern): (&str, &str),
+    line: &[u8],
+    place: usize,
+) -> Result<usize, AllocError> {
+    match verb {
+        "prefixes" => sound_prefix(alloc, pattern, line, place),
+        "spaces" => sound_space(alloc, pattern, line, place),
+        _ => odd_bytes(alloc, pattern, line, place),
+    }
+}
+
+// How many lines near a line are amiss.
+fn count_amiss(alloc: Global, asked: (&str, &str), line: &[u8]) -> Result<usize, AllocError> {
+    let mut count = 0usize;
+    for place in 0..=line.len() {
+        count = count.saturating_add(amiss_at(alloc, asked, line, place)?);
+    }
+    Ok(count)
+}
+
+// The line of version 1 of what a line describes.
+fn first_line(alloc: Global, line: &[u8]) -> Result<Vec<u8>, AllocError> {
+    match decode(alloc, line) {
+        Ok(description) => encode_v1(alloc, &description).or(Err(AllocError)),
+        Err(_) => Err(AllocError),
+    }
+}
+
+// The line that a service is published with, or that of version 1.
+fn line_of(alloc: Global, pattern: &str, version: &str) -> Result<Vec<u8>, AllocError> {
+    let line = published_line(alloc, pattern, NAME)?;
+    if version == "1" {
+        first_line(alloc, line.as_slice())
+    } else {
+        Ok(line)
+    }
+}
+
+/// How often a service could be opened, or otherwise was amiss, with a part of its line or a line that is nearly it; `1` says
+/// that it is the line of version 1.
+pub(crate) fn amiss_lines(
+    alloc: Global,
+    verb: &str,
+    pattern: &str,
+    version: &str,
+) -> Result<String, AllocError> {
+    let line = line_of(alloc, pattern, version)?;
+    let count = count_amiss(alloc, (verb, pattern), line.as_slice())?;
+    format!(in alloc; "{count}")
+}
