@@ -89,6 +89,18 @@ fn world_of(domain: Numbers) -> World {
     }
 }
 
+// Puts a value in its place. What was there goes, as a value of any type, so that no caller pays for how it goes.
+fn put<X: Drop>(place: &mut Option<X>, value: X) {
+    drop(place.replace(value));
+}
+
+// Each thing of the world goes by itself.
+fn let_go(world: World) {
+    drop(world.domain);
+    drop(world.lanes);
+    drop(world.threads);
+}
+
 fn opened(alloc: Global, domain: Numbers) -> Result<NumberLanes, Refused<u64, u8>> {
     into_lanes(alloc, domain)
 }
@@ -127,11 +139,11 @@ fn opens(
     };
     match opened(alloc, domain) {
         Ok(lanes) => {
-            world.lanes = Some(lanes);
+            put(&mut world.lanes, lanes);
             Ok(wanted.is_none())
         }
         Err(refused) => {
-            world.domain = Some(refused.domain);
+            put(&mut world.domain, refused.domain);
             is_reason(refused.error, wanted)
         }
     }
@@ -144,11 +156,11 @@ fn returns(world: &mut World, wanted: Option<IntoDomainError>) -> bool {
     };
     match returned(lanes) {
         Ok(domain) => {
-            world.domain = Some(domain);
+            put(&mut world.domain, domain);
             wanted.is_none()
         }
         Err(still) => {
-            world.lanes = Some(still.lanes);
+            put(&mut world.lanes, still.lanes);
             wanted == Some(still.error)
         }
     }
@@ -169,11 +181,11 @@ fn starts(alloc: Global, world: &mut World, wanted: Option<OpenError>) -> Result
     };
     match started(alloc, lanes) {
         Ok(threads) => {
-            world.threads = Some(threads);
+            put(&mut world.threads, threads);
             Ok(wanted.is_none())
         }
         Err((reason, lanes)) => {
-            world.lanes = Some(lanes);
+            put(&mut world.lanes, lanes);
             is_cause(reason, wanted)
         }
     }
@@ -311,7 +323,10 @@ pub(crate) fn go(
     service: &Service,
     steps: &[Step],
 ) -> Result<usize, AllocError> {
-    count_right(rt, alloc, &mut world_of(make(alloc, service)?), steps)
+    let mut world = world_of(make(alloc, service)?);
+    let right = count_right(rt, alloc, &mut world, steps);
+    let_go(world);
+    right
 }
 
 /// What is done to a new domain of a service.
