@@ -42,7 +42,6 @@ use Rattle.iox_lanes_threads_ports.specs.Courses.{SubscriberGoes, SubscriberEnds
 use Rattle.iox_lanes_threads_ports.specs.Courses.SubscriberGoes.{stays, goes}
 use Rattle.iox_lanes_threads_ports.specs.Holding.{StandsBetween}
 use Rattle.iox_lanes_threads_ports.specs.Ports.{SubscriberStands}
-use Rattle.iox_lanes_threads_ports.specs.Strides.{subscriber_called}
 use Rattle.iox_lanes_threads_ports.specs.Values.{SubscriberPort, IsSeated, settled, IsBetween, IsShort, steps_left, Unmoved, received_of}
 use Rattle.iox_lanes_threads_ports.specs.Values.{released_of, Releases, Reads}
 use Rattle.iox_lanes_threads_ports.proofs.SubscriberSteps.{changed_stays, begins}
@@ -184,29 +183,6 @@ nearer sizes lane n small within short over =
     over in
     subst (λ (c : SubscriberCall). IsShort c × (steps_left c < steps_left lane.port.call)) (sym (call_after lane n))
     (next.short, next.fewer)
-
--- a release whose push is over comes to where only its last step is left
-pub release_short : (lane now : SubscriberLaneState) (place : ℕ) (route : Route) (last : push_type.Push) (answer : ℕ)
-    → refusing.push_is_over (refusing.push_take last answer) ≡ true
-    → now ≡ subscriber_after answer (subscriber_called (subscribing.Releasing place route last) lane) → IsShort now.port.call
-release_short lane now place route last answer over is =
-    subst (λ (c : SubscriberCall). IsShort c)
-    (sym (ap (λ (l : SubscriberLaneState). l.port.call) is
-    ∙ call_after (subscriber_called (subscribing.Releasing place route last) lane) answer)) (ended (refusing.push_take last answer) over)
-  where
-    told : (answer : PushAnswer) (next : push_type.Push) → IsShort (released place route next (Some answer))
-    told Kept next = tt
-    told (LeftOut oldest) next = tt
-    told Refused next = tt
-
-    ended : (next : push_type.Push) → refusing.push_is_over next ≡ true
-        → IsShort (released place route next (refusing_push_answer next))
-    ended push.Idle e = absurd (cc e)
-    ended (push.Begun limit value) e = absurd (cc e)
-    ended (push.SawWrite limit value write next) e = absurd (cc e)
-    ended (push.SawRoom value write next) e = absurd (cc e)
-    ended (push.Filled value next) e = absurd (cc e)
-    ended (push.Pushed value answered) e = told answered (push.Pushed value answered)
 
 -- the stages that a receive goes through, and where it leads to
 abbrev pub InReceive : SubscriberCall → Type 0

@@ -1,10 +1,9 @@
 -- Several steps of a port, which its lane makes up for at once, and those of a publisher.
 use Rattle.std.proofs.lemmas.Option.{slice_get-get_or}
 use Rattle.std.proofs.Common.{ℕ, ◌≡◌, ◌+◌, ◌<◌, ◌^◌, false, List, length, get_or, slice_get, Some, refl, sym, ◌∙◌, ap, subst, arith}
-use Rattle.atomic_table.specs.Seated.{TableId}
 use Rattle.atomic_table.specs.Table.{Me}
 use Rattle.iox_lanes_machine.specs.QueuesSteps.Access.{successor}
-use Rattle.iox_lanes_machine.specs.LanesBase.Numbers.{words_of, IsSmall}
+use Rattle.iox_lanes_machine.specs.LanesBase.Numbers.{IsSmall}
 use Rattle.iox_lanes_machine.specs.LanesBase.declared.words.sizes.TableSizes.{TableSizes}
 use Rattle.iox_lanes_machine.specs.LanesBase.declared.words.access.SharedAccess.{SharedAccess}
 use Rattle.iox_lanes_machine.specs.LanesBase.Publishing.{publisher_next, publisher_is_over, write_from, write_at, head_from, head_at}
@@ -24,7 +23,7 @@ use Rattle.iox_lanes_threads_ports.specs.declared.strides.SlotPart.{SlotPart}
 use Rattle.iox_lanes_threads_ports.specs.declared.strides.SlotPart.TheVariants.{Payload, Head}
 use Rattle.iox_lanes_threads_ports.specs.SlotParts.{storing, storing_at}
 use Rattle.iox_lanes_threads_ports.specs.Strides.{called, PublisherStrides, Strode, PublisherStrode, TouchesWord, LaneKind, publishers}
-use Rattle.iox_lanes_threads_ports.specs.Strides.{GoesAhead, StrodeBy, MayGoAhead, MakesMore}
+use Rattle.iox_lanes_threads_ports.specs.Strides.{GoesAhead}
 use Rattle.iox_lanes_threads_ports.specs.Strides.PublisherStrides.{stays, goes}
 use Rattle.iox_lanes_threads_ports.proofs.Coming.{publisher_makes}
 use Rattle.iox_lanes_threads_ports.proofs.PublisherSteps as steps
@@ -74,38 +73,6 @@ strode_moved Stands Went Goes p me me' now now' access answer after run stands w
       strides = subst (λ (z : Port). Goes z now') (sym port) went;
     }
 
--- what a port needs to make accesses ahead of its lane
-pub may_go : {L C : Type 0} (kind : LaneKind L C) (table seated : TableId) (me : Me ℕ View) (sizes : TableSizes) (lane : L)
-    → (seated ≡ table) × (table.words ≡ words_of sizes) × IsSmall sizes → (me ≡ single (port_of me)) × ((port_of me).service.sizes ≡ sizes)
-    → kind.Stands (port_of me) lane → MayGoAhead kind table seated me sizes lane
-may_go kind table seated me sizes lane its seat stands = record {
-  there = its.0;
-  seat = record { alone = seat.0; sizes_are = seat.1; small = its.2; words = its.1 };
-  stands = stands;
-}
-
--- it has it still behind steps
-pub may_behind : {L C : Type 0} {kind : LaneKind L C} {Went : Port → L → Type 0} (table seated seated' : TableId) (me me' : Me ℕ View)
-    (sizes : TableSizes) (lane lane' : L) → MayGoAhead kind table seated me sizes lane → seated' ≡ seated
-    → Strode kind.Stands Went (port_of me) me' lane' → MayGoAhead kind table seated' me' sizes lane'
-may_behind table seated seated' me me' sizes lane lane' may same run = record {
-  there = same ∙ may.there;
-  seat = record {
-    alone = run.alone;
-    sizes_are = ap (λ (s : Service). s.sizes) run.service ∙ may.seat.sizes_are;
-    small = may.seat.small;
-    words = may.seat.words;
-  };
-  stands = run.stands;
-}
-
--- steps behind steps
-pub more_more : {L C : Type 0} (kind : LaneKind L C) (one more : ℕ) (me mid me' : Me ℕ View) (lane between lane' : L)
-    → MakesMore kind one me lane mid between → MakesMore kind more mid between me' lane' → MakesMore kind (one + more) me lane me' lane'
-more_more kind one more me mid me' lane between lane' first second p begun made run =
-    let all : made + one + more ≡ made + (one + more) = omega arith in
-    subst (λ (n : ℕ). StrodeBy kind p begun n me' lane') all (second p begun (made + one) (first p begun made run))
-
 module _ {L C : Type 0} {kind : LaneKind L C} (ahead : GoesAhead L C kind) where
   -- no step yet
   pub strode_none : (me : Me ℕ View) (lane : L) → me ≡ single (port_of me) → kind.Stands (port_of me) lane
@@ -120,21 +87,6 @@ module _ {L C : Type 0} {kind : LaneKind L C} (ahead : GoesAhead L C kind) where
       = subst (Strode kind.Stands (kind.Strides (port_of me) lane 0) (port_of me) me)
       (ahead.itself lane ∙ ap (λ (c : C). kind.called c lane) is) (strode_none me lane alone stands)
 
-  -- more may be made ahead of a lane whose call is named
-  pub may_called : (table seated : TableId) (me : Me ℕ View) (sizes : TableSizes) (lane : L) (call : C)
-      → MayGoAhead kind table seated me sizes lane → kind.standing lane ≡ call
-      → MayGoAhead kind table seated me sizes (kind.called call lane)
-  may_called table seated me sizes lane call may is =
-      subst (MayGoAhead kind table seated me sizes) (ahead.itself lane ∙ ap (λ (c : C). kind.called c lane) is) may
-
-  -- and behind some
-  pub may_more : (table seated seated' : TableId) (me me' : Me ℕ View) (sizes : TableSizes) (lane lane' : L) (more : ℕ)
-      → MayGoAhead kind table seated me sizes lane → seated' ≡ seated → MakesMore kind more me lane me' lane'
-      → MayGoAhead kind table seated' me' sizes lane'
-  may_more table seated seated' me me' sizes lane lane' more may same makes =
-      may_behind table seated seated' me me' sizes lane lane' may same
-      (makes (port_of me) lane 0 (strode_none me lane may.seat.alone may.stands))
-
   -- one more
   pub strode_access : (p : Port) (begun : L) (made : ℕ) (me me' : Me ℕ View) (lane : L) (call : C) (access : SharedAccess) (answer : ℕ)
       → kind.next call ≡ access → TouchesWord access → Strode kind.Stands (kind.Strides p begun made) p me (kind.called call lane)
@@ -146,6 +98,12 @@ module _ {L C : Type 0} {kind : LaneKind L C} (ahead : GoesAhead L C kind) where
       strode_moved kind.Stands (kind.Strides p begun made) (kind.Strides p begun (made + 1)) p me me' (kind.called call lane)
       (kind.after answer (kind.called call lane)) (kind.next call) answer (kind.party (kind.called call lane)) run on.0 on.1
       (subst (λ (a : SharedAccess). me' ≡ single (stepped (port_of me) a answer (kind.party (kind.called call lane)))) (sym e) is)
+
+-- the sizes of the service that the table has
+pub same_sizes : {L : Type 0} {Stands : Port → L → Type 0} {Went : Port → L → Type 0} (p : Port) (me : Me ℕ View) (now : L)
+    (sizes : TableSizes) → Strode Stands Went p me now → p.service.sizes ≡ sizes → (me ≡ single (port_of me))
+    × ((port_of me).service.sizes ≡ sizes)
+same_sizes p me now sizes run is = (run.alone, ap (λ (s : Service). s.sizes) run.service ∙ is)
 
 -- a call that stores the words of a part goes from word to word
 pub storing_first : (part : SlotPart) (words : List ℕ) (slot first : ℕ) → slice_get words 0 ≡ Some first

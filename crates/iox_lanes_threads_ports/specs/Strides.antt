@@ -1,6 +1,5 @@
 -- Several steps of a port, which its lane makes up for at once.
-use Rattle.std.specs.Prelude.{ℕ, ◌≡◌, ◌+◌, Bool, true, false}
-use Rattle.atomic_table.specs.Seated.{TableId}
+use Rattle.std.specs.Prelude.{ℕ, ◌≡◌, ◌+◌, false}
 use Rattle.atomic_table.specs.Table.{Me}
 use Rattle.iox_lanes_machine.specs.QueuesSteps.declared.access.Access.{Access}
 use Rattle.iox_lanes_machine.specs.QueuesSteps.declared.access.Access.TheVariants as own
@@ -10,7 +9,6 @@ use Rattle.iox_lanes_machine.specs.LanesBase.declared.calls.publisher.PublisherC
 use Rattle.iox_lanes_machine.specs.LanesBase.declared.calls.subscriber.SubscriberCall.{SubscriberCall}
 use Rattle.iox_lanes_machine.specs.LanesBase.declared.words.access.SharedAccess.{SharedAccess}
 use Rattle.iox_lanes_machine.specs.LanesBase.declared.words.access.SharedAccess.TheVariants.{Load, Store, Exchange, Local}
-use Rattle.iox_lanes_machine.specs.LanesBase.declared.words.sizes.TableSizes.{TableSizes}
 use Rattle.iox_lanes_machine.specs.LanesBase.Subscribing.{subscriber_next}
 use Rattle.iox_lanes_machine.specs.LanesParties.Parties.{PublisherLaneState, SubscriberLaneState, publisher_after, subscriber_after}
 use Rattle.iox_lanes_threads_rule.specs.Acts.{single, port_of, stepped, MayAct, ToldBy}
@@ -20,7 +18,6 @@ use Rattle.iox_lanes_threads_rule.specs.declared.view.PortParty.{PortParty}
 use Rattle.iox_lanes_threads_rule.specs.declared.view.View.{View}
 use Rattle.iox_lanes_threads_ports.specs.Courses.{publisher_stepped, publisher_party, subscriber_party, SubscriberGoes}
 use Rattle.iox_lanes_threads_ports.specs.Ports.{PublisherStands, SubscriberStands}
-use Rattle.iox_lanes_threads_ports.specs.Values.{IsSeated}
 
 -- a publisher whose call stands there
 abbrev pub called : PublisherCall → PublisherLaneState → PublisherLaneState
@@ -121,20 +118,6 @@ pub record GoesAhead (L C : Type 0) (kind : LaneKind L C) : Type 0 where
       × kind.Strides p begun (made + 1) (stepped q (kind.next call) answer (kind.party (kind.called call lane)))
       (kind.after answer (kind.called call lane))
 
--- Accesses may be made ahead of a lane of a kind: its seat is one of this table and has one port, of a service with these sizes, and the
--- lane stands where that port knows what its next step needs.
-pub record MayGoAhead {L C : Type 0} (kind : LaneKind L C) (table seated : TableId) (me : Me ℕ View) (sizes : TableSizes) (lane : L)
-    : Type 0 where
-  pub there : seated ≡ table
-  pub seat : IsSeated table me sizes
-  pub stands : kind.Stands (port_of me) lane
-
-module _ {L C : Type 0} (kind : LaneKind L C) where
-  -- whatever steps led a lane of a kind to here, so many more lead it to there
-  abbrev pub MakesMore : ℕ → Me ℕ View → L → Me ℕ View → L → Type 0
-  MakesMore more me lane me' lane' =
-      (p : Port) (begun : L) (made : ℕ) → StrodeBy kind p begun made me lane → StrodeBy kind p begun (made + more) me' lane'
-
 -- the access of a ring's end moves no position
 abbrev pub KeepsPositions : Access → Type 0
 KeepsPositions (own.Load word) = Unit {0}
@@ -143,33 +126,3 @@ KeepsPositions (own.Store Read value) = ⊥
 KeepsPositions (own.Store (Cell position) value) = Unit {0}
 KeepsPositions (own.Exchange word old new) = ⊥
 KeepsPositions own.Local = Unit {0}
-
--- the access of a ring's end is one to a word
-abbrev pub TouchesRing : Access → Type 0
-TouchesRing (own.Load word) = Unit {0}
-TouchesRing (own.Store word value) = Unit {0}
-TouchesRing (own.Exchange word old new) = Unit {0}
-TouchesRing own.Local = ⊥
-
--- A pop or a push makes two accesses to words from this stage on: the first moves no position, and it isn't over between them.
-pub record MakesTwo {S : Type 0} (asks : S → Access) (takes : S → ℕ → S) (over : S → Bool) (stage : S) : Type 0 where
-  pub keeps : KeepsPositions (asks stage)
-  pub first : TouchesRing (asks stage)
-  pub going : (answer : ℕ) → over (takes stage answer) ≡ false
-  pub second : (answer : ℕ) → TouchesRing (asks (takes stage answer))
-
--- A pop or a push makes two accesses to words from this stage on, and two more unless it is over then. Of the first three none moves a
--- position where it makes four.
-pub record RunsAhead {S : Type 0} (asks : S → Access) (takes : S → ℕ → S) (over : S → Bool) (begun : S) : Type 0 where
-  pub first : MakesTwo asks takes over begun
-  pub keeps : (a b : ℕ) → over (takes (takes begun a) b) ≡ false → KeepsPositions (asks (takes begun a))
-  pub rest : (a b : ℕ) → over (takes (takes begun a) b) ≡ false → MakesTwo asks takes over (takes (takes begun a) b)
-
--- it is over behind two accesses
-abbrev pub EndsInTwo : {S : Type 0} → (S → ℕ → S) → (S → Bool) → S → Type 0
-EndsInTwo takes over begun = (a b : ℕ) → over (takes (takes begun a) b) ≡ true
-
--- it is over behind four, unless it was behind two
-abbrev pub EndsInFour : {S : Type 0} → (S → ℕ → S) → (S → Bool) → S → Type 0
-EndsInFour takes over begun = (a b c d : ℕ) → over (takes (takes begun a) b) ≡ false
-    → over (takes (takes (takes (takes begun a) b) c) d) ≡ true

@@ -1,6 +1,6 @@
 //! Calls of ports inside a pop or a push on a ring, by the stages of that.
-ghost use Rattle.std.specs.Prelude.{◌≡◌, ℕ, false};
-ghost use Rattle.iox_lanes_machine.specs.LanesBase.Words.{on_ring};
+ghost use Rattle.std.specs.Prelude.{◌≡◌, ◌<◌, ℕ, false};
+ghost use Rattle.iox_lanes_machine.specs.LanesBase.Words.{in_ring, on_ring};
 ghost use Rattle.iox_lanes_machine.specs.LanesBase.declared.words.word.ConnectionRing.TheVariants as own_ring;
 ghost use Rattle.iox_lanes_machine.specs.LanesBase.declared.calls.publisher.PublisherCall.TheVariants as publishing;
 ghost use Rattle.iox_lanes_machine.specs.LanesBase.declared.calls.subscriber.SubscriberCall.TheVariants as subscribing;
@@ -12,12 +12,12 @@ ghost use Rattle.iox_lanes_threads_ports.specs.RingCalls as calls;
 
 use crate::ahead::Ahead;
 use iox_lanes_base::calls::{Delivery, PublisherCall, Route, SubscriberCall};
-use iox_lanes_base::words::{ConnectionRing, SharedAccess};
+use iox_lanes_base::words::{ConnectionRing, SharedWord};
 use iox_lanes_parties::{PublisherLane, SubscriberLane};
 use iox_queues_steps::rings::overflowing::{Pop as OverflowingPop, Push as OverflowingPush};
 use iox_queues_steps::rings::refusing::{Pop as RefusingPop, Push as RefusingPush};
 use iox_queues_steps::rings::{Pop, Push};
-use iox_queues_steps::{Access, End};
+use iox_queues_steps::{End, Word};
 
 /// A ring of a connection, and how many cells it has.
 #[derive(Clone, Copy)]
@@ -50,12 +50,22 @@ impl RouteRing {
         }
     }
 
-    /// The access of a pop or a push, as one to the ring of its connection.
+    /// A word of the ring, as a word of its connection: positions go round its cells.
     #[inline(always)]
-    pub(crate) fn access(self, access: Access) -> SharedAccess
-        ensures { result ≡ on_ring self.connection self.ring self.cells access }
+    pub(crate) fn word(self, word: Word) -> SharedWord
+        requires { 0 < self.cells }
+        ensures { result ≡ in_ring self.connection self.ring self.cells word }
     {
-        SharedAccess::on_ring(self.connection, self.ring, self.cells, access)
+        let word = match word {
+            Word::Write => Word::Write,
+            Word::Read => Word::Read,
+            Word::Cell(position) => Word::Cell(position % self.cells),
+        };
+        SharedWord::Ring {
+            connection: self.connection,
+            ring: self.ring,
+            word,
+        }
     }
 }
 

@@ -1,18 +1,19 @@
 //! Several steps of a publisher's call at once: its lane makes up for them behind the last one.
 ghost use Rattle.std.specs.Prelude.{◌≡◌, ◌<◌, ◌≤◌, true, false, length, slice_get, Some};
+ghost use Rattle.iox_lanes_machine.specs.LanesBase.Numbers.{words_of, IsSmall};
 ghost use Rattle.iox_lanes_machine.specs.LanesBase.Publishing.{header_word, publisher_is_over};
-ghost use Rattle.iox_lanes_machine.specs.LanesBase.declared.calls.publisher.PublisherCall.TheVariants as publishing;
 ghost use Rattle.iox_lanes_machine.specs.LanesParties.Publishers.{words_of as call_words};
-ghost use Rattle.iox_lanes_threads_rule.specs.Acts.{port_of};
+ghost use Rattle.iox_lanes_threads_rule.specs.Acts.{single, port_of};
+ghost use Rattle.iox_lanes_threads_ports.specs.Ports.{PublisherStands};
 ghost use Rattle.iox_lanes_threads_ports.specs.SlotParts.{storing, part_word};
-ghost use Rattle.iox_lanes_threads_ports.specs.Strides.{publishers, MayGoAhead, PublisherStrode};
+ghost use Rattle.iox_lanes_threads_ports.specs.Strides.{PublisherStrode};
 
-use crate::ahead::act_ahead;
+use crate::ahead::store_ahead;
 use crate::publishing::step;
-use crate::ring_calls::{LoanReclaims, Pushes, RingCall, SendReclaims};
-use crate::ring_strides::stride_ring;
+use crate::ring_calls::{LoanReclaims, Pushes, SendReclaims};
+use crate::ring_strides::{leave_out, pop, push, push_over};
 use iox_lanes_base::calls::PublisherCall;
-use iox_lanes_base::words::{SharedAccess, SharedWord, SlotWord, TableSizes};
+use iox_lanes_base::words::{SharedWord, SlotWord, TableSizes};
 use iox_lanes_parties::PublisherLane;
 use iox_lanes_threads_rule::{Opening, WordSeat, Words};
 use iox_queues_steps::rings::Push;
@@ -82,7 +83,9 @@ fn store_words<K: Opening>(
     slot: u64,
     first: u64,
 ) -> usize
-    requires may { MayGoAhead publishers words.now.table_id seat.old.table_id seat.old.me sizes.now lane.old }
+    requires table { (seat.old.table_id ≡ words.now.table_id) × (words.now.table_id.words ≡ words_of sizes.now) × IsSmall sizes.now }
+    requires seat { (seat.old.me ≡ single (port_of seat.old.me)) × ((port_of seat.old.me).service.sizes ≡ sizes.now) }
+    requires stands { PublisherStands (port_of seat.old.me) lane.old }
     requires call { lane.old.port.call ≡ storing part slot 0 first }
     requires first { slice_get (call_words lane.old.port) 0 ≡ Some first }
     ensures table { (seat.new.table_id ≡ seat.old.table_id) × (seat.new.id ≡ seat.old.id) }
@@ -97,8 +100,7 @@ fn store_words<K: Opening>(
         let call = storing(part, slot, word, value);
         let own = part_word(part, word);
         let word = SharedWord::Slot { slot, word: own };
-        let access = SharedAccess::Store(word, value);
-        act_ahead(words, seat, &sizes, lane, call, access);
+        store_ahead(words, seat, &sizes, lane, call, word, value);
     }
     let last = storing(part, slot, (count - 1) as u64, stored[count - 1]);
     lane.go_on_from(last, 0);
@@ -112,78 +114,6 @@ fn may_store_all(stored: &[u64], first: u64, room: u128) -> bool
     begins_with(stored, first) && stored.len() as u128 <= room
 }
 
-// Makes the next step of a call that isn't over.
-fn step_once<K: Opening>(
-    words: &Words<K>,
-    seat: &mut WordSeat,
-    sizes: &TableSizes,
-    lane: &mut PublisherLane,
-) -> u128
-    requires may { MayGoAhead publishers words.now.table_id seat.old.table_id seat.old.me sizes.now lane.old }
-    requires busy { publisher_is_over lane.old.port.call ≡ false }
-    ensures one { result ≡ 1 }
-    ensures table { (seat.new.table_id ≡ seat.old.table_id) × (seat.new.id ≡ seat.old.id) }
-    ensures strode { PublisherStrode (port_of seat.old.me) lane.old result seat.new.me lane.new }
-{
-    step(words, seat, sizes, lane);
-    1
-}
-
-// Makes the steps of a pop that takes back, where it begins, and else its next one.
-fn stride_pop<K: Opening, C: RingCall<PublisherLane, RefusingPop>>(
-    words: &Words<K>,
-    seat: &mut WordSeat,
-    sizes: &TableSizes,
-    lane: &mut PublisherLane,
-    call: C,
-    pop: RefusingPop,
-) -> u128
-    requires may { MayGoAhead publishers words.now.table_id seat.old.table_id seat.old.me sizes.now lane.old }
-    requires call { lane.old.port.call ≡ C.stage call pop }
-    requires busy { publisher_is_over lane.old.port.call ≡ false }
-    ensures table { (seat.new.table_id ≡ seat.old.table_id) × (seat.new.id ≡ seat.old.id) }
-    ensures some { (0 < result) × (result ≤ 4) }
-    ensures strode { PublisherStrode (port_of seat.old.me) lane.old result seat.new.me lane.new }
-{
-    match pop {
-        RefusingPop::Begun => stride_ring(words, seat, sizes, lane, call, RefusingPop::Begun),
-        _ => step_once(words, seat, sizes, lane),
-    }
-}
-
-// The same of a push: where it begins, and where its oldest number may have to leave.
-fn stride_push<K: Opening>(
-    words: &Words<K>,
-    seat: &mut WordSeat,
-    sizes: &TableSizes,
-    lane: &mut PublisherLane,
-    call: Pushes,
-    push: Push,
-) -> u128
-    requires busy { publisher_is_over lane.old.port.call ≡ false }
-    requires call { lane.old.port.call ≡ publishing.Pushing call.slot call.place call.route push call.delivery }
-    requires may { MayGoAhead publishers words.now.table_id seat.old.table_id seat.old.me sizes.now lane.old }
-    ensures some { (0 < result) × (result ≤ 4) }
-    ensures strode { PublisherStrode (port_of seat.old.me) lane.old result seat.new.me lane.new }
-    ensures table { (seat.new.table_id ≡ seat.old.table_id) × (seat.new.id ≡ seat.old.id) }
-{
-    match push {
-        Push::Refusing(RefusingPush::Begun { limit, value }) => {
-            let begun = RefusingPush::Begun { limit, value };
-            stride_ring(words, seat, sizes, lane, call, begun)
-        }
-        Push::Overflowing(OverflowingPush::Begun { limit, value }) => {
-            let begun = OverflowingPush::Begun { limit, value };
-            stride_ring(words, seat, sizes, lane, call, begun)
-        }
-        Push::Overflowing(OverflowingPush::Full { value, read, next }) => {
-            let full = OverflowingPush::Full { value, read, next };
-            stride_ring(words, seat, sizes, lane, call, full)
-        }
-        _ => step_once(words, seat, sizes, lane),
-    }
-}
-
 /// Makes some of the next steps of a publisher's call, at most so many, and tells how many.
 pub(crate) fn stride<K: Opening>(
     words: &Words<K>,
@@ -192,7 +122,9 @@ pub(crate) fn stride<K: Opening>(
     lane: &mut PublisherLane,
     room: u128,
 ) -> u128
-    requires may { MayGoAhead publishers words.now.table_id seat.old.table_id seat.old.me sizes.now lane.old }
+    requires table { (seat.old.table_id ≡ words.now.table_id) × (words.now.table_id.words ≡ words_of sizes.now) × IsSmall sizes.now }
+    requires seat { (seat.old.me ≡ single (port_of seat.old.me)) × ((port_of seat.old.me).service.sizes ≡ sizes.now) }
+    requires stands { PublisherStands (port_of seat.old.me) lane.old }
     requires busy { publisher_is_over lane.old.port.call ≡ false }
     requires room { 0 < room }
     ensures table { (seat.new.table_id ≡ seat.old.table_id) × (seat.new.id ≡ seat.old.id) }
@@ -216,23 +148,25 @@ pub(crate) fn stride<K: Opening>(
             let part = SlotPart::Head;
             store_words(words, seat, sizes, lane, part, slot, value) as u128
         }
-        PublisherCall::LoanReclaims { place, route, pop } if room >= 4 => {
-            stride_pop(words, seat, sizes, lane, LoanReclaims { place, route }, pop)
-        }
+        PublisherCall::LoanReclaims {
+            place,
+            route,
+            pop: RefusingPop::Begun,
+        } if room >= 4 => pop(words, seat, sizes, lane, LoanReclaims { place, route }),
         PublisherCall::SendReclaims {
             slot,
             place,
             route,
-            pop,
+            pop: RefusingPop::Begun,
         } if room >= 4 => {
             let call = SendReclaims { slot, place, route };
-            stride_pop(words, seat, sizes, lane, call, pop)
+            pop(words, seat, sizes, lane, call)
         }
         PublisherCall::Pushing {
             slot,
             place,
             route,
-            push,
+            push: Push::Refusing(RefusingPush::Begun { limit, value }),
             delivery,
         } if room >= 4 => {
             let call = Pushes {
@@ -241,12 +175,45 @@ pub(crate) fn stride<K: Opening>(
                 route,
                 delivery,
             };
-            stride_push(words, seat, sizes, lane, call, push)
+            push(words, seat, sizes, lane, call, limit, value)
+        }
+        PublisherCall::Pushing {
+            slot,
+            place,
+            route,
+            push: Push::Overflowing(OverflowingPush::Begun { limit, value }),
+            delivery,
+        } if room >= 4 => {
+            let call = Pushes {
+                slot,
+                place,
+                route,
+                delivery,
+            };
+            push_over(words, seat, sizes, lane, call, limit, value)
+        }
+        PublisherCall::Pushing {
+            slot,
+            place,
+            route,
+            push: Push::Overflowing(OverflowingPush::Full { value, read, next }),
+            delivery,
+        } if room >= 2 => {
+            let call = Pushes {
+                slot,
+                place,
+                route,
+                delivery,
+            };
+            leave_out(words, seat, sizes, lane, call, value, read, next)
         }
         PublisherCall::Remembering { .. } => {
             lane.go_on(0);
             1
         }
-        _ => step_once(words, seat, sizes, lane),
+        _ => {
+            step(words, seat, sizes, lane);
+            1
+        }
     }
 }

@@ -1,11 +1,9 @@
-use Rattle.std.proofs.Common.{ℕ, ◌≡◌, refl, sym, ap, subst, ◌∙◌, arith}
+use Rattle.std.proofs.Common.{ℕ, ◌≡◌, refl, sym, subst, ◌∙◌, arith}
 use Rattle.iox_lanes_machine.specs.LanesBase.Numbers.{IsSmall}
 use Rattle.iox_lanes_threads_rule.specs.Acts.{port_of}
-use Rattle.iox_lanes_threads_rule.specs.declared.service.Service.{Service}
-use Rattle.iox_lanes_threads_ports.specs.Strides.{publishers}
 use Rattle.iox_lanes_threads_ports.proofs.Running.{Paced, publishes, publishes_on, paced, publisher_stops, publisher_stays_inside}
 use Rattle.iox_lanes_threads_ports.proofs.Running.{ends_alone}
-use Rattle.iox_lanes_threads_ports.proofs.Striding.{may_go, paced_along, publishes_along}
+use Rattle.iox_lanes_threads_ports.proofs.Striding.{paced_along, publishes_along}
 use Rattle.iox_lanes_threads_ports.proofs.publishing.run.Goals as goal
 
 pub loop-made-init : goal.loop-made-init
@@ -16,13 +14,6 @@ loop-made-init g c = (
   paced (port_of c.args.seat.now.me) c.args.lane.now c.args.sizes.now c.args.most c.requires.seat.1 c.requires.begins,
   omega arith,
 )
-
-pub stride-made-requires-clause-may : goal.stride-made-requires-clause-may
-stride-made-requires-clause-may g c =
-    let run = c.loop-made.invariant.2 in
-    may_go publishers c.args.words.now.table_id c.loop-made.seat.table_id c.loop-made.seat.me c.args.sizes.now c.loop-made.lane
-    (c.loop-made.invariant.0 ∙ c.requires.table.0, c.requires.table.1, c.requires.table.2)
-    (run.seat.alone, ap (λ (s : Service). s.sizes) run.seat.service ∙ c.requires.seat.1) run.stands
 
 pub loop-made-preserved : goal.loop-made-preserved
 loop-made-preserved g c =

@@ -5,10 +5,11 @@ use Rattle.iox_lanes_machine.specs.LanesBase.declared.calls.publisher.PublisherC
 use Rattle.iox_lanes_machine.specs.LanesParties.Publishers.{words_of as call_words}
 use Rattle.iox_lanes_machine.specs.LanesParties.Parties.{publisher_after}
 use Rattle.iox_lanes_threads_rule.specs.Acts.{port_of}
+use Rattle.iox_lanes_threads_ports.specs.Ports.{PublisherStands}
 use Rattle.iox_lanes_threads_ports.specs.SlotParts.{storing, storing_at}
-use Rattle.iox_lanes_threads_ports.specs.Strides.{called, publishers, MayGoAhead, PublisherStrode}
+use Rattle.iox_lanes_threads_ports.specs.Strides.{called, PublisherStrode}
 use Rattle.iox_lanes_threads_ports.proofs.Striding.{publisher_goes_ahead, strode_none, at_first, storing_first, storing_here, storing_on}
-use Rattle.iox_lanes_threads_ports.proofs.Striding.{few_stored, may_behind}
+use Rattle.iox_lanes_threads_ports.proofs.Striding.{few_stored}
 use Rattle.iox_lanes_threads_ports.proofs.strides.store_words.Goals as goal
 
 pub loop-at-init : goal.loop-at-init
@@ -19,11 +20,11 @@ loop-at-init g c = (
       (at_first c.args.lane.now (storing c.args.part c.args.slot 0 c.args.first)
       (storing_at c.args.part (call_words c.args.lane.now.port) c.args.slot 0) c.requires.call
       (storing_first c.args.part (call_words c.args.lane.now.port) c.args.slot c.args.first c.requires.first))
-      (strode_none publisher_goes_ahead c.args.seat.now.me c.args.lane.now c.requires.may.seat.alone c.requires.may.stands),
+      (strode_none publisher_goes_ahead c.args.seat.now.me c.args.lane.now c.requires.seat.0 c.requires.stands),
 )
 
-pub act_ahead-requires-clause-may : goal.act_ahead-requires-clause-may
-act_ahead-requires-clause-may g c =
+pub store_ahead-requires-clause-stands : goal.store_ahead-requires-clause-stands
+store_ahead-requires-clause-stands g c =
     let lane = c.args.lane.now in
     let stored = c.stored-stored.ensures in
     let same = ap (λ (xs : List ℕ). length xs) stored in
@@ -32,11 +33,7 @@ act_ahead-requires-clause-may g c =
     let here = storing_here c.args.part (call_words lane.port) c.args.slot c.loop-at.at less ∙ ap
     (λ (xs : List ℕ). storing c.args.part c.args.slot c.loop-at.at (get_or xs c.loop-at.at 0)) (sym stored) ∙ sym
     c.storing-call.ensures in
-    subst (λ (call : PublisherCall). MayGoAhead publishers c.args.words.now.table_id c.loop-at.seat.table_id c.loop-at.seat.me
-    c.args.sizes.now (called call lane)) here
-    (may_behind c.args.words.now.table_id c.args.seat.now.table_id c.loop-at.seat.table_id c.args.seat.now.me c.loop-at.seat.me
-    c.args.sizes.now lane (called (storing_at c.args.part (call_words lane.port) c.args.slot c.loop-at.at) lane) c.requires.may
-    c.loop-at.invariant.0 c.loop-at.invariant.2)
+    subst (λ (call : PublisherCall). PublisherStands (port_of c.loop-at.seat.me) (called call lane)) here c.loop-at.invariant.2.stands
 
 pub loop-at-preserved : goal.loop-at-preserved
 loop-at-preserved g c =
@@ -46,19 +43,18 @@ loop-at-preserved g c =
     let same = ap (λ (xs : List ℕ). length xs) stored in
     let test = c.loop-at-test.true in
     let less : c.loop-at.at < length (call_words lane.port) = omega (arith, same, test) in
-    let few = few_stored c.args.part p lane c.args.slot 0 c.args.first c.requires.may.stands
-    (subst IsSmall (sym c.requires.may.seat.sizes_are) c.requires.may.seat.small) c.requires.call in
+    let few = few_stored c.args.part p lane c.args.slot 0 c.args.first c.requires.stands
+    (subst IsSmall (sym c.requires.seat.1) c.requires.table.2) c.requires.call in
     let next : c.loop-at.at + 1 < 2 ^ 64 = omega (arith, less, few) in
     let here = storing_here c.args.part (call_words lane.port) c.args.slot c.loop-at.at less ∙ ap
     (λ (xs : List ℕ). storing c.args.part c.args.slot c.loop-at.at (get_or xs c.loop-at.at 0)) (sym stored) ∙ sym
     c.storing-call.ensures in (
-      c.act_ahead.ensures.table.0 ∙ c.loop-at.invariant.0,
-      c.act_ahead.ensures.table.1 ∙ c.loop-at.invariant.1,
-      subst (PublisherStrode p lane (c.loop-at.at + 1) c.act_ahead.new.seat.me)
-          (ap (λ (n : ℕ). publisher_after n (called c.storing-call.result lane)) c.act_ahead.ensures.told
-          ∙ ap (λ (call : PublisherCall). publisher_after 0 (called call lane)) c.storing-call.ensures ∙ storing_on c.args.part lane
+      c.store_ahead.ensures.table.0 ∙ c.loop-at.invariant.0,
+      c.store_ahead.ensures.table.1 ∙ c.loop-at.invariant.1,
+      subst (PublisherStrode p lane (c.loop-at.at + 1) c.store_ahead.new.seat.me)
+          (ap (λ (call : PublisherCall). publisher_after 0 (called call lane)) c.storing-call.ensures ∙ storing_on c.args.part lane
           c.args.slot c.loop-at.at (get_or c.stored-stored.result.now c.loop-at.at 0) next)
-          (c.act_ahead.ensures.strode p lane c.loop-at.at
+          (c.store_ahead.ensures.strode p lane c.loop-at.at
           (subst (λ (call : PublisherCall). PublisherStrode p lane c.loop-at.at c.loop-at.seat.me (called call lane)) here
           c.loop-at.invariant.2)),
     )
@@ -70,8 +66,8 @@ returns-clause-strode g c =
     let count = length c.stored-stored.result.now in
     let same = ap (λ (xs : List ℕ). length xs) c.stored-stored.ensures in
     let some = slice_get_within (call_words lane.port) 0 c.args.first c.requires.first in
-    let few = few_stored c.args.part p lane c.args.slot 0 c.args.first c.requires.may.stands
-    (subst IsSmall (sym c.requires.may.seat.sizes_are) c.requires.may.seat.small) c.requires.call in
+    let few = few_stored c.args.part p lane c.args.slot 0 c.args.first c.requires.stands
+    (subst IsSmall (sym c.requires.seat.1) c.requires.table.2) c.requires.call in
     let next : count - 1 + 1 < 2 ^ 64 = omega (arith, same, some, few) in
     let test = c.loop-at-test.false in
     let end = c.loop-at.auto.at-end in

@@ -1,11 +1,11 @@
-use Rattle.std.proofs.Common.{ℕ, ◌≡◌, ◌+◌, ◌<◌, refl, subst, ap, ◌∙◌, arith}
+use Rattle.std.proofs.Common.{ℕ, ◌≡◌, ◌+◌, ◌<◌, refl, subst, arith}
 use Rattle.iox_lanes_machine.specs.LanesBase.Subscribing.{read_at}
 use Rattle.iox_lanes_machine.specs.LanesBase.declared.calls.subscriber.SubscriberCall.{SubscriberCall}
 use Rattle.iox_lanes_machine.specs.LanesBase.declared.calls.subscriber.SubscriberCall.TheVariants as subscribing
 use Rattle.iox_lanes_machine.specs.LanesParties.Parties.{subscriber_after}
 use Rattle.iox_lanes_threads_rule.specs.Acts.{port_of}
-use Rattle.iox_lanes_threads_ports.specs.Strides.{subscriber_called, subscribers, MayGoAhead, SubscriberStrode}
-use Rattle.iox_lanes_threads_ports.proofs.Striding.{strode_none, may_go, may_behind}
+use Rattle.iox_lanes_threads_ports.specs.Strides.{subscriber_called, SubscriberStrode}
+use Rattle.iox_lanes_threads_ports.proofs.Striding.{strode_none}
 use Rattle.iox_lanes_threads_ports.proofs.SubscriberStriding.{subscriber_goes_ahead, strode_same, at_first, reads_at}
 use Rattle.iox_lanes_threads_ports.proofs.subscriber_strides.read_words.Goals as goal
 
@@ -13,10 +13,10 @@ pub loop-word-init : goal.loop-word-init
 loop-word-init g c = (
   refl,
   refl,
-  let some : 0 < 3 + c.args.sample.extent.user_header_words + c.args.sample.extent.payload_words = omega arith in
+  let some : 0 < 3 + c.args.extent.user_header_words + c.args.extent.payload_words = omega arith in
       subst (SubscriberStrode (port_of c.args.seat.now.me) c.args.lane.now c.args.seat.now.me)
-      (at_first c.args.lane.now (subscribing.Reading c.args.sample.slot 0 c.args.sample.extent)
-      (read_at c.args.sample.slot c.args.sample.extent 0) c.requires.call (reads_at c.args.sample.slot 0 c.args.sample.extent some))
+      (at_first c.args.lane.now (subscribing.Reading c.args.slot 0 c.args.extent) (read_at c.args.slot c.args.extent 0) c.requires.call
+      (reads_at c.args.slot 0 c.args.extent some))
       (strode_none subscriber_goes_ahead c.args.seat.now.me c.args.lane.now c.requires.seat.0 c.requires.stands),
 )
 
@@ -26,39 +26,24 @@ loop-word-2-init g c = (
   c.loop-word.invariant.1,
   let ended : c.loop-word.word ≡ c.min-row.result = omega arith in
       subst (λ (word : ℕ). SubscriberStrode (port_of c.args.seat.now.me) c.args.lane.now c.loop-word.seat.me
-      (subscriber_called (read_at c.args.sample.slot c.args.sample.extent word) c.loop-word.lane)) ended c.loop-word.invariant.2,
+      (subscriber_called (read_at c.args.slot c.args.extent word) c.loop-word.lane)) ended c.loop-word.invariant.2,
 )
-
-pub act_ahead-value-requires-clause-may : goal.act_ahead-value-requires-clause-may
-act_ahead-value-requires-clause-may g c =
-    let last : ℕ = 2 + c.args.sample.extent.user_header_words + c.args.sample.extent.payload_words in
-    let ended : c.loop-word-2.word ≡ 2 + c.args.sample.extent.user_header_words + c.args.sample.extent.payload_words = omega arith in
-    let some : 2 + c.args.sample.extent.user_header_words + c.args.sample.extent.payload_words
-    < 3 + c.args.sample.extent.user_header_words + c.args.sample.extent.payload_words = omega arith in
-    subst (λ (call : SubscriberCall). MayGoAhead subscribers c.args.words.now.table_id c.loop-word-2.seat.table_id c.loop-word-2.seat.me
-    c.args.sizes.now (subscriber_called call c.loop-word-2.lane))
-    (ap (read_at c.args.sample.slot c.args.sample.extent) ended ∙ reads_at c.args.sample.slot last c.args.sample.extent some)
-    (may_behind c.args.words.now.table_id c.args.seat.now.table_id c.loop-word-2.seat.table_id c.args.seat.now.me c.loop-word-2.seat.me
-    c.args.sizes.now c.args.lane.now
-    (subscriber_called (read_at c.args.sample.slot c.args.sample.extent c.loop-word-2.word) c.loop-word-2.lane)
-    (may_go subscribers c.args.words.now.table_id c.args.seat.now.table_id c.args.seat.now.me c.args.sizes.now c.args.lane.now
-    c.requires.table c.requires.seat c.requires.stands) c.loop-word-2.invariant.0 c.loop-word-2.invariant.2)
 
 pub returns-clause-strode : goal.returns-clause-strode
 returns-clause-strode g c =
-    let last : ℕ = 2 + c.args.sample.extent.user_header_words + c.args.sample.extent.payload_words in
-    let ended : c.loop-word-2.word ≡ 2 + c.args.sample.extent.user_header_words + c.args.sample.extent.payload_words = omega arith in
-    let some : 2 + c.args.sample.extent.user_header_words + c.args.sample.extent.payload_words
-    < 3 + c.args.sample.extent.user_header_words + c.args.sample.extent.payload_words = omega arith in
+    let last : ℕ = 2 + c.args.extent.user_header_words + c.args.extent.payload_words in
+    let ended : c.loop-word-2.word ≡ 2 + c.args.extent.user_header_words + c.args.extent.payload_words = omega arith in
+    let some : 2 + c.args.extent.user_header_words + c.args.extent.payload_words
+    < 3 + c.args.extent.user_header_words + c.args.extent.payload_words = omega arith in
     let at_last : SubscriberStrode (port_of c.args.seat.now.me) c.args.lane.now c.loop-word-2.seat.me
-    (subscriber_called (read_at c.args.sample.slot c.args.sample.extent last) c.loop-word-2.lane) =
+    (subscriber_called (read_at c.args.slot c.args.extent last) c.loop-word-2.lane) =
     subst (λ (word : ℕ). SubscriberStrode (port_of c.args.seat.now.me) c.args.lane.now c.loop-word-2.seat.me
-    (subscriber_called (read_at c.args.sample.slot c.args.sample.extent word) c.loop-word-2.lane)) ended c.loop-word-2.invariant.2 in
+    (subscriber_called (read_at c.args.slot c.args.extent word) c.loop-word-2.lane)) ended c.loop-word-2.invariant.2 in
     let reads : SubscriberStrode (port_of c.args.seat.now.me) c.args.lane.now c.loop-word-2.seat.me
-    (subscriber_called (subscribing.Reading c.args.sample.slot last c.args.sample.extent) c.loop-word-2.lane) =
+    (subscriber_called (subscribing.Reading c.args.slot last c.args.extent) c.loop-word-2.lane) =
     subst (λ (call : SubscriberCall). SubscriberStrode (port_of c.args.seat.now.me) c.args.lane.now c.loop-word-2.seat.me
-    (subscriber_called call c.loop-word-2.lane)) (reads_at c.args.sample.slot last c.args.sample.extent some) at_last in
-    strode_same (port_of c.args.seat.now.me) c.args.lane.now c.act_ahead-value.new.seat.me c.go_on_from.new.self
-    (subscriber_after c.act_ahead-value.result
-    (subscriber_called (subscribing.Reading c.args.sample.slot last c.args.sample.extent) c.loop-word-2.lane)) c.go_on_from.ensures
-    (c.act_ahead-value.ensures.strode (port_of c.args.seat.now.me) c.args.lane.now 0 reads)
+    (subscriber_called call c.loop-word-2.lane)) (reads_at c.args.slot last c.args.extent some) at_last in
+    strode_same (port_of c.args.seat.now.me) c.args.lane.now c.load_ahead-value.new.seat.me c.go_on_from.new.self
+    (subscriber_after c.load_ahead-value.result
+    (subscriber_called (subscribing.Reading c.args.slot last c.args.extent) c.loop-word-2.lane)) c.go_on_from.ensures
+    (c.load_ahead-value.ensures.strode (port_of c.args.seat.now.me) c.args.lane.now 0 reads)

@@ -1,26 +1,7 @@
 use Rattle.std.proofs.Common.{refl}
-use Rattle.iox_lanes_threads_ports.specs.Strides.{subscribers}
-use Rattle.iox_lanes_threads_ports.proofs.Between.{release_short}
-use Rattle.iox_lanes_threads_ports.proofs.RingStriding.{refusing_push_runs, refusing_push_ends}
-use Rattle.iox_lanes_threads_ports.proofs.Striding.{strode_none, may_go}
+use Rattle.iox_lanes_threads_ports.proofs.Striding.{strode_none}
 use Rattle.iox_lanes_threads_ports.proofs.SubscriberStriding.{subscriber_goes_ahead}
 use Rattle.iox_lanes_threads_ports.proofs.subscriber_strides.stride_on.Goals as goal
-
-pub stride_ring-requires-clause-may : goal.stride_ring-requires-clause-may
-stride_ring-requires-clause-may g c =
-    may_go subscribers c.args.words.now.table_id c.args.seat.now.table_id c.args.seat.now.me c.args.sizes.now c.args.lane.now
-    c.requires.table c.requires.seat c.requires.stands
-
-pub stride_ring-requires-clause-runs : goal.stride_ring-requires-clause-runs
-stride_ring-requires-clause-runs g c =
-    refusing_push_runs c.in-Releasing-default-default-Begun.limit c.in-Releasing-default-default-Begun.value
-
-pub returns-in-Releasing-default-default-Begun-clause-short : goal.returns-in-Releasing-default-default-Begun-clause-short
-returns-in-Releasing-default-default-Begun-clause-short g c =
-    let ends = c.stride_ring.ensures.ends
-    (refusing_push_ends c.in-Releasing-default-default-Begun.limit c.in-Releasing-default-default-Begun.value) in
-    release_short c.args.lane.now c.stride_ring.new.lane c.in-Releasing-default-default-Begun.place
-    c.in-Releasing-default-default-Begun.route ends.0 ends.1 ends.2 ends.3
 
 pub returns-clause-strode : goal.returns-clause-strode
 returns-clause-strode g c = strode_none subscriber_goes_ahead c.args.seat.now.me c.args.lane.now c.requires.seat.0 c.requires.stands

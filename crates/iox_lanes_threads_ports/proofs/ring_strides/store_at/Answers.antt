@@ -1,0 +1,47 @@
+use Rattle.std.proofs.Common.{◌+◌, ap, subst, sym, ◌∙◌}
+use Rattle.iox_lanes_machine.specs.LanesBase.Words.{on_ring, in_ring}
+use Rattle.iox_lanes_machine.specs.LanesBase.declared.words.access.SharedAccess.TheVariants.{Store}
+use Rattle.iox_lanes_machine.specs.LanesBase.declared.words.word.SharedWord.{SharedWord}
+use Rattle.iox_lanes_threads_rule.specs.Acts.{port_of}
+use Rattle.iox_lanes_threads_ports.specs.Strides.{StrodeBy}
+use Rattle.iox_lanes_threads_ports.specs.declared.ring_calls.RouteRing.{RouteRing}
+use Rattle.iox_lanes_threads_ports.proofs.Striding.{strode_none, same_sizes}
+use Rattle.iox_lanes_threads_ports.proofs.ring_strides.store_at.Goals as goal
+
+pub store_ahead-requires-clause-next : goal.store_ahead-requires-clause-next
+store_ahead-requires-clause-next g c =
+    let ring : RouteRing = g.C.RingCall.ring c.args.call in
+    ap g.L.Ahead.kind.next c.stage.ensures
+    ∙ g.met.C.RingCall.accesses c.args.call c.args.state
+    ∙ ap (on_ring ring.connection ring.ring ring.cells) c.requires.next
+    ∙ ap (λ (r : RouteRing). Store (in_ring r.connection r.ring r.cells c.args.word) c.args.new) (sym c.ring.ensures)
+    ∙ ap (λ (w : SharedWord). Store w c.args.new) (sym c.word-own.ensures)
+
+pub returns-clause-strode : goal.returns-clause-strode
+returns-clause-strode g c p begun made run =
+    subst (λ stage. StrodeBy g.L.Ahead.kind p begun (made + 1) c.store_ahead.new.seat.me
+    (g.L.Ahead.kind.after 0 (g.L.Ahead.kind.called stage c.args.lane.now))) c.stage.ensures
+    (c.store_ahead.ensures.strode p begun made
+    (subst (λ stage. StrodeBy g.L.Ahead.kind p begun made c.args.seat.now.me (g.L.Ahead.kind.called stage c.args.lane.now))
+    (sym c.stage.ensures) run))
+
+pub returns-clause-goes_on : goal.returns-clause-goes_on
+returns-clause-goes_on g c p begun made run keeps going =
+    subst (StrodeBy g.L.Ahead.kind p begun (made + 1) c.store_ahead.new.seat.me)
+    (g.met.C.RingCall.goes_on c.args.lane.now c.args.call c.args.state 0 keeps going)
+    (returns-clause-strode g c p begun made run)
+
+pub returns-clause-seat : goal.returns-clause-seat
+returns-clause-seat g c =
+    let p = port_of c.args.seat.now.me in
+    let here = g.L.Ahead.kind.called (g.C.RingCall.stage c.args.call c.args.state) c.args.lane.now in
+    same_sizes p c.store_ahead.new.seat.me (g.L.Ahead.kind.after 0 here) c.args.sizes.now
+    (returns-clause-strode g c p here 0 (strode_none c.goes_ahead.ensures c.args.seat.now.me here c.requires.seat.0 c.requires.stands))
+    c.requires.seat.1
+
+pub returns-clause-stands : goal.returns-clause-stands
+returns-clause-stands g c keeps going =
+    let p = port_of c.args.seat.now.me in
+    let here = g.L.Ahead.kind.called (g.C.RingCall.stage c.args.call c.args.state) c.args.lane.now in
+    (returns-clause-goes_on g c p here 0 (strode_none c.goes_ahead.ensures c.args.seat.now.me here c.requires.seat.0 c.requires.stands)
+    keeps going).stands
