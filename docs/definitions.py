@@ -1,20 +1,20 @@
 #!/usr/bin/env python3
-"""Compares docs/DEFINITIONS.md with the definitions that the clauses of public functions reach.
+"""Compares docs/DEFINITIONS.md and docs/CONTRACTS.md with the definitions that the clauses of public functions reach.
 
-Usage: docs/definitions.py             says what the page lacks, and what it names that isn't reached or isn't there
-       docs/definitions.py --rows      prints a row for each definition that the page lacks, from its comment
+Usage: docs/definitions.py             says what the pages lack, and what they name that isn't reached or isn't there
+       docs/definitions.py --rows      prints a row for each definition that the pages lack, from its comment
        docs/definitions.py --counted   prints the rows of the definitions that are counted, in reading order
 
 The clauses are those of `requires` and `ensures`, and the ghost members of traits and of their implementations. Views,
-invariants and functions that aren't public count only for what the page may name beyond that. A clause reaches what it names by
+invariants and functions that aren't public count only for what the pages may name beyond that. A clause reaches what it names by
 its `ghost use` lines, and a definition what it names by its `use` lines. Both are read as text: a name counts as used wherever
 it occurs.
 
 Counted is what a reader of the machine's promises must read: all that is reached by the clauses of the headline, of typed calls,
 and of lanes in turn. Of a typed call and of one of lanes each clause counts, `requires` too. Of `run` and `serve` those count
 that are in the machine's words (`HEADLINE`). Their further clauses speak of the code's own relation, numbers, room and places:
-they are the way of the proof, and promise what the machine doesn't know. The status is 1 where the page differs, where it
-doesn't begin with the counted ones, or where they are more than `MOST`.
+they are the way of the proof, and promise what the machine doesn't know. DEFINITIONS.md has the counted ones, and only these.
+The status is 1 where a page differs, or where the counted ones are more than `MOST`.
 """
 
 import re
@@ -24,13 +24,15 @@ from pathlib import Path
 DOCS = Path(__file__).resolve().parent
 CRATES = DOCS.parent / "crates"
 PAGE = DOCS / "DEFINITIONS.md"
+# The definitions of all other contracts.
+OTHERS = DOCS / "CONTRACTS.md"
 NAME = r"[^\s:(){}\[\],;.`]+"
 USE = re.compile(rf"^\s*(?:pub |ghost )*use (Rattle(?:\.{NAME})+?)(?:\.\{{([^}}]*)\}})?(?: as ({NAME}))?;?$", re.M)
 DEFINITION = re.compile(rf"^ *(?:abbrev pub|unfoldable pub|pub record|pub data|@mutual) ({NAME})", re.M)
 # Definitions that name each other are indented below this line.
 MUTUAL = re.compile(r"^abbrev mutual\n((?:(?:  .*)?\n)*)", re.M)
 VISIBLE = r"(?:pub(?:\(crate\))? )?"
-# In place of a comment: the page lists such a name where it is defined, and needn't where it is handed on.
+# In place of a comment: a page lists such a name where it is defined, and needn't where it is handed on.
 HANDED_ON = "handed on"
 # What ties a type to its model: no caller's clause names it.
 OF_MODELS = {"view", "invariant"}
@@ -318,13 +320,14 @@ def last_word(name):
 
 
 def listed(known):
-    """Returns the definitions that the page lists, and a line for each name on it that no file has.
+    """Returns the definitions that the pages list, and a line for each name on them that no file has.
 
     From one name `..` to another stand for those between them in the file with the same last word.
     """
     found, strange, crate = set(), [], ""
     order = list(known)
-    for number, line in enumerate(PAGE.read_text().splitlines(), 1):
+    lines = [(page.name, number, line) for page in (PAGE, OTHERS) for number, line in enumerate(page.read_text().splitlines(), 1)]
+    for page, number, line in lines:
         head = re.match(r"## .*\(`crates/(\w+)/specs`\)", line)
         crate = head[1] if head else crate
         cells = [it.strip() for it in line.split(" | ")]
@@ -334,7 +337,7 @@ def listed(known):
         for first, last in re.findall(r"`([^`]+)`(?: \.\. `([^`]+)`)?", cells[0]):
             here = [it for it in order if it[:2] in files and it[2] == first]
             if not here or last and not any(it[:2] in files and it[2] == last for it in order):
-                strange.append(f"line {number}: there is no {first if not here else last} in {cells[2].rstrip(' |')}")
+                strange.append(f"{page}, line {number}: there is no {first if not here else last} in {cells[2].rstrip(' |')}")
             for it in here:
                 found.add(it)
                 ends = [other for other in order if other[:2] == it[:2] and other[2] == last]
@@ -369,9 +372,9 @@ def main(words):
     for it in strange:
         print(it)
     page = PAGE.read_text()
-    faults = [f"not on the page: {it}" for it in counts if it not in page]
-    if first not in page:
-        faults.append(f"the page's section `{COUNTED}` isn't what --counted prints")
+    faults = [f"not on {PAGE.name}: {it}" for it in counts if it not in page]
+    if not page.endswith(f"\n{first}"):
+        faults.append(f"{PAGE.name} doesn't end with what --counted prints")
     if len(read) > MOST:
         faults.append(f"{len(read)} definitions are counted, and may be {MOST} at most")
     for it in faults:

@@ -18,11 +18,11 @@ DECLARED = re.compile(
 
 
 def sentences(known):
-    """What docs/DEFINITIONS.md says of each definition that has a row there."""
+    """What docs/DEFINITIONS.md and docs/CONTRACTS.md say of each definition that has a row there."""
     found, crate, of_file = {}, "", {}
     for it in known:
         of_file.setdefault(it[:2], []).append(it)
-    for line in definitions.PAGE.read_text(encoding="utf-8").splitlines():
+    for line in "\n".join(it.read_text(encoding="utf-8") for it in (definitions.PAGE, definitions.OTHERS)).splitlines():
         head = re.match(r"## .*\(`crates/(\w+)/specs`\)", line)
         crate = head[1] if head else crate
         cells = [it.strip() for it in line.split(" | ")]
@@ -72,11 +72,11 @@ class Words:
         return it if it in self.known and it[0] in self.library.crates else None
 
     def says(self, it):
-        """What a definition says: the comment above it, else its row on docs/DEFINITIONS.md, which may be that of several."""
+        """What a definition says: the comment above it, else its row on one of these pages, which may be that of several."""
         return self.known[it][0] or self.sentences.get(it, "")
 
     def row(self, it):
-        """Its row on docs/DEFINITIONS.md, where that says something else."""
+        """Its row on one of these pages, where that says something else."""
         row = self.sentences.get(it, "")
         return row if row != self.says(it) else ""
 
