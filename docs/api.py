@@ -5,8 +5,8 @@ Usage: docs/api.py [FOLDER]    writes the pages into a folder, `out/api` where n
        docs/api.py --lacking   lists the public functions of ports, builders and hubs without an example, and counts them;
                                status 1 where an example calls what isn't there
 
-It reads crates.txt, the sources and definitions of crates/, docs/CRATES.md and docs/DEFINITIONS.md. The pages need no network, and
-can be copied anywhere. A folder that has other files is left alone.
+It reads crates.txt, the sources and definitions of crates/, docs/CRATES.md, docs/DEFINITIONS.md and docs/CONTRACTS.md. The pages need no
+network, and can be copied anywhere. A folder that has other files is left alone.
 """
 
 import json
