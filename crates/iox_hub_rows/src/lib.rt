@@ -6,6 +6,7 @@
 //! - `handled`: handlers that commands name by their places.
 //! - `lanes`: a service of a hub goes by lanes, and by commands again.
 //! - `recorded`: a recorded hub, called as a program calls it.
+//! - `texts`: how errors display.
 #![tactic(auto)]
 
 #[cfg(test)]
@@ -14,3 +15,5 @@ mod handled;
 mod lanes;
 #[cfg(test)]
 mod recorded;
+#[cfg(test)]
+mod texts;

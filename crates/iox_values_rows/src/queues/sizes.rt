@@ -110,9 +110,6 @@ fn are_set(machine: &mut SetMachine, size: usize) -> bool {
 
 /// The want of as many calls on a set of bits.
 fn bits(alloc: Global, size: usize) -> Want {
-    if size == 0 {
-        return None;
-    }
     match SetMachine::new(alloc, 1, size, size) {
         Ok(mut machine) => want_unless(are_set(&mut machine, size)),
         Err(error) => Some(error),
