@@ -1,6 +1,7 @@
 -- Several steps of a port, which its lane makes up for at once, and those of a publisher.
 use Rattle.std.proofs.lemmas.Option.{slice_get-get_or}
 use Rattle.std.proofs.Common.{ℕ, ◌≡◌, ◌+◌, ◌<◌, ◌^◌, false, List, length, get_or, slice_get, Some, refl, sym, ◌∙◌, ap, subst, arith}
+use Rattle.atomic_table.specs.Seated.{TableId}
 use Rattle.atomic_table.specs.Table.{Me}
 use Rattle.iox_lanes_machine.specs.QueuesSteps.Access.{successor}
 use Rattle.iox_lanes_machine.specs.LanesBase.Numbers.{IsSmall}
@@ -23,7 +24,7 @@ use Rattle.iox_lanes_threads_ports.specs.declared.strides.SlotPart.{SlotPart}
 use Rattle.iox_lanes_threads_ports.specs.declared.strides.SlotPart.TheVariants.{Payload, Head}
 use Rattle.iox_lanes_threads_ports.specs.SlotParts.{storing, storing_at}
 use Rattle.iox_lanes_threads_ports.specs.Strides.{called, PublisherStrides, Strode, PublisherStrode, TouchesWord, LaneKind, publishers}
-use Rattle.iox_lanes_threads_ports.specs.Strides.{GoesAhead}
+use Rattle.iox_lanes_threads_ports.specs.Strides.{GoesAhead, MayStride, StridesOn}
 use Rattle.iox_lanes_threads_ports.specs.Strides.PublisherStrides.{stays, goes}
 use Rattle.iox_lanes_threads_ports.proofs.Coming.{publisher_makes}
 use Rattle.iox_lanes_threads_ports.proofs.PublisherSteps as steps
@@ -99,11 +100,29 @@ module _ {L C : Type 0} {kind : LaneKind L C} (ahead : GoesAhead L C kind) where
       (kind.after answer (kind.called call lane)) (kind.next call) answer (kind.party (kind.called call lane)) run on.0 on.1
       (subst (λ (a : SharedAccess). me' ≡ single (stepped (port_of me) a answer (kind.party (kind.called call lane)))) (sym e) is)
 
--- the sizes of the service that the table has
-pub same_sizes : {L : Type 0} {Stands : Port → L → Type 0} {Went : Port → L → Type 0} (p : Port) (me : Me ℕ View) (now : L)
-    (sizes : TableSizes) → Strode Stands Went p me now → p.service.sizes ≡ sizes → (me ≡ single (port_of me))
-    × ((port_of me).service.sizes ≡ sizes)
-same_sizes p me now sizes run is = (run.alone, ap (λ (s : Service). s.sizes) run.service ∙ is)
+  -- a port that may stride may also where its call begins
+  pub stride_begun : (words seat : TableId) (me : Me ℕ View) (sizes : TableSizes) (lane : L) (call : C) (cells : ℕ)
+      → kind.standing lane ≡ call → MayStride kind words seat me sizes lane cells
+      → MayStride kind words seat me sizes (kind.called call lane) cells
+  stride_begun words seat me sizes lane call cells is may = record {
+    table = may.table;
+    own = may.own;
+    stands = (strode_begun me lane call is may.own.0 may.stands).stands;
+    cells = may.cells;
+  }
+
+  -- and behind one more step
+  pub stride_next : (words seat seat' : TableId) (me me' : Me ℕ View) (sizes : TableSizes) (lane next : L) (cells : ℕ)
+      → MayStride kind words seat me sizes lane cells → seat' ≡ seat → StridesOn kind me lane me' next
+      → MayStride kind words seat' me' sizes next cells
+  stride_next words seat seat' me me' sizes lane next cells may same on =
+      let run = on (port_of me) lane 0 (strode_none me lane may.own.0 may.stands) in
+      record {
+        table = (same ∙ may.table.0, may.table.1, may.table.2);
+        own = (run.alone, ap (λ (s : Service). s.sizes) run.service ∙ may.own.1);
+        stands = run.stands;
+        cells = may.cells;
+      }
 
 -- a call that stores the words of a part goes from word to word
 pub storing_first : (part : SlotPart) (words : List ℕ) (slot first : ℕ) → slice_get words 0 ≡ Some first

@@ -1,12 +1,15 @@
 -- Several steps of a port, which its lane makes up for at once.
-use Rattle.std.specs.Prelude.{ℕ, ◌≡◌, ◌+◌, false}
+use Rattle.std.specs.Prelude.{ℕ, ◌≡◌, ◌+◌, ◌<◌, false}
+use Rattle.atomic_table.specs.Seated.{TableId}
 use Rattle.atomic_table.specs.Table.{Me}
 use Rattle.iox_lanes_machine.specs.QueuesSteps.declared.access.Access.{Access}
 use Rattle.iox_lanes_machine.specs.QueuesSteps.declared.access.Access.TheVariants as own
 use Rattle.iox_lanes_machine.specs.QueuesSteps.declared.access.Word.TheVariants.{Write, Read, Cell}
+use Rattle.iox_lanes_machine.specs.LanesBase.Numbers.{words_of, IsSmall}
 use Rattle.iox_lanes_machine.specs.LanesBase.Publishing.{publisher_next, publisher_is_over}
 use Rattle.iox_lanes_machine.specs.LanesBase.declared.calls.publisher.PublisherCall.{PublisherCall}
 use Rattle.iox_lanes_machine.specs.LanesBase.declared.calls.subscriber.SubscriberCall.{SubscriberCall}
+use Rattle.iox_lanes_machine.specs.LanesBase.declared.words.sizes.TableSizes.{TableSizes}
 use Rattle.iox_lanes_machine.specs.LanesBase.declared.words.access.SharedAccess.{SharedAccess}
 use Rattle.iox_lanes_machine.specs.LanesBase.declared.words.access.SharedAccess.TheVariants.{Load, Store, Exchange, Local}
 use Rattle.iox_lanes_machine.specs.LanesBase.Subscribing.{subscriber_next}
@@ -102,6 +105,20 @@ subscribers = record {
 -- a lane of a kind with a seat of its own that made so many steps
 abbrev pub StrodeBy : {L C : Type 0} → LaneKind L C → Port → L → ℕ → Me ℕ View → L → Type 0
 StrodeBy kind p lane made me now = Strode kind.Stands (kind.Strides p lane made) p me now
+
+-- a port goes from one lane to another by one step: whatever steps it made before, it made one more
+abbrev pub StridesOn : {L C : Type 0} → LaneKind L C → Me ℕ View → L → Me ℕ View → L → Type 0
+StridesOn {L = L} kind me lane me' next = (p : Port) (begun : L) (made : ℕ) → StrodeBy kind p begun made me lane
+    → StrodeBy kind p begun (made + 1) me' next
+
+-- A port may make the next access of a lane of a kind, on a ring of so many cells. Its table, `seat`, has these words and sizes, which its
+-- service has too; the seat is its own; where the lane stands the port knows what its next step needs; and the ring has cells.
+pub record MayStride {L C : Type 0} (kind : LaneKind L C) (words seat : TableId) (me : Me ℕ View) (sizes : TableSizes) (lane : L)
+    (count : ℕ) : Type 0 where
+  pub table : (seat ≡ words) × (words.words ≡ words_of sizes) × IsSmall sizes
+  pub own : (me ≡ single (port_of me)) × ((port_of me).service.sizes ≡ sizes)
+  pub stands : kind.Stands (port_of me) lane
+  pub cells : 0 < count
 
 -- Accesses may be made ahead of lanes of a kind. Where a lane stands its port may make the access that comes next, and makes it next.
 -- Behind no step it made none, and behind one more on a shared word, after its answer, it stands again and made one step more.

@@ -4,10 +4,14 @@ ghost use Rattle.iox_lanes_machine.specs.LanesBase.Words.{in_ring, on_ring};
 ghost use Rattle.iox_lanes_machine.specs.LanesBase.declared.words.word.ConnectionRing.TheVariants as own_ring;
 ghost use Rattle.iox_lanes_machine.specs.LanesBase.declared.calls.publisher.PublisherCall.TheVariants as publishing;
 ghost use Rattle.iox_lanes_machine.specs.LanesBase.declared.calls.subscriber.SubscriberCall.TheVariants as subscribing;
+ghost use Rattle.iox_lanes_machine.specs.QueuesSteps.Ends.{pop_is_over, pop_next, pop_take, push_is_over, push_next, push_take};
+ghost use Rattle.iox_lanes_machine.specs.QueuesSteps.declared.rings.ends.Push.{Push};
 ghost use Rattle.iox_lanes_machine.specs.QueuesSteps.declared.rings.ends.Push.TheVariants as ring_push;
+ghost use Rattle.iox_lanes_machine.specs.QueuesSteps.declared.rings.ends.Pop.{Pop};
 ghost use Rattle.iox_lanes_machine.specs.QueuesSteps.declared.rings.ends.Pop.TheVariants as ring_pop;
 ghost use Rattle.iox_lanes_threads_ports.specs.declared.ring_calls.RouteRing.{RouteRing};
 ghost use Rattle.iox_lanes_threads_ports.specs.Strides.{KeepsPositions};
+ghost use Rattle.iox_lanes_threads_ports.specs.RingCalls.{AreAlike, submission_ring, completion_ring};
 ghost use Rattle.iox_lanes_threads_ports.specs.RingCalls as calls;
 
 use crate::ahead::Ahead;
@@ -30,7 +34,7 @@ pub(crate) struct RouteRing {
 impl RouteRing {
     #[inline(always)]
     fn submission(route: Route) -> RouteRing
-        ensures { result ≡ record { connection = route.connection; ring = own_ring.Submission; cells = route.submission_cells } }
+        ensures { result ≡ submission_ring route }
     {
         RouteRing {
             connection: route.connection,
@@ -41,7 +45,7 @@ impl RouteRing {
 
     #[inline(always)]
     fn completion(route: Route) -> RouteRing
-        ensures { result ≡ record { connection = route.connection; ring = own_ring.Completion; cells = route.completion_cells } }
+        ensures { result ≡ completion_ring route }
     {
         RouteRing {
             connection: route.connection,
@@ -67,6 +71,76 @@ impl RouteRing {
             word,
         }
     }
+}
+
+/// A push on a ring of one kind.
+pub(crate) trait IntoPush: End {
+    // the same push on a ring of either kind
+    ghost push: { Self → Push };
+
+    /// The same push on a ring of either kind.
+    fn push(self) -> Push
+        ensures { result ≡ push self };
+
+    // they make the same steps
+    ghost alike: { AreAlike push Self.asks Self.takes Self.over push_next push_take push_is_over };
+}
+
+impl IntoPush for RefusingPush {
+    ghost push = { λ state. ring_push.Refusing state };
+
+    #[inline(always)]
+    fn push(self) -> Push {
+        Push::Refusing(self)
+    }
+
+    ghost alike = { calls.refusing_pushes };
+}
+
+impl IntoPush for OverflowingPush {
+    ghost push = { λ state. ring_push.Overflowing state };
+
+    #[inline(always)]
+    fn push(self) -> Push {
+        Push::Overflowing(self)
+    }
+
+    ghost alike = { calls.overflowing_pushes };
+}
+
+/// A pop on a ring of one kind.
+pub(crate) trait IntoPop: End {
+    // the same pop on a ring of either kind
+    ghost pop: { Self → Pop };
+
+    /// The same pop on a ring of either kind.
+    fn pop(self) -> Pop
+        ensures { result ≡ pop self };
+
+    // they make the same steps
+    ghost alike: { AreAlike pop Self.asks Self.takes Self.over pop_next pop_take pop_is_over };
+}
+
+impl IntoPop for RefusingPop {
+    ghost pop = { λ state. ring_pop.Refusing state };
+
+    #[inline(always)]
+    fn pop(self) -> Pop {
+        Pop::Refusing(self)
+    }
+
+    ghost alike = { calls.refusing_pops };
+}
+
+impl IntoPop for OverflowingPop {
+    ghost pop = { λ state. ring_pop.Overflowing state };
+
+    #[inline(always)]
+    fn pop(self) -> Pop {
+        Pop::Overflowing(self)
+    }
+
+    ghost alike = { calls.overflowing_pops };
 }
 
 /// A call of a lane inside a pop or a push on a ring.
@@ -107,7 +181,7 @@ impl RingCall<PublisherLane, RefusingPop> for LoanReclaims {
 
     ghost stage = { λ call pop. publishing.LoanReclaims call.place call.route pop };
 
-    ghost ring = { λ call. record { connection = call.route.connection; ring = own_ring.Completion; cells = call.route.completion_cells } };
+    ghost ring = { λ call. completion_ring call.route };
 
     #[inline(always)]
     fn stage(self, pop: RefusingPop) -> PublisherCall {
@@ -138,7 +212,7 @@ impl RingCall<PublisherLane, RefusingPop> for SendReclaims {
 
     ghost stage = { λ call pop. publishing.SendReclaims call.slot call.place call.route pop };
 
-    ghost ring = { λ call. record { connection = call.route.connection; ring = own_ring.Completion; cells = call.route.completion_cells } };
+    ghost ring = { λ call. completion_ring call.route };
 
     #[inline(always)]
     fn stage(self, pop: RefusingPop) -> PublisherCall {
@@ -170,15 +244,15 @@ pub(crate) struct Pushes {
     pub(crate) delivery: Delivery,
 }
 
-impl RingCall<PublisherLane, RefusingPush> for Pushes {
-    ghost use Rattle.std.proofs.Common.{refl};
+impl<P: IntoPush> RingCall<PublisherLane, P> for Pushes {
+    ghost use Rattle.std.proofs.Common.{ap};
 
-    ghost stage = { λ call push. publishing.Pushing call.slot call.place call.route (ring_push.Refusing push) call.delivery };
+    ghost stage = { λ call push. publishing.Pushing call.slot call.place call.route (P.push push) call.delivery };
 
-    ghost ring = { λ call. record { connection = call.route.connection; ring = own_ring.Submission; cells = call.route.submission_cells } };
+    ghost ring = { λ call. submission_ring call.route };
 
     #[inline(always)]
-    fn stage(self, push: RefusingPush) -> PublisherCall {
+    fn stage(self, push: P) -> PublisherCall {
         let Pushes {
             slot,
             place,
@@ -189,7 +263,7 @@ impl RingCall<PublisherLane, RefusingPush> for Pushes {
             slot,
             place,
             route,
-            push: Push::Refusing(push),
+            push: push.push(),
             delivery,
         }
     }
@@ -199,45 +273,11 @@ impl RingCall<PublisherLane, RefusingPush> for Pushes {
         RouteRing::submission(self.route)
     }
 
-    ghost accesses = { λ call push. refl };
+    ghost accesses = { λ call push.
+        ap (on_ring call.route.connection own_ring.Submission call.route.submission_cells) (P.alike.asks_alike push) };
 
     ghost goes_on = { λ lane call push answer keeps going.
-        calls.push_goes_on lane call.slot call.place call.route call.delivery push answer keeps going };
-}
-
-impl RingCall<PublisherLane, OverflowingPush> for Pushes {
-    ghost use Rattle.std.proofs.Common.{refl};
-
-    ghost stage = { λ call push. publishing.Pushing call.slot call.place call.route (ring_push.Overflowing push) call.delivery };
-
-    ghost ring = { λ call. record { connection = call.route.connection; ring = own_ring.Submission; cells = call.route.submission_cells } };
-
-    #[inline(always)]
-    fn stage(self, push: OverflowingPush) -> PublisherCall {
-        let Pushes {
-            slot,
-            place,
-            route,
-            delivery,
-        } = self;
-        PublisherCall::Pushing {
-            slot,
-            place,
-            route,
-            push: Push::Overflowing(push),
-            delivery,
-        }
-    }
-
-    #[inline(always)]
-    fn ring(self) -> RouteRing {
-        RouteRing::submission(self.route)
-    }
-
-    ghost accesses = { λ call push. refl };
-
-    ghost goes_on = { λ lane call push answer keeps going.
-        calls.push_over_goes_on lane call.slot call.place call.route call.delivery push answer keeps going };
+        calls.push_goes_on P.alike lane call.slot call.place call.route call.delivery push answer keeps going };
 }
 
 /// A receive that pops at a connection.
@@ -248,15 +288,15 @@ pub(crate) struct Receives {
     pub(crate) waits: bool,
 }
 
-impl RingCall<SubscriberLane, RefusingPop> for Receives {
-    ghost use Rattle.std.proofs.Common.{refl};
+impl<P: IntoPop> RingCall<SubscriberLane, P> for Receives {
+    ghost use Rattle.std.proofs.Common.{ap};
 
-    ghost stage = { λ call pop. subscribing.Receiving call.place call.route (ring_pop.Refusing pop) call.waits };
+    ghost stage = { λ call pop. subscribing.Receiving call.place call.route (P.pop pop) call.waits };
 
-    ghost ring = { λ call. record { connection = call.route.connection; ring = own_ring.Submission; cells = call.route.submission_cells } };
+    ghost ring = { λ call. submission_ring call.route };
 
     #[inline(always)]
-    fn stage(self, pop: RefusingPop) -> SubscriberCall {
+    fn stage(self, pop: P) -> SubscriberCall {
         let Receives {
             place,
             route,
@@ -265,7 +305,7 @@ impl RingCall<SubscriberLane, RefusingPop> for Receives {
         SubscriberCall::Receiving {
             place,
             route,
-            pop: Pop::Refusing(pop),
+            pop: pop.pop(),
             waits,
         }
     }
@@ -275,41 +315,11 @@ impl RingCall<SubscriberLane, RefusingPop> for Receives {
         RouteRing::submission(self.route)
     }
 
-    ghost accesses = { λ call pop. refl };
+    ghost accesses = { λ call pop.
+        ap (on_ring call.route.connection own_ring.Submission call.route.submission_cells) (P.alike.asks_alike pop) };
 
-    ghost goes_on = { λ lane call pop answer keeps going. calls.pop_goes_on lane call.place call.route call.waits pop answer going };
-}
-
-impl RingCall<SubscriberLane, OverflowingPop> for Receives {
-    ghost use Rattle.std.proofs.Common.{refl};
-
-    ghost stage = { λ call pop. subscribing.Receiving call.place call.route (ring_pop.Overflowing pop) call.waits };
-
-    ghost ring = { λ call. record { connection = call.route.connection; ring = own_ring.Submission; cells = call.route.submission_cells } };
-
-    #[inline(always)]
-    fn stage(self, pop: OverflowingPop) -> SubscriberCall {
-        let Receives {
-            place,
-            route,
-            waits,
-        } = self;
-        SubscriberCall::Receiving {
-            place,
-            route,
-            pop: Pop::Overflowing(pop),
-            waits,
-        }
-    }
-
-    #[inline(always)]
-    fn ring(self) -> RouteRing {
-        RouteRing::submission(self.route)
-    }
-
-    ghost accesses = { λ call pop. refl };
-
-    ghost goes_on = { λ lane call pop answer keeps going. calls.pop_over_goes_on lane call.place call.route call.waits pop answer going };
+    ghost goes_on = { λ lane call pop answer keeps going.
+        calls.pop_goes_on P.alike lane call.place call.route call.waits pop answer going };
 }
 
 /// A release that pushes at a connection.
@@ -324,7 +334,7 @@ impl RingCall<SubscriberLane, RefusingPush> for Releases {
 
     ghost stage = { λ call push. subscribing.Releasing call.place call.route push };
 
-    ghost ring = { λ call. record { connection = call.route.connection; ring = own_ring.Completion; cells = call.route.completion_cells } };
+    ghost ring = { λ call. completion_ring call.route };
 
     #[inline(always)]
     fn stage(self, push: RefusingPush) -> SubscriberCall {

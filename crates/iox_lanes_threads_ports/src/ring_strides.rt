@@ -1,5 +1,5 @@
 //! A port's pops and pushes on its rings, each at once: its lane makes up for one behind its last access.
-ghost use Rattle.std.specs.Prelude.{◌≡◌, ◌+◌, ◌<◌, ◌≤◌, ℕ, true, false};
+ghost use Rattle.std.specs.Prelude.{◌≡◌, ◌<◌, ◌≤◌, ℕ, true, false};
 ghost use Rattle.iox_lanes_machine.specs.QueuesSteps.declared.access.Access.TheVariants as own;
 ghost use Rattle.iox_lanes_machine.specs.QueuesSteps.Refusing.{push_is_over, push_take};
 ghost use Rattle.iox_lanes_machine.specs.QueuesSteps.declared.rings.refusing.pop.Pop.TheVariants as refusing_pop;
@@ -7,10 +7,8 @@ ghost use Rattle.iox_lanes_machine.specs.QueuesSteps.declared.rings.refusing.pus
 ghost use Rattle.iox_lanes_machine.specs.QueuesSteps.declared.rings.refusing.push.Push.{Push as RefusingPush};
 ghost use Rattle.iox_lanes_machine.specs.QueuesSteps.declared.rings.overflowing.pop.Pop.TheVariants as overflowing_pop;
 ghost use Rattle.iox_lanes_machine.specs.QueuesSteps.declared.rings.overflowing.push.Push.TheVariants as overflowing_push;
-ghost use Rattle.iox_lanes_machine.specs.LanesBase.Numbers.{words_of, IsSmall};
-ghost use Rattle.iox_lanes_threads_rule.specs.Acts.{single, port_of};
-ghost use Rattle.iox_lanes_threads_rule.specs.declared.view.Port.{Port};
-ghost use Rattle.iox_lanes_threads_ports.specs.Strides.{StrodeBy, KeepsPositions};
+ghost use Rattle.iox_lanes_threads_rule.specs.Acts.{port_of};
+ghost use Rattle.iox_lanes_threads_ports.specs.Strides.{StrodeBy, StridesOn, KeepsPositions, MayStride};
 
 use crate::ahead::{Ahead, exchange_ahead, load_ahead, store_ahead};
 use crate::ring_calls::RingCall;
@@ -31,22 +29,18 @@ fn load_at<K: Opening, L: Ahead, S: End, C: RingCall<L, S>>(
     state: S,
     word: Word,
 ) -> u64
-    requires table { (seat.old.table_id ≡ words.now.table_id) × (words.now.table_id.words ≡ words_of sizes.now) × IsSmall sizes.now }
-    requires seat { (seat.old.me ≡ single (port_of seat.old.me)) × ((port_of seat.old.me).service.sizes ≡ sizes.now) }
-    requires stands { L.kind.Stands (port_of seat.old.me) (L.kind.called (C.stage call state) lane.now) }
-    requires cells { 0 < (C.ring call).cells }
+    requires may { MayStride L.kind words.now.table_id seat.old.table_id seat.old.me sizes.now
+        (L.kind.called (C.stage call state) lane.now) (C.ring call).cells }
     requires next { S.asks state ≡ own.Load word }
     ensures table { (seat.new.table_id ≡ seat.old.table_id) × (seat.new.id ≡ seat.old.id) }
-    ensures strode { (p : Port) (begun : L) (made : ℕ)
-        → StrodeBy L.kind p begun made seat.old.me (L.kind.called (C.stage call state) lane.now)
-        → StrodeBy L.kind p begun (made + 1) seat.new.me (L.kind.after result (L.kind.called (C.stage call state) lane.now)) }
-    ensures goes_on { (p : Port) (begun : L) (made : ℕ)
-        → StrodeBy L.kind p begun made seat.old.me (L.kind.called (C.stage call state) lane.now)
-        → S.over (S.takes state result) ≡ false
-        → StrodeBy L.kind p begun (made + 1) seat.new.me (L.kind.called (C.stage call (S.takes state result)) lane.now) }
-    ensures seat { (seat.new.me ≡ single (port_of seat.new.me)) × ((port_of seat.new.me).service.sizes ≡ sizes.now) }
-    ensures stands { S.over (S.takes state result) ≡ false
-        → L.kind.Stands (port_of seat.new.me) (L.kind.called (C.stage call (S.takes state result)) lane.now) }
+    ensures strode { StridesOn L.kind seat.old.me (L.kind.called (C.stage call state) lane.now) seat.new.me
+        (L.kind.after result (L.kind.called (C.stage call state) lane.now)) }
+    ensures goes_on { S.over (S.takes state result) ≡ false
+        → StridesOn L.kind seat.old.me (L.kind.called (C.stage call state) lane.now) seat.new.me
+        (L.kind.called (C.stage call (S.takes state result)) lane.now) }
+    ensures may { S.over (S.takes state result) ≡ false
+        → MayStride L.kind words.now.table_id seat.new.table_id seat.new.me sizes.now
+        (L.kind.called (C.stage call (S.takes state result)) lane.now) (C.ring call).cells }
 {
     L::goes_ahead();
     let own = call.ring().word(word);
@@ -65,22 +59,18 @@ fn store_at<K: Opening, L: Ahead, S: End, C: RingCall<L, S>>(
     word: Word,
     new: u64,
 )
-    requires table { (seat.old.table_id ≡ words.now.table_id) × (words.now.table_id.words ≡ words_of sizes.now) × IsSmall sizes.now }
-    requires seat { (seat.old.me ≡ single (port_of seat.old.me)) × ((port_of seat.old.me).service.sizes ≡ sizes.now) }
-    requires stands { L.kind.Stands (port_of seat.old.me) (L.kind.called (C.stage call state) lane.now) }
-    requires cells { 0 < (C.ring call).cells }
+    requires may { MayStride L.kind words.now.table_id seat.old.table_id seat.old.me sizes.now
+        (L.kind.called (C.stage call state) lane.now) (C.ring call).cells }
     requires next { S.asks state ≡ own.Store word new }
     ensures table { (seat.new.table_id ≡ seat.old.table_id) × (seat.new.id ≡ seat.old.id) }
-    ensures strode { (p : Port) (begun : L) (made : ℕ)
-        → StrodeBy L.kind p begun made seat.old.me (L.kind.called (C.stage call state) lane.now)
-        → StrodeBy L.kind p begun (made + 1) seat.new.me (L.kind.after 0 (L.kind.called (C.stage call state) lane.now)) }
-    ensures goes_on { (p : Port) (begun : L) (made : ℕ)
-        → StrodeBy L.kind p begun made seat.old.me (L.kind.called (C.stage call state) lane.now)
-        → KeepsPositions (S.asks state) → S.over (S.takes state 0) ≡ false
-        → StrodeBy L.kind p begun (made + 1) seat.new.me (L.kind.called (C.stage call (S.takes state 0)) lane.now) }
-    ensures seat { (seat.new.me ≡ single (port_of seat.new.me)) × ((port_of seat.new.me).service.sizes ≡ sizes.now) }
-    ensures stands { KeepsPositions (S.asks state) → S.over (S.takes state 0) ≡ false
-        → L.kind.Stands (port_of seat.new.me) (L.kind.called (C.stage call (S.takes state 0)) lane.now) }
+    ensures strode { StridesOn L.kind seat.old.me (L.kind.called (C.stage call state) lane.now) seat.new.me
+        (L.kind.after 0 (L.kind.called (C.stage call state) lane.now)) }
+    ensures goes_on { KeepsPositions (S.asks state) → S.over (S.takes state 0) ≡ false
+        → StridesOn L.kind seat.old.me (L.kind.called (C.stage call state) lane.now) seat.new.me
+        (L.kind.called (C.stage call (S.takes state 0)) lane.now) }
+    ensures may { KeepsPositions (S.asks state) → S.over (S.takes state 0) ≡ false
+        → MayStride L.kind words.now.table_id seat.new.table_id seat.new.me sizes.now
+        (L.kind.called (C.stage call (S.takes state 0)) lane.now) (C.ring call).cells }
 {
     L::goes_ahead();
     let own = call.ring().word(word);
@@ -100,15 +90,12 @@ fn exchange_at<K: Opening, L: Ahead, S: End, C: RingCall<L, S>>(
     old: u64,
     new: u64,
 ) -> u64
-    requires table { (seat.old.table_id ≡ words.now.table_id) × (words.now.table_id.words ≡ words_of sizes.now) × IsSmall sizes.now }
-    requires seat { (seat.old.me ≡ single (port_of seat.old.me)) × ((port_of seat.old.me).service.sizes ≡ sizes.now) }
-    requires stands { L.kind.Stands (port_of seat.old.me) (L.kind.called (C.stage call state) lane.now) }
-    requires cells { 0 < (C.ring call).cells }
+    requires may { MayStride L.kind words.now.table_id seat.old.table_id seat.old.me sizes.now
+        (L.kind.called (C.stage call state) lane.now) (C.ring call).cells }
     requires next { S.asks state ≡ own.Exchange word old new }
     ensures table { (seat.new.table_id ≡ seat.old.table_id) × (seat.new.id ≡ seat.old.id) }
-    ensures strode { (p : Port) (begun : L) (made : ℕ)
-        → StrodeBy L.kind p begun made seat.old.me (L.kind.called (C.stage call state) lane.now)
-        → StrodeBy L.kind p begun (made + 1) seat.new.me (L.kind.after result (L.kind.called (C.stage call state) lane.now)) }
+    ensures strode { StridesOn L.kind seat.old.me (L.kind.called (C.stage call state) lane.now) seat.new.me
+        (L.kind.after result (L.kind.called (C.stage call state) lane.now)) }
 {
     L::goes_ahead();
     let own = call.ring().word(word);
@@ -123,11 +110,8 @@ pub(crate) fn pop<K: Opening, L: Ahead, C: RingCall<L, RefusingPop>>(
     lane: &mut L,
     call: C,
 ) -> u128
-    requires table { (seat.old.table_id ≡ words.now.table_id) × (words.now.table_id.words ≡ words_of sizes.now) × IsSmall sizes.now }
-    requires seat { (seat.old.me ≡ single (port_of seat.old.me)) × ((port_of seat.old.me).service.sizes ≡ sizes.now) }
-    requires stands { L.kind.Stands (port_of seat.old.me) lane.old }
+    requires may { MayStride L.kind words.now.table_id seat.old.table_id seat.old.me sizes.now lane.old (C.ring call).cells }
     requires call { L.kind.standing lane.old ≡ C.stage call refusing_pop.Begun }
-    requires cells { 0 < (C.ring call).cells }
     ensures table { (seat.new.table_id ≡ seat.old.table_id) × (seat.new.id ≡ seat.old.id) }
     ensures some { (0 < result) × (result ≤ 4) }
     ensures strode { StrodeBy L.kind (port_of seat.old.me) lane.old result seat.new.me lane.new }
@@ -159,11 +143,8 @@ pub(crate) fn pop_over<K: Opening, L: Ahead, C: RingCall<L, OverflowingPop>>(
     lane: &mut L,
     call: C,
 ) -> u128
-    requires table { (seat.old.table_id ≡ words.now.table_id) × (words.now.table_id.words ≡ words_of sizes.now) × IsSmall sizes.now }
-    requires seat { (seat.old.me ≡ single (port_of seat.old.me)) × ((port_of seat.old.me).service.sizes ≡ sizes.now) }
-    requires stands { L.kind.Stands (port_of seat.old.me) lane.old }
+    requires may { MayStride L.kind words.now.table_id seat.old.table_id seat.old.me sizes.now lane.old (C.ring call).cells }
     requires call { L.kind.standing lane.old ≡ C.stage call overflowing_pop.Begun }
-    requires cells { 0 < (C.ring call).cells }
     ensures table { (seat.new.table_id ≡ seat.old.table_id) × (seat.new.id ≡ seat.old.id) }
     ensures some { (0 < result) × (result ≤ 4) }
     ensures strode { StrodeBy L.kind (port_of seat.old.me) lane.old result seat.new.me lane.new }
@@ -197,11 +178,8 @@ pub(crate) fn push<K: Opening, L: Ahead, C: RingCall<L, RefusingPush>>(
     limit: u64,
     value: u64,
 ) -> u128
-    requires table { (seat.old.table_id ≡ words.now.table_id) × (words.now.table_id.words ≡ words_of sizes.now) × IsSmall sizes.now }
-    requires seat { (seat.old.me ≡ single (port_of seat.old.me)) × ((port_of seat.old.me).service.sizes ≡ sizes.now) }
-    requires stands { L.kind.Stands (port_of seat.old.me) lane.old }
+    requires may { MayStride L.kind words.now.table_id seat.old.table_id seat.old.me sizes.now lane.old (C.ring call).cells }
     requires call { L.kind.standing lane.old ≡ C.stage call (refusing_push.Begun limit value) }
-    requires cells { 0 < (C.ring call).cells }
     ensures table { (seat.new.table_id ≡ seat.old.table_id) × (seat.new.id ≡ seat.old.id) }
     ensures some { (0 < result) × (result ≤ 4) }
     ensures ends { (last : RefusingPush) × (answer : ℕ) × (push_is_over (push_take last answer) ≡ true)
@@ -243,11 +221,8 @@ pub(crate) fn push_over<K: Opening, L: Ahead, C: RingCall<L, OverflowingPush>>(
     limit: u64,
     value: u64,
 ) -> u128
-    requires table { (seat.old.table_id ≡ words.now.table_id) × (words.now.table_id.words ≡ words_of sizes.now) × IsSmall sizes.now }
-    requires seat { (seat.old.me ≡ single (port_of seat.old.me)) × ((port_of seat.old.me).service.sizes ≡ sizes.now) }
-    requires stands { L.kind.Stands (port_of seat.old.me) lane.old }
+    requires may { MayStride L.kind words.now.table_id seat.old.table_id seat.old.me sizes.now lane.old (C.ring call).cells }
     requires call { L.kind.standing lane.old ≡ C.stage call (overflowing_push.Begun limit value) }
-    requires cells { 0 < (C.ring call).cells }
     ensures table { (seat.new.table_id ≡ seat.old.table_id) × (seat.new.id ≡ seat.old.id) }
     ensures some { (0 < result) × (result ≤ 4) }
     ensures strode { StrodeBy L.kind (port_of seat.old.me) lane.old result seat.new.me lane.new }
@@ -296,11 +271,8 @@ pub(crate) fn leave_out<K: Opening, L: Ahead, C: RingCall<L, OverflowingPush>>(
     read: u64,
     next: u64,
 ) -> u128
-    requires table { (seat.old.table_id ≡ words.now.table_id) × (words.now.table_id.words ≡ words_of sizes.now) × IsSmall sizes.now }
-    requires seat { (seat.old.me ≡ single (port_of seat.old.me)) × ((port_of seat.old.me).service.sizes ≡ sizes.now) }
-    requires stands { L.kind.Stands (port_of seat.old.me) lane.old }
+    requires may { MayStride L.kind words.now.table_id seat.old.table_id seat.old.me sizes.now lane.old (C.ring call).cells }
     requires call { L.kind.standing lane.old ≡ C.stage call (overflowing_push.Full value read next) }
-    requires cells { 0 < (C.ring call).cells }
     ensures table { (seat.new.table_id ≡ seat.old.table_id) × (seat.new.id ≡ seat.old.id) }
     ensures some { (0 < result) × (result ≤ 2) }
     ensures strode { StrodeBy L.kind (port_of seat.old.me) lane.old result seat.new.me lane.new }

@@ -2,10 +2,9 @@ use Rattle.std.proofs.Common.{◌+◌, ap, subst, sym, ◌∙◌}
 use Rattle.iox_lanes_machine.specs.LanesBase.Words.{on_ring, in_ring}
 use Rattle.iox_lanes_machine.specs.LanesBase.declared.words.access.SharedAccess.TheVariants.{Store}
 use Rattle.iox_lanes_machine.specs.LanesBase.declared.words.word.SharedWord.{SharedWord}
-use Rattle.iox_lanes_threads_rule.specs.Acts.{port_of}
 use Rattle.iox_lanes_threads_ports.specs.Strides.{StrodeBy}
 use Rattle.iox_lanes_threads_ports.specs.declared.ring_calls.RouteRing.{RouteRing}
-use Rattle.iox_lanes_threads_ports.proofs.Striding.{strode_none, same_sizes}
+use Rattle.iox_lanes_threads_ports.proofs.Striding.{stride_next}
 use Rattle.iox_lanes_threads_ports.proofs.ring_strides.store_at.Goals as goal
 
 pub store_ahead-requires-clause-next : goal.store_ahead-requires-clause-next
@@ -26,22 +25,14 @@ returns-clause-strode g c p begun made run =
     (sym c.stage.ensures) run))
 
 pub returns-clause-goes_on : goal.returns-clause-goes_on
-returns-clause-goes_on g c p begun made run keeps going =
+returns-clause-goes_on g c keeps going p begun made run =
     subst (StrodeBy g.L.Ahead.kind p begun (made + 1) c.store_ahead.new.seat.me)
     (g.met.C.RingCall.goes_on c.args.lane.now c.args.call c.args.state 0 keeps going)
     (returns-clause-strode g c p begun made run)
 
-pub returns-clause-seat : goal.returns-clause-seat
-returns-clause-seat g c =
-    let p = port_of c.args.seat.now.me in
-    let here = g.L.Ahead.kind.called (g.C.RingCall.stage c.args.call c.args.state) c.args.lane.now in
-    same_sizes p c.store_ahead.new.seat.me (g.L.Ahead.kind.after 0 here) c.args.sizes.now
-    (returns-clause-strode g c p here 0 (strode_none c.goes_ahead.ensures c.args.seat.now.me here c.requires.seat.0 c.requires.stands))
-    c.requires.seat.1
-
-pub returns-clause-stands : goal.returns-clause-stands
-returns-clause-stands g c keeps going =
-    let p = port_of c.args.seat.now.me in
-    let here = g.L.Ahead.kind.called (g.C.RingCall.stage c.args.call c.args.state) c.args.lane.now in
-    (returns-clause-goes_on g c p here 0 (strode_none c.goes_ahead.ensures c.args.seat.now.me here c.requires.seat.0 c.requires.stands)
-    keeps going).stands
+pub returns-clause-may : goal.returns-clause-may
+returns-clause-may g c keeps going =
+    stride_next c.goes_ahead.ensures c.args.words.now.table_id c.args.seat.now.table_id c.store_ahead.new.seat.table_id c.args.seat.now.me
+    c.store_ahead.new.seat.me c.args.sizes.now (g.L.Ahead.kind.called (g.C.RingCall.stage c.args.call c.args.state) c.args.lane.now)
+    (g.L.Ahead.kind.called (g.C.RingCall.stage c.args.call (g.S.End.takes c.args.state 0)) c.args.lane.now)
+    ((g.C.RingCall.ring c.args.call).cells) c.requires.may c.store_ahead.ensures.table.0 (returns-clause-goes_on g c keeps going)
