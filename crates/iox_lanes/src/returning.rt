@@ -18,8 +18,8 @@ use crate::into_domain_error::IntoDomainError;
 use iox_domain::Domain;
 use iox_domain_ports::{PublisherPort, Publishers};
 use iox_lanes_machine::{Lanes, Unrest};
-use iox_lanes_opening::leaving::restore;
 use iox_lanes_opening::leaving::words::middle_count;
+use iox_lanes_opening::leaving::{LeftPublisher, restore};
 use iox_lanes_parties::PublisherLane;
 use iox_queues_base::Words;
 
@@ -110,12 +110,15 @@ fn returned<T: Words, U: Words>(opened: DomainLanes<T, U>) -> Domain<T, U>
         return domain;
     }
     let readers = count(&subscribers);
-    restore_publishers(
-        &lanes,
+    let left = LeftLanes {
+        lanes: &lanes,
         numbered,
-        &publishers,
         readers,
-        &connections,
+        indices: &connections,
+    };
+    restore_publishers(
+        &left,
+        &publishers,
         &mut domain.state.ports.publishers,
         &mut one,
     );
@@ -145,85 +148,82 @@ fn has_words<T: Words, U: Words>(lanes: &Lanes, numbered: bool) -> bool
     true
 }
 
+// Lanes that go back, and the indices that their connections have in the domain, so many of each publisher. Where messages have numbers,
+// each has its own in its slot.
+#[derive(Clone, Copy)]
+struct LeftLanes<'a> {
+    lanes: &'a Lanes,
+    numbered: bool,
+    readers: usize,
+    indices: &'a [usize],
+}
+
 // The publishers with the messages that the lanes leave, where these lanes go with them.
 fn restore_publishers<T: Words, U: Words>(
-    lanes: &Lanes,
-    numbered: bool,
+    left: &LeftLanes<'_>,
     numbers: &[u64],
-    readers: usize,
-    indices: &[usize],
     publishers: &mut Publishers<T, U>,
     one: &mut Vec<T>,
 )
     requires room { 0 < vec_capacity one.old }
-    requires whole { IsWhole T.WORDS (middle_count numbered U.WORDS) lanes.now.table }
-    ensures { AllRest lanes.now → (places : ℕ) → IsJoined T.WORDS (middle_count numbered U.WORDS) places lanes.now publishers.old
-        numbers.now readers indices.now
-        → ArePortsLeft T.of_parts (middle_of numbered U.of_parts) lanes.now numbers.now readers indices.now publishers.old publishers.new }
+    requires whole { IsWhole T.WORDS (middle_count left.now.numbered U.WORDS) left.now.lanes.now.table }
+    ensures { AllRest left.now.lanes.now → (places : ℕ)
+        → IsJoined T.WORDS (middle_count left.now.numbered U.WORDS) places left.now.lanes.now publishers.old numbers.now left.now.readers
+        left.now.indices.now
+        → ArePortsLeft T.of_parts (middle_of left.now.numbered U.of_parts) left.now.lanes.now numbers.now left.now.readers
+        left.now.indices.now publishers.old publishers.new }
 {
     for place in 0..numbers.len() {
-        restore_publisher(
-            lanes,
-            numbered,
-            numbers[place],
-            place,
-            readers,
-            indices,
-            publishers,
-            one,
-        );
+        restore_publisher(left, numbers[place], place, publishers, one);
     }
 }
 
 // The publisher of a number, which is the one at a place of the lanes.
 fn restore_publisher<T: Words, U: Words>(
-    lanes: &Lanes,
-    numbered: bool,
+    left: &LeftLanes<'_>,
     number: u64,
     place: usize,
-    readers: usize,
-    indices: &[usize],
     publishers: &mut Publishers<T, U>,
     one: &mut Vec<T>,
 )
     requires room { 0 < vec_capacity one.old }
-    requires whole { IsWhole T.WORDS (middle_count numbered U.WORDS) lanes.now.table }
+    requires whole { IsWhole T.WORDS (middle_count left.now.numbered U.WORDS) left.now.lanes.now.table }
     ensures others { (other : ℕ) → (other ≡ number → ⊥) → port_of other publishers.new ≡ port_of other publishers.old }
-    ensures this { AllRest lanes.now → JoinsAt lanes.now (port_of number publishers.old) place readers indices.now
-        → IsPortLeftIf T.of_parts (middle_of numbered U.of_parts) lanes.now (place * readers) (row_of readers indices.now place)
-        (slice_get lanes.now.publishers place) (port_of number publishers.old) (port_of number publishers.new) }
+    ensures this { AllRest left.now.lanes.now
+        → JoinsAt left.now.lanes.now (port_of number publishers.old) place left.now.readers left.now.indices.now
+        → IsPortLeftIf T.of_parts (middle_of left.now.numbered U.of_parts) left.now.lanes.now (place * left.now.readers)
+        (row_of left.now.readers left.now.indices.now place) (slice_get left.now.lanes.now.publishers place)
+        (port_of number publishers.old) (port_of number publishers.new) }
     ensures room { vec_capacity one.new ≡ vec_capacity one.old }
 {
     if let Some(port) = publishers.get_mut(number) {
-        restore_port(lanes, numbered, place, readers, indices, port, one);
+        restore_port(left, place, port, one);
     }
 }
 
 // A publisher that is the one at a place of the lanes.
 fn restore_port<T: Words, U: Words>(
-    lanes: &Lanes,
-    numbered: bool,
+    left: &LeftLanes<'_>,
     place: usize,
-    readers: usize,
-    indices: &[usize],
     port: &mut PublisherPort<T, U>,
     one: &mut Vec<T>,
 )
     requires room { 0 < vec_capacity one.old }
-    requires whole { IsWhole T.WORDS (middle_count numbered U.WORDS) lanes.now.table }
-    ensures left { AllRest lanes.now → JoinsAt lanes.now (Some port.old) place readers indices.now
-        → IsPortLeftIf T.of_parts (middle_of numbered U.of_parts) lanes.now (place * readers) (row_of readers indices.now place)
-        (slice_get lanes.now.publishers place) (Some port.old) (Some port.new) }
+    requires whole { IsWhole T.WORDS (middle_count left.now.numbered U.WORDS) left.now.lanes.now.table }
+    ensures left { AllRest left.now.lanes.now → JoinsAt left.now.lanes.now (Some port.old) place left.now.readers left.now.indices.now
+        → IsPortLeftIf T.of_parts (middle_of left.now.numbered U.of_parts) left.now.lanes.now (place * left.now.readers)
+        (row_of left.now.readers left.now.indices.now place) (slice_get left.now.lanes.now.publishers place) (Some port.old)
+        (Some port.new) }
     ensures room { vec_capacity one.new ≡ vec_capacity one.old }
 {
-    lanes.are_of_one_service();
-    let Some(lane) = lane_at(lanes, place) else {
+    left.lanes.are_of_one_service();
+    let Some(lane) = lane_at(left.lanes, place) else {
         return;
     };
-    let Some((from, row)) = row_at(lanes, place, readers, indices) else {
+    let Some((from, row)) = row_at(left.lanes, place, left.readers, left.indices) else {
         return;
     };
-    restore_lane(lanes, numbered, from, row, lane, port, one);
+    restore_lane(left.lanes, left.numbered, from, row, lane, port, one);
 }
 
 // The lane at a place, if there is one.
@@ -273,16 +273,14 @@ fn restore_lane<T: Words, U: Words>(
         port.new.sender }
     ensures room { vec_capacity one.new ≡ vec_capacity one.old }
 {
-    let first = lane.first_slot();
-    let _rested = restore(
+    let source = LeftPublisher {
         lanes,
         numbered,
         from,
-        row,
-        first,
-        lane.history(),
-        &mut port.sender,
-        one,
-    );
+        indices: row,
+        first: lane.first_slot(),
+        history: lane.history(),
+    };
+    let _rested = restore(&source, &mut port.sender, one);
     port.last_sequence = lane.last_sequence();
 }

@@ -1,15 +1,15 @@
 -- The messages that lanes leave.
 use Rattle.std.proofs.Common.{◌≡◌, ◌-◌, ◌∷◌, [], ◌++◌, ℕ, zero, suc, Bool, true, false, nat_lt, if◌then◌else◌, List, length, get_or, refl}
-use Rattle.std.proofs.Common.{Option, ap, ◌∙◌}
+use Rattle.std.proofs.Common.{Option, None, Some, ◌+◌, set, sym, ap, ◌∙◌}
 use Rattle.std.specs.List.{All, list_any}
 use Rattle.std.proofs.Math.Dec.{eqb}
 use Rattle.std.proofs.lemmas.List.Elements.{All-nil, All-cons, All-head, All-tail, All-set, All-drop, All-push}
 use Rattle.iox_domain_ports.specs.DomainSlots.Waiting.{put, put_over}
-use Rattle.iox_domain_ports.specs.DomainSlots.Uses.{Uses, Connection, nobody, connection_at, with_connection, offered, newest}
+use Rattle.iox_domain_ports.specs.DomainSlots.Uses.{Uses, Connection, nobody, connection_at, with_connection, offered, newest, finished}
 use Rattle.iox_domain_ports.specs.Messages.{Message, Loan}
-use Rattle.iox_domain_ports.specs.MessagesSending.{IsIfInSlot, StandsAlone}
+use Rattle.iox_domain_ports.specs.MessagesSending.{SenderState, with_uses, IsIfInSlot, StandsAlone}
 use Rattle.iox_lanes_machine.specs.LanesBase.Table.{TableWords}
-use Rattle.iox_lanes_opening.specs.Leaving.{message_in}
+use Rattle.iox_lanes_opening.specs.Leaving.{message_in, user_header_in, elements_in, payload_in}
 use Rattle.iox_lanes_opening.specs.Restoring.{IsLeft, AreLeft}
 
 all_weak : {X : Type 0} (P Q : X → Type 0) → ((x : X) → P x → Q x) → (xs : List X) → All P xs → All Q xs
@@ -31,6 +31,11 @@ all_offered P overflows limit waiting message all this = at overflows (nat_lt (l
     at true false is = rw is (All-drop P 1 (waiting ++ message ∷ []) (All-push P waiting message all this))
     at false true is = rw is (All-push P waiting message all this)
     at false false is = rw is all
+
+-- a message of these parts
+abbrev message_with : {T U : Type 0} → ℕ → Option ℕ × U → ℕ → List T → Message T U
+message_with slot middle elements values
+    = record { slot = slot; sequence = middle.0; elements = elements; user_header = middle.1; values = values }
 
 module _ {T U : Type 0} (value_of : List ℕ → T) (header_of : List ℕ → Option ℕ × U) (table : TableWords) (first : ℕ) where
   left : Message T U → Type 0
@@ -93,3 +98,38 @@ module _ {T U : Type 0} (value_of : List ℕ → T) (header_of : List ℕ → Op
         (All-push (IsLeft value_of header_of table first) uses.history (message_in value_of header_of table first slot) are.history refl);
     connections = are.connections;
   }
+
+  -- the parts of a message are those that lie in its slot
+  pub is_message : (slot : ℕ) (middle : Option ℕ × U) (elements : ℕ) (values : List T)
+      → middle ≡ header_of (user_header_in table (first + slot)) → elements ≡ elements_in table (first + slot)
+      → values ≡ value_of (payload_in table (first + slot)) ∷ []
+      → message_with slot middle elements values ≡ message_in value_of header_of table first slot
+  is_message slot middle elements values between count are = λ i. message_with slot (between i) (count i) (are i)
+
+-- a publisher that sent a message again to a connection alone
+pub is_put : {T U : Type 0} (index : ℕ) (message : Message T U) (old begun mid done : SenderState T U) → old.uses.sending ≡ None
+    → begun ≡ with_uses (record old.uses { sending = Some message }) old
+    → ((m : Message T U) → begun.uses.sending ≡ Some m
+    → mid ≡ with_uses (with_connection index (offered begun.uses.overflows m (connection_at index begun.uses)) begun.uses) begun)
+    → done ≡ with_uses (finished mid.uses) mid
+    → done ≡ with_uses (with_connection index (offered old.uses.overflows message (connection_at index old.uses)) old.uses) old
+is_put index message old begun mid done idle starts puts ends =
+    ends ∙ ap (λ s. with_uses (finished s.uses) s) (puts message (ap (λ s. s.uses.sending) starts))
+    ∙ ap (λ s. with_uses (finished (with_connection index (offered s.uses.overflows message (connection_at index s.uses)) s.uses)) s) starts
+    ∙ ap (λ it. with_uses (record old.uses {
+      sending = it;
+      connections = set old.uses.connections index (offered old.uses.overflows message (connection_at index old.uses));
+    }) old) (sym idle)
+
+-- one that remembered it alone
+pub is_remembered : {T U : Type 0} (message : Message T U) (old begun mid done : SenderState T U) → old.uses.sending ≡ None
+    → begun ≡ with_uses (record old.uses { sending = Some message }) old
+    → ((m : Message T U) → begun.uses.sending ≡ Some m
+    → mid ≡ with_uses (record begun.uses { history = newest begun.uses.kept (begun.uses.history ++ m ∷ []) }) begun)
+    → done ≡ with_uses (finished mid.uses) mid
+    → done ≡ with_uses (record old.uses { history = newest old.uses.kept (old.uses.history ++ message ∷ []) }) old
+is_remembered message old begun mid done idle starts keeps ends =
+    ends ∙ ap (λ s. with_uses (finished s.uses) s) (keeps message (ap (λ s. s.uses.sending) starts))
+    ∙ ap (λ s. with_uses (finished (record s.uses { history = newest s.uses.kept (s.uses.history ++ message ∷ []) })) s) starts
+    ∙ ap (λ it. with_uses (record old.uses { sending = it; history = newest old.uses.kept (old.uses.history ++ message ∷ []) }) old)
+    (sym idle)

@@ -1,6 +1,6 @@
 -- Messages come back to a connection, one after the other.
 use Rattle.std.proofs.Common.{rules, arith, ◌≡◌, ◌+◌, ◌-◌, ◌<◌, ◌∷◌, [], ◌++◌, ℕ, zero, suc, Bool, true, false, nat_lt, if◌then◌else◌}
-use Rattle.std.proofs.Common.{List, length, map, take, get_or, slice_get, Option, Some, refl, sym, ap, ◌∙◌}
+use Rattle.std.proofs.Common.{List, length, map, take, get_or, slice_get, Option, None, Some, IfSome, refl, sym, ap, ◌∙◌}
 use Rattle.std.proofs.lemmas.List.{get_or-set_same, map-append, length-map, length-take-le, take_more}
 use Rattle.std.proofs.lemmas.Option.{get_or_from_slice_get}
 use Rattle.iox_domain_ports.specs.DomainSlots.Waiting.{put, put_over}
@@ -12,7 +12,7 @@ use Rattle.iox_lanes_machine.specs.LanesBase.Table.{TableWords}
 use Rattle.iox_lanes_machine.specs.Resting.{Rests, mail_at}
 use Rattle.iox_lanes_machine.specs.World.{World}
 use Rattle.iox_lanes_opening.specs.Leaving.{message_in}
-use Rattle.iox_lanes_opening.specs.Restoring.{AreLeft, IsOwn, IsQuiet, OnlyWaits, MayWaitAll, messages_in}
+use Rattle.iox_lanes_opening.specs.Restoring.{AreLeft, IsOwn, IsQuiet, MayBeSent, MayCome, OnlyWaits, MayWaitAll, messages_in}
 use Rattle.iox_lanes_opening.proofs.Waits.{waits_on, with_waiting}
 
 -- a message comes to a mailbox with room
@@ -33,6 +33,32 @@ quiet_still index old new only quiet = record {
   idle = ap (λ s. s.uses.sending) only ∙ quiet.idle;
   unlent = ap (λ s. s.uses.loans) only ∙ quiet.unlent;
   room = omega (arith, quiet.room, ap (λ s. s.room) only);
+}
+
+-- a slot of a publisher's own, where a connection goes on too
+pub own_and_live : (first slot : ℕ) (Own Live : Type 0) (own : Option ℕ) → IfSome own (λ it. (it ≡ slot - first) × Own) → Live
+    → IfSome own (λ it. (it ≡ slot - first) × Own × Live)
+own_and_live first slot Own Live None some live = tt
+own_and_live first slot Own Live (Some it) some live = (some.0, some.1, live)
+
+-- a message in a slot of a publisher's own may be sent again
+pub own_sent : {T U : Type 0} (value_of : List ℕ → T) (header_of : List ℕ → Option ℕ × U) (payload_words header_words : ℕ)
+    (table : TableWords) (first slot own places : ℕ) (sender : SenderState T U) → own ≡ slot - first
+    → IsOwn first slot table.sizes.slots sender.uses
+    → MayCome value_of header_of payload_words header_words table first places sender
+    → MayBeSent value_of header_of payload_words header_words table first own places sender
+own_sent value_of header_of payload_words header_words table first slot own places sender is stands come = record {
+  room = come.room;
+  whole = come.whole;
+  there = omega (arith, is, stands.there, stands.from);
+  stands = record {
+    idle = come.quiet.idle;
+    unlent = come.quiet.unlent;
+    first = omega (arith, is, stands.behind);
+    within = omega (arith, is, stands.within);
+    room = come.quiet.room;
+  };
+  left = come.left;
 }
 
 -- the message that lies in a slot of the lanes

@@ -21,4 +21,4 @@ pub mod restoring;
 pub mod words;
 
 pub use clearing::{forget_messages, is_rested};
-pub use restored::restore;
+pub use restored::{LeftPublisher, restore};

@@ -4,7 +4,7 @@ ghost use Rattle.std.specs.Bool.{OnTrue};
 ghost use Rattle.iox_domain_ports.specs.MessagesSending.{with_uses};
 ghost use Rattle.iox_domain_ports.specs.DomainSlots.Uses.{connection_at};
 ghost use Rattle.iox_lanes_opening.specs.Middles.{middle_of, middle_count};
-ghost use Rattle.iox_lanes_opening.specs.Restoring.{IsWhole, IsQuiet, AreLeft, OnlyWaits};
+ghost use Rattle.iox_lanes_opening.specs.Restoring.{IsWhole, AreLeft, MayCome, OnlyWaits};
 ghost use Rattle.iox_lanes_opening.specs.Restored.{IsRested, IsRestored, MayWaitAt, left_at, place_of, with_waiting};
 
 use crate::leaving::clearing::{forget_messages, is_rested};
@@ -13,104 +13,114 @@ use iox_domain_ports::messages::Sender;
 use iox_lanes_machine::Lanes;
 use iox_queues_base::Words;
 
+/// What lanes leave of a publisher.
+#[derive(Clone, Copy)]
+pub struct LeftPublisher<'a> {
+    /// The lanes.
+    pub lanes: &'a Lanes,
+    /// Whether messages have numbers: then each has its own in its slot.
+    pub numbered: bool,
+    /// The number of its first connection in the lanes.
+    pub from: u64,
+    /// The indices of its connections in the domain, in the order of the lanes.
+    pub indices: &'a [usize],
+    /// The number of its first slot in the lanes.
+    pub first: u64,
+    /// The slots of its history in the lanes, the oldest first.
+    pub history: &'a [u64],
+}
+
 /// A publisher of a domain gets all that lanes leave of it, in place of what waited at its connections and of its history: what
 /// waits at each connection of the lanes waits at the one of its index, and the slots of the lanes' history are its history, each
-/// message in its slot. The first connection of the lanes is `from`, and `indices` are those of the domain's; the slots begin at
-/// `first` in the lanes. Answers false where the publisher sends or lends something, where something is borrowed of a connection,
+/// message in its slot. Answers false where the publisher sends or lends something, where something is borrowed of a connection,
 /// or where a slot has no room for a value; then nothing has changed. `one` has room for one value, which is taken there; no
 /// memory is.
 pub fn restore<T: Words, U: Words>(
-    lanes: &Lanes,
-    numbered: bool,
-    from: u64,
-    indices: &[usize],
-    first: u64,
-    history: &[u64],
+    source: &LeftPublisher<'_>,
     sender: &mut Sender<T, U>,
     one: &mut Vec<T>,
 ) -> bool
     requires room { 0 < vec_capacity one.old }
-    requires connections { from + length indices.now ≤ length lanes.now.links }
-    requires whole { IsWhole T.WORDS (middle_count numbered U.WORDS) lanes.now.table }
+    requires connections { source.now.from + length source.now.indices.now ≤ length source.now.lanes.now.links }
+    requires whole { IsWhole T.WORDS (middle_count source.now.numbered U.WORDS) source.now.lanes.now.table }
     ensures same { result ≡ false → sender.new ≡ sender.old }
     ensures not { result ≡ false → IsRested sender.old → ⊥ }
     ensures rested { OnTrue result (IsRested sender.old) }
-    ensures restored { OnTrue result (IsRestored T.of_parts (middle_of numbered U.of_parts) lanes.now from indices.now first history.now
-        sender.old sender.new) }
+    ensures restored { OnTrue result (IsRestored T.of_parts (middle_of source.now.numbered U.of_parts) source.now.lanes.now
+        source.now.from source.now.indices.now source.now.first source.now.history.now sender.old sender.new) }
     ensures room { vec_capacity one.new ≡ vec_capacity one.old }
 {
     if !is_rested(sender) {
         return false;
     }
     forget_messages(sender);
-    restore_connections(lanes, numbered, from, indices, first, sender, one);
-    restore_history(lanes.table(), numbered, history, first, sender, one);
+    restore_connections(source, sender, one);
+    restore_history(
+        source.lanes.table(),
+        source.numbered,
+        source.history,
+        source.first,
+        sender,
+        one,
+    );
     true
 }
 
 // What the lanes leave at each connection of a publisher at which nothing waits.
 fn restore_connections<T: Words, U: Words>(
-    lanes: &Lanes,
-    numbered: bool,
-    from: u64,
-    indices: &[usize],
-    first: u64,
+    source: &LeftPublisher<'_>,
     sender: &mut Sender<T, U>,
     one: &mut Vec<T>,
 )
-    requires room { 0 < vec_capacity one.old }
-    requires connections { from + length indices.now ≤ length lanes.now.links }
-    requires whole { IsWhole T.WORDS (middle_count numbered U.WORDS) lanes.now.table }
-    requires quiet { IsQuiet sender.old }
-    requires left { AreLeft T.of_parts (middle_of numbered U.of_parts) lanes.now.table first sender.old.uses }
     requires empty { (index : ℕ) → (connection_at index sender.old.uses).waiting ≡ [] }
+    requires connections { source.now.from + length source.now.indices.now ≤ length source.now.lanes.now.links }
+    requires come { MayCome T.of_parts (middle_of source.now.numbered U.of_parts) T.WORDS (middle_count source.now.numbered U.WORDS)
+        source.now.lanes.now.table source.now.first (vec_capacity one.old) sender.old }
     ensures rest { sender.new ≡ with_uses (record sender.old.uses { connections = sender.new.uses.connections }) sender.old }
     ensures count { length sender.new.uses.connections ≡ length sender.old.uses.connections }
     ensures each { (index : ℕ) → connection_at index sender.new.uses
         ≡ with_waiting (connection_at index sender.old.uses) (connection_at index sender.new.uses).waiting }
-    ensures waits { (index : ℕ) → MayWaitAt lanes.now from first index sender.old (place_of index indices.now)
-        → (connection_at index sender.new.uses).waiting ≡ left_at T.of_parts (middle_of numbered U.of_parts) lanes.now from first
-        (place_of index indices.now) }
-    ensures left { AreLeft T.of_parts (middle_of numbered U.of_parts) lanes.now.table first sender.new.uses }
+    ensures waits { (index : ℕ) → MayWaitAt source.now.lanes.now source.now.from source.now.first index sender.old
+        (place_of index source.now.indices.now)
+        → (connection_at index sender.new.uses).waiting ≡ left_at T.of_parts (middle_of source.now.numbered U.of_parts)
+        source.now.lanes.now source.now.from source.now.first (place_of index source.now.indices.now) }
+    ensures left { AreLeft T.of_parts (middle_of source.now.numbered U.of_parts) source.now.lanes.now.table source.now.first
+        sender.new.uses }
     ensures room { vec_capacity one.new ≡ vec_capacity one.old }
 {
     for index in 0..sender.indices() {
-        restore_at(lanes, numbered, from, indices, first, index, sender, one);
+        restore_at(source, index, sender, one);
     }
 }
 
 // What the lanes leave at the connection of an index, at which nothing waits.
 fn restore_at<T: Words, U: Words>(
-    lanes: &Lanes,
-    numbered: bool,
-    from: u64,
-    indices: &[usize],
-    first: u64,
+    source: &LeftPublisher<'_>,
     index: usize,
     sender: &mut Sender<T, U>,
     one: &mut Vec<T>,
 )
-    requires room { 0 < vec_capacity one.old }
-    requires connections { from + length indices.now ≤ length lanes.now.links }
-    requires whole { IsWhole T.WORDS (middle_count numbered U.WORDS) lanes.now.table }
-    requires quiet { IsQuiet sender.old }
-    requires left { AreLeft T.of_parts (middle_of numbered U.of_parts) lanes.now.table first sender.old.uses }
     requires empty { (connection_at index sender.old.uses).waiting ≡ [] }
-    ensures waits { MayWaitAt lanes.now from first index sender.old (place_of index indices.now)
-        → (connection_at index sender.new.uses).waiting ≡ left_at T.of_parts (middle_of numbered U.of_parts) lanes.now from first
-        (place_of index indices.now) }
+    requires connections { source.now.from + length source.now.indices.now ≤ length source.now.lanes.now.links }
+    requires come { MayCome T.of_parts (middle_of source.now.numbered U.of_parts) T.WORDS (middle_count source.now.numbered U.WORDS)
+        source.now.lanes.now.table source.now.first (vec_capacity one.old) sender.old }
+    ensures waits { MayWaitAt source.now.lanes.now source.now.from source.now.first index sender.old
+        (place_of index source.now.indices.now)
+        → (connection_at index sender.new.uses).waiting ≡ left_at T.of_parts (middle_of source.now.numbered U.of_parts)
+        source.now.lanes.now source.now.from source.now.first (place_of index source.now.indices.now) }
     ensures rest { OnlyWaits index sender.old sender.new }
-    ensures left { AreLeft T.of_parts (middle_of numbered U.of_parts) lanes.now.table first sender.new.uses }
+    ensures left { AreLeft T.of_parts (middle_of source.now.numbered U.of_parts) source.now.lanes.now.table source.now.first
+        sender.new.uses }
     ensures room { vec_capacity one.new ≡ vec_capacity one.old }
 {
     // The number of a connection is below how many there are, and that has 64 bits.
-    let _links = lanes.links().len();
-    if let Some(place) = place_of(indices, index) {
+    let _links = source.lanes.links().len();
+    if let Some(place) = place_of(source.indices, index) {
         restore_waiting(
-            lanes,
-            numbered,
-            from + place as u64,
-            first,
+            source.lanes,
+            source.numbered,
+            source.from + place as u64,
+            source.first,
             index,
             sender,
             one,

@@ -4,7 +4,7 @@ ghost use Rattle.iox_domain_ports.specs.MessagesSending.{with_uses};
 ghost use Rattle.iox_domain_ports.specs.DomainSlots.declared.stage.Stage.TheVariants as stage;
 ghost use Rattle.iox_domain_ports.specs.DomainSlots.Uses.{connection_at, with_connection, offered, newest};
 ghost use Rattle.iox_lanes_machine.specs.LanesBase.Numbers.{words_of};
-ghost use Rattle.iox_lanes_opening.specs.Leaving.{message_in};
+ghost use Rattle.iox_lanes_opening.specs.Leaving.{message_in, payload_in};
 ghost use Rattle.iox_lanes_opening.specs.Middles.{middle_of, middle_count};
 ghost use Rattle.iox_lanes_opening.specs.Restoring.{IsOwn, AreLeft, MayBeSent, MayCome, OnlyWaits, OnlyRemembers, MayWaitAll};
 ghost use Rattle.iox_lanes_opening.specs.Restoring.{MayRememberAll, messages_in};
@@ -17,129 +17,114 @@ use iox_lanes_base::words::WordTable;
 use iox_lanes_machine::Lanes;
 use iox_queues_base::Words;
 
-// The message that lies in a slot of the lanes is sent again, in the same slot of the publisher, whose slots begin at `first` in
-// the lanes. `one` has room for one value, which is taken there.
-fn begin<T: Words, U: Words>(
-    table: &WordTable,
+// The slots of a publisher in lanes: they begin at `first` there. Where messages have numbers, each has its own in its slot.
+#[derive(Clone, Copy)]
+struct LeftSlots<'a> {
+    table: &'a WordTable,
     numbered: bool,
     first: u64,
+}
+
+// The value in a slot comes to a place with room for one.
+fn take_payload<T: Words>(table: &WordTable, slot: u64, one: &mut Vec<T>)
+    requires room { 0 < vec_capacity one.old }
+    requires slot { slot < table.now.sizes.slots }
+    requires full { length table.now.words ≡ words_of table.now.sizes }
+    requires words { table.now.sizes.payload_words ≡ T.WORDS }
+    ensures taken { one.new.items ≡ T.of_parts (payload_in table.now slot) ∷ [] }
+    ensures room { vec_capacity one.new ≡ vec_capacity one.old }
+{
+    one.clear();
+    one.push_reserved(payload(table, slot));
+}
+
+// The message that lies in a slot of the lanes is sent again, in the same slot of the publisher. `one` has room for one value, which
+// is taken there.
+fn begin<T: Words, U: Words>(
+    slots: &LeftSlots<'_>,
     slot: usize,
     sender: &mut Sender<T, U>,
     one: &mut Vec<T>,
 )
-    requires { MayBeSent T.of_parts (middle_of numbered U.of_parts) T.WORDS (middle_count numbered U.WORDS) table.now first slot
-        (vec_capacity one.old) sender.old }
-    ensures sent { sender.new ≡ with_uses
-        (record sender.old.uses { sending = Some (message_in T.of_parts (middle_of numbered U.of_parts) table.now first slot) })
+    requires { MayBeSent T.of_parts (middle_of slots.now.numbered U.of_parts) T.WORDS (middle_count slots.now.numbered U.WORDS)
+        slots.now.table.now slots.now.first slot (vec_capacity one.old) sender.old }
+    ensures sent { sender.new ≡ with_uses (record sender.old.uses {
+      sending = Some (message_in T.of_parts (middle_of slots.now.numbered U.of_parts) slots.now.table.now slots.now.first slot);
+    })
         sender.old }
     ensures room { vec_capacity one.new ≡ vec_capacity one.old }
 {
     // Slots are so few that their numbers have 64 bits.
-    let _slots = table.sizes().slots;
-    let at = first + slot as u64;
-    one.clear();
-    one.push_reserved(payload(table, at));
-    let between: (Option<u64>, U) = middle(table, at, numbered);
-    sender.begin_again(slot, between.0, elements(table, at), between.1, one);
-}
-
-// It waits at the connection of an index, behind those that wait there.
-fn put<T: Words, U: Words>(
-    table: &WordTable,
-    numbered: bool,
-    first: u64,
-    slot: usize,
-    index: usize,
-    sender: &mut Sender<T, U>,
-    one: &mut Vec<T>,
-)
-    requires sent { MayBeSent T.of_parts (middle_of numbered U.of_parts) T.WORDS (middle_count numbered U.WORDS) table.now first slot
-        (vec_capacity one.old) sender.old }
-    requires live { (connection_at index sender.old.uses).stage ≡ stage.Live }
-    ensures put { sender.new ≡ with_uses
-        (with_connection index (offered sender.old.uses.overflows
-        (message_in T.of_parts (middle_of numbered U.of_parts) table.now first slot)
-        (connection_at index sender.old.uses)) sender.old.uses) sender.old }
-    ensures left { AreLeft T.of_parts (middle_of numbered U.of_parts) table.now first sender.new.uses }
-    ensures room { vec_capacity one.new ≡ vec_capacity one.old }
-{
-    begin(table, numbered, first, slot, sender, one);
-    let _room = sender.offer(index);
-    sender.finish_send();
-}
-
-// It is the newest of the history.
-fn remember<T: Words, U: Words>(
-    table: &WordTable,
-    numbered: bool,
-    first: u64,
-    slot: usize,
-    sender: &mut Sender<T, U>,
-    one: &mut Vec<T>,
-)
-    requires { MayBeSent T.of_parts (middle_of numbered U.of_parts) T.WORDS (middle_count numbered U.WORDS) table.now first slot
-        (vec_capacity one.old) sender.old }
-    ensures remembered { sender.new
-        ≡ with_uses (record sender.old.uses {
-          history = newest sender.old.uses.kept (sender.old.uses.history ++ message_in T.of_parts (middle_of numbered U.of_parts)
-              table.now first slot ∷ []);
-        })
-        sender.old }
-    ensures left { AreLeft T.of_parts (middle_of numbered U.of_parts) table.now first sender.new.uses }
-    ensures room { vec_capacity one.new ≡ vec_capacity one.old }
-{
-    begin(table, numbered, first, slot, sender, one);
-    sender.remember();
-    sender.finish_send();
+    let _slots = slots.table.sizes().slots;
+    let at = slots.first + slot as u64;
+    take_payload(slots.table, at, one);
+    let between: (Option<u64>, U) = middle(slots.table, at, slots.numbered);
+    sender.begin_again(slot, between.0, elements(slots.table, at), between.1, one);
 }
 
 // The slot of the publisher that a slot of the lanes is, if it is one of its current segment.
 fn own_slot<T: Copy, U: Copy>(
-    table: &WordTable,
-    first: u64,
+    slots: &LeftSlots<'_>,
     slot: u64,
     sender: &Sender<T, U>,
 ) -> Option<usize>
-    ensures some { IfSome result (λ own. (own ≡ slot - first) × IsOwn first slot table.now.sizes.slots sender.now.uses) }
-    ensures none { result ≡ None → IsOwn first slot table.now.sizes.slots sender.now.uses → ⊥ }
+    ensures some { IfSome result (λ own. (own ≡ slot - slots.now.first)
+        × IsOwn slots.now.first slot slots.now.table.now.sizes.slots sender.now.uses) }
+    ensures none { result ≡ None → IsOwn slots.now.first slot slots.now.table.now.sizes.slots sender.now.uses → ⊥ }
 {
-    if slot < first || slot >= table.sizes().slots {
+    if slot < slots.first || slot >= slots.table.sizes().slots {
         return None;
     }
-    let own = (slot - first) as usize;
+    let own = (slot - slots.first) as usize;
     if own < sender.first() || own - sender.first() >= sender.slots() {
         return None;
     }
     Some(own)
 }
 
-// The same of a slot of the lanes that may be none of the publisher's, and of a connection that may not go on: then nothing happens.
+// The same, if the connection of an index goes on.
+fn live_slot<T: Copy, U: Copy>(
+    slots: &LeftSlots<'_>,
+    slot: u64,
+    index: usize,
+    sender: &Sender<T, U>,
+) -> Option<usize>
+    ensures some { IfSome result (λ own. (own ≡ slot - slots.now.first) × IsOwn slots.now.first slot slots.now.table.now.sizes.slots
+        sender.now.uses × ((connection_at index sender.now.uses).stage ≡ stage.Live)) }
+    ensures none { result ≡ None → IsOwn slots.now.first slot slots.now.table.now.sizes.slots sender.now.uses
+        → (connection_at index sender.now.uses).stage ≡ stage.Live → ⊥ }
+{
+    match sender.stage(index) {
+        Stage::Live => own_slot(slots, slot, sender),
+        Stage::Vacant | Stage::Ended => None,
+    }
+}
+
+// The message that lies in a slot of the lanes waits at the connection of an index, behind those that wait there. Nothing happens where
+// the slot is none of the publisher's, or the connection doesn't go on.
 fn put_own<T: Words, U: Words>(
-    table: &WordTable,
-    numbered: bool,
-    first: u64,
+    slots: &LeftSlots<'_>,
     slot: u64,
     index: usize,
     sender: &mut Sender<T, U>,
     one: &mut Vec<T>,
 )
-    requires { MayCome T.of_parts (middle_of numbered U.of_parts) T.WORDS (middle_count numbered U.WORDS) table.now first
-        (vec_capacity one.old) sender.old }
-    ensures put { IsOwn first slot table.now.sizes.slots sender.old.uses → (connection_at index sender.old.uses).stage ≡ stage.Live
-        → sender.new ≡ with_uses
+    requires { MayCome T.of_parts (middle_of slots.now.numbered U.of_parts) T.WORDS (middle_count slots.now.numbered U.WORDS)
+        slots.now.table.now slots.now.first (vec_capacity one.old) sender.old }
+    ensures put { IsOwn slots.now.first slot slots.now.table.now.sizes.slots sender.old.uses
+        → (connection_at index sender.old.uses).stage ≡ stage.Live → sender.new ≡ with_uses
         (with_connection index
-        (offered sender.old.uses.overflows (message_in T.of_parts (middle_of numbered U.of_parts) table.now first (slot - first))
+        (offered sender.old.uses.overflows (message_in T.of_parts (middle_of slots.now.numbered U.of_parts) slots.now.table.now
+        slots.now.first (slot - slots.now.first))
         (connection_at index sender.old.uses)) sender.old.uses) sender.old }
     ensures rest { OnlyWaits index sender.old sender.new }
-    ensures left { AreLeft T.of_parts (middle_of numbered U.of_parts) table.now first sender.new.uses }
+    ensures left { AreLeft T.of_parts (middle_of slots.now.numbered U.of_parts) slots.now.table.now slots.now.first sender.new.uses }
     ensures room { vec_capacity one.new ≡ vec_capacity one.old }
 {
-    let Some(own) = own_slot(table, first, slot, sender) else {
-        return;
-    };
-    match sender.stage(index) {
-        Stage::Live => put(table, numbered, first, own, index, sender, one),
-        Stage::Vacant | Stage::Ended => {}
+    if let Some(own) = live_slot(slots, slot, index, sender) {
+        begin(slots, own, sender, one);
+        sender.offer(index);
+        sender.finish_send();
     }
 }
 
@@ -166,35 +151,41 @@ pub fn restore_waiting<T: Words, U: Words>(
     ensures left { AreLeft T.of_parts (middle_of numbered U.of_parts) lanes.now.table first sender.new.uses }
     ensures room { vec_capacity one.new ≡ vec_capacity one.old }
 {
+    let slots = LeftSlots {
+        table: lanes.table(),
+        numbered,
+        first,
+    };
     for at in 0..lanes.waiting(connection) {
         let slot = lanes.waiting_slot(connection, at);
-        put_own(lanes.table(), numbered, first, slot, index, sender, one);
+        put_own(&slots, slot, index, sender, one);
     }
 }
 
-// The same as `remember` of a slot of the lanes that may be none of the publisher's: then nothing happens.
+// The message that lies in a slot of the lanes is the newest of the history. Nothing happens where the slot is none of the publisher's.
 fn remember_own<T: Words, U: Words>(
-    table: &WordTable,
-    numbered: bool,
-    first: u64,
+    slots: &LeftSlots<'_>,
     slot: u64,
     sender: &mut Sender<T, U>,
     one: &mut Vec<T>,
 )
-    requires { MayCome T.of_parts (middle_of numbered U.of_parts) T.WORDS (middle_count numbered U.WORDS) table.now first
-        (vec_capacity one.old) sender.old }
-    ensures remembered { IsOwn first slot table.now.sizes.slots sender.old.uses
+    requires { MayCome T.of_parts (middle_of slots.now.numbered U.of_parts) T.WORDS (middle_count slots.now.numbered U.WORDS)
+        slots.now.table.now slots.now.first (vec_capacity one.old) sender.old }
+    ensures remembered { IsOwn slots.now.first slot slots.now.table.now.sizes.slots sender.old.uses
         → sender.new ≡ with_uses
         (record sender.old.uses {
           history = newest sender.old.uses.kept
-              (sender.old.uses.history ++ message_in T.of_parts (middle_of numbered U.of_parts) table.now first (slot - first) ∷ []);
+              (sender.old.uses.history ++ message_in T.of_parts (middle_of slots.now.numbered U.of_parts) slots.now.table.now
+              slots.now.first (slot - slots.now.first) ∷ []);
         }) sender.old }
     ensures rest { OnlyRemembers sender.old sender.new }
-    ensures left { AreLeft T.of_parts (middle_of numbered U.of_parts) table.now first sender.new.uses }
+    ensures left { AreLeft T.of_parts (middle_of slots.now.numbered U.of_parts) slots.now.table.now slots.now.first sender.new.uses }
     ensures room { vec_capacity one.new ≡ vec_capacity one.old }
 {
-    if let Some(own) = own_slot(table, first, slot, sender) {
-        remember(table, numbered, first, own, sender, one);
+    if let Some(own) = own_slot(slots, slot, sender) {
+        begin(slots, own, sender, one);
+        sender.remember();
+        sender.finish_send();
     }
 }
 
@@ -217,7 +208,12 @@ pub fn restore_history<T: Words, U: Words>(
     ensures left { AreLeft T.of_parts (middle_of numbered U.of_parts) table.now first sender.new.uses }
     ensures room { vec_capacity one.new ≡ vec_capacity one.old }
 {
+    let slots = LeftSlots {
+        table,
+        numbered,
+        first,
+    };
     for at in 0..history.len() {
-        remember_own(table, numbered, first, history[at], sender, one);
+        remember_own(&slots, history[at], sender, one);
     }
 }

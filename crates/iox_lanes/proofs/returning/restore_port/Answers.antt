@@ -7,13 +7,15 @@ use Rattle.iox_lanes.proofs.returning.restore_port.Goals as goal
 
 pub returns-clause-left : goal.returns-clause-left
 returns-clause-left g c = λ rest joins.
-    let found : slice_get c.args.lanes.now.publishers c.args.place ≡ Some c.in-Some.lane.now
+    let found : slice_get c.args.left.now.lanes.now.publishers c.args.place ≡ Some c.in-Some.lane.now
     = sym c.lane_at.ensures ∙ ap option_copied c.in-Some.is in
-    subst (λ lane. IsPortLeftIf g.T.Words.of_parts (middle_of c.args.numbered g.U.Words.of_parts) c.args.lanes.now
-    (c.args.place * c.args.readers)
-    (row_of c.args.readers c.args.indices.now c.args.place) lane (Some c.args.port.now) (Some c.restore_lane.new.port)) (sym found)
-    (port_left g.T.Words.of_parts (middle_of c.args.numbered g.U.Words.of_parts) c.args.lanes.now c.args.place c.args.readers
-    c.args.indices.now c.in-Some.lane.now
+    subst (λ lane. IsPortLeftIf g.T.Words.of_parts (middle_of c.args.left.now.numbered g.U.Words.of_parts) c.args.left.now.lanes.now
+    (c.args.place * c.args.left.now.readers)
+    (row_of c.args.left.now.readers c.args.left.now.indices.now c.args.place) lane (Some c.args.port.now) (Some c.restore_lane.new.port))
+    (sym found)
+    (port_left g.T.Words.of_parts
+    (middle_of c.args.left.now.numbered g.U.Words.of_parts) c.args.left.now.lanes.now c.args.place c.args.left.now.readers
+    c.args.left.now.indices.now c.in-Some.lane.now
     c.args.port.now c.restore_lane.new.port
     (record {
       within = c.are_of_one_service.ensures.within;

@@ -17,14 +17,16 @@ pub returns-in-Some-clause-this : goal.returns-in-Some-clause-this
 returns-in-Some-clause-this g c = λ rest joins.
     let there : port_of c.args.number c.args.publishers.now ≡ Some c.in-Some.port.now
     = sym c.get_mut.ensures.value ∙ ap option_copied_mut c.in-Some.is in
-    subst (λ old. IsPortLeftIf g.T.Words.of_parts (middle_of c.args.numbered g.U.Words.of_parts) c.args.lanes.now
-    (c.args.place * c.args.readers)
-    (row_of c.args.readers c.args.indices.now c.args.place) (slice_get c.args.lanes.now.publishers c.args.place) old
+    subst (λ old. IsPortLeftIf g.T.Words.of_parts (middle_of c.args.left.now.numbered g.U.Words.of_parts) c.args.left.now.lanes.now
+    (c.args.place * c.args.left.now.readers)
+    (row_of c.args.left.now.readers c.args.left.now.indices.now c.args.place)
+    (slice_get c.args.left.now.lanes.now.publishers c.args.place) old
     (port_of c.args.number (with_port c.args.number c.args.publishers.now c.restore_port.new.port))) (sym there)
-    (subst (λ new. IsPortLeftIf g.T.Words.of_parts (middle_of c.args.numbered g.U.Words.of_parts) c.args.lanes.now
-    (c.args.place * c.args.readers)
-    (row_of c.args.readers c.args.indices.now c.args.place) (slice_get c.args.lanes.now.publishers c.args.place)
+    (subst (λ new. IsPortLeftIf g.T.Words.of_parts (middle_of c.args.left.now.numbered g.U.Words.of_parts) c.args.left.now.lanes.now
+    (c.args.place * c.args.left.now.readers)
+    (row_of c.args.left.now.readers c.args.left.now.indices.now c.args.place) (slice_get c.args.left.now.lanes.now.publishers c.args.place)
     (Some c.in-Some.port.now) new)
     (sym (put_there c.args.number c.args.publishers.now c.in-Some.port.now c.restore_port.new.port there))
-    (c.restore_port.ensures.left rest (subst (λ port. JoinsAt c.args.lanes.now port c.args.place c.args.readers c.args.indices.now)
+    (c.restore_port.ensures.left rest (subst
+    (λ port. JoinsAt c.args.left.now.lanes.now port c.args.place c.args.left.now.readers c.args.left.now.indices.now)
     there joins)))

@@ -5,9 +5,9 @@ use Rattle.iox_lanes.proofs.returning.restore_publishers.Goals as goal
 
 pub loop-place-init : goal.loop-place-init
 loop-place-init g c = (
-  λ rest places joined. none_left g.T.Words.of_parts (middle_of c.args.numbered g.U.Words.of_parts) g.T.Words.WORDS
-      (middle_count c.args.numbered g.U.Words.WORDS) places c.args.lanes.now
-      c.args.numbers.now c.args.readers c.args.indices.now c.args.publishers.now joined,
+  λ rest places joined. none_left g.T.Words.of_parts (middle_of c.args.left.now.numbered g.U.Words.of_parts) g.T.Words.WORDS
+      (middle_count c.args.left.now.numbered g.U.Words.WORDS) places c.args.left.now.lanes.now
+      c.args.numbers.now c.args.left.now.readers c.args.left.now.indices.now c.args.publishers.now joined,
   refl,
 )
 
@@ -16,16 +16,16 @@ restore_publisher-requires g c = record { room = omega (arith, c.requires.room, 
 
 pub loop-place-preserved : goal.loop-place-preserved
 loop-place-preserved g c = (
-  λ rest places joined. one_left g.T.Words.of_parts (middle_of c.args.numbered g.U.Words.of_parts) g.T.Words.WORDS
-      (middle_count c.args.numbered g.U.Words.WORDS) places c.args.lanes.now
-      c.args.numbers.now c.args.readers c.args.indices.now c.args.publishers.now joined
+  λ rest places joined. one_left g.T.Words.of_parts (middle_of c.args.left.now.numbered g.U.Words.of_parts) g.T.Words.WORDS
+      (middle_count c.args.left.now.numbered g.U.Words.WORDS) places c.args.left.now.lanes.now
+      c.args.numbers.now c.args.left.now.readers c.args.left.now.indices.now c.args.publishers.now joined
       c.loop-place.publishers c.restore_publisher.new.publishers c.loop-place.place c.loop-place-test.true
       (c.loop-place.invariant.0 rest places joined) c.restore_publisher.ensures.others (c.restore_publisher.ensures.this rest),
   c.restore_publisher.ensures.room ∙ c.loop-place.invariant.1,
 )
 
 pub returns : goal.returns
-returns g c = λ rest places joined. all_left g.T.Words.of_parts (middle_of c.args.numbered g.U.Words.of_parts) g.T.Words.WORDS
-    (middle_count c.args.numbered g.U.Words.WORDS) places
-    c.args.lanes.now c.args.numbers.now c.args.readers c.args.indices.now c.args.publishers.now joined
+returns g c = λ rest places joined. all_left g.T.Words.of_parts (middle_of c.args.left.now.numbered g.U.Words.of_parts) g.T.Words.WORDS
+    (middle_count c.args.left.now.numbered g.U.Words.WORDS) places
+    c.args.left.now.lanes.now c.args.numbers.now c.args.left.now.readers c.args.left.now.indices.now c.args.publishers.now joined
     c.loop-place.publishers c.loop-place.place c.loop-place-test.false (c.loop-place.invariant.0 rest places joined)

@@ -6,8 +6,10 @@ use Rattle.iox_lanes.proofs.JoinedLanes.{LeftSoFar}
 use Rattle.iox_lanes.proofs.returning.restore_publishers.Given as goal
 
 abbrev pub invariant-loop-place : goal.invariant-loop-place
-invariant-loop-place g l = (AllRest l.lanes → (places : ℕ)
-    → IsJoined g.T.Words.WORDS (middle_count l.numbered g.U.Words.WORDS) places l.lanes l.fn.publishers l.numbers l.fn.readers l.indices
-    → LeftSoFar g.T.Words.of_parts (middle_of l.numbered g.U.Words.of_parts) l.lanes l.numbers l.fn.readers l.indices l.fn.publishers
+invariant-loop-place g l = (AllRest l.left.lanes.now → (places : ℕ)
+    → IsJoined g.T.Words.WORDS
+    (middle_count l.left.numbered g.U.Words.WORDS) places l.left.lanes.now l.fn.publishers l.numbers l.left.readers l.left.indices.now
+    → LeftSoFar g.T.Words.of_parts
+    (middle_of l.left.numbered g.U.Words.of_parts) l.left.lanes.now l.numbers l.left.readers l.left.indices.now l.fn.publishers
     l.publishers l.place)
     × (vec_capacity l.one ≡ vec_capacity l.fn.one)

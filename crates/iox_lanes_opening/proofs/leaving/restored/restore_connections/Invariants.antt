@@ -4,6 +4,5 @@ use Rattle.iox_lanes_opening.proofs.Filling.{Filling}
 use Rattle.iox_lanes_opening.proofs.leaving.restored.restore_connections.Given as goal
 
 abbrev pub invariant-loop-index : goal.invariant-loop-index
-invariant-loop-index g l = Filling g.T.Words.of_parts (middle_of l.numbered g.U.Words.of_parts) l.lanes l.fn.from l.indices l.fn.first
-    l.fn.sender l.sender
-    l.index × (vec_capacity l.one ≡ vec_capacity l.fn.one)
+invariant-loop-index g l = Filling g.T.Words.of_parts (middle_of l.source.numbered g.U.Words.of_parts) l.source.lanes.now l.source.from
+    l.source.indices.now l.source.first l.fn.sender l.sender l.index × (vec_capacity l.one ≡ vec_capacity l.fn.one)

@@ -1,26 +1,47 @@
-use Rattle.std.proofs.Common.{rules, ◌≡◌, ◌+◌, ◌∷◌, [], ap, sym, subst}
+use Rattle.std.proofs.Common.{◌≡◌, ◌+◌, ◌∷◌, [], length, Some, ap, sym, subst, ◌∙◌, arith}
 use Rattle.iox_domain_ports.specs.Messages.{Message}
-use Rattle.iox_domain_ports.specs.MessagesSending.{StandsAlone}
-use Rattle.iox_lanes_opening.specs.Leaving.{message_in, payload_in}
+use Rattle.iox_domain_ports.specs.MessagesSending.{StandsAlone, with_uses}
+use Rattle.iox_lanes_opening.specs.Leaving.{payload_in}
 use Rattle.iox_lanes_opening.specs.Middles.{middle_of}
-use Rattle.iox_lanes_opening.proofs.Left.{left_alone}
+use Rattle.iox_lanes_opening.proofs.Left.{left_alone, is_message}
 use Rattle.iox_lanes_opening.proofs.leaving.restoring.begin.Goals as goal
 
-pub begin_again-requires-clause-only : goal.begin_again-requires-clause-only
-begin_again-requires-clause-only g c =
-    let values : c.deref.result.now ≡ g.T.Words.of_parts (payload_in c.args.table.now (c.args.first + c.args.slot)) ∷ [] =
-    search (rules, c.deref.ensures.value, c.push_reserved.ensures.items, c.clear.ensures.items, c.payload.ensures) in
-    let same : (record {
-      slot = c.args.slot;
-      sequence = c.middle-between.result.0;
-      elements = c.elements.result;
-      user_header = c.middle-between.result.1;
-      values
-          = c.deref.result.now;
-    })
-    ≡ message_in g.T.Words.of_parts (middle_of c.args.numbered g.U.Words.of_parts) c.args.table.now c.args.first c.args.slot
-    = cc (c.elements.ensures, ap (λ it. it.0) c.middle-between.ensures, ap (λ it. it.1) c.middle-between.ensures, values) in
-    subst (λ (m : Message g.row.T.Denot g.row.U.Denot). StandsAlone m c.args.sender.now.uses) (sym same)
-    (left_alone g.T.Words.of_parts (middle_of c.args.numbered g.U.Words.of_parts) c.args.table.now c.args.first c.args.sender.now.uses
-    c.args.slot
-    c.requires.stands.unlent c.requires.left)
+pub take_payload-requires : goal.take_payload-requires
+take_payload-requires g c = record {
+  room = c.requires.room;
+  slot = c.requires.there;
+  full = c.requires.whole.full;
+  words = c.requires.whole.payload;
+}
+
+pub middle-between-requires : goal.middle-between-requires
+middle-between-requires g c = record {
+  slot = c.requires.there;
+  full = c.requires.whole.full;
+  words = c.requires.whole.user_header;
+}
+
+pub begin_again-requires : goal.begin_again-requires
+begin_again-requires g c =
+    let values : c.deref.result.now ≡ g.T.Words.of_parts (payload_in c.args.slots.now.table.now (c.args.slots.now.first + c.args.slot)) ∷ []
+    = c.deref.ensures.value ∙ c.take_payload.ensures.taken in
+    let one = ap length values in
+    record {
+      alone = c.requires.stands.idle;
+      first = c.requires.stands.first;
+      within = c.requires.stands.within;
+      room = omega (arith, one, c.requires.stands.room);
+      only = subst (λ (m : Message g.row.T.Denot g.row.U.Denot). StandsAlone m c.args.sender.now.uses)
+          (sym (is_message g.T.Words.of_parts (middle_of c.args.slots.now.numbered g.U.Words.of_parts) c.args.slots.now.table.now
+          c.args.slots.now.first c.args.slot c.middle-between.result c.elements.result c.deref.result.now c.middle-between.ensures
+          c.elements.ensures values))
+          (left_alone g.T.Words.of_parts (middle_of c.args.slots.now.numbered g.U.Words.of_parts) c.args.slots.now.table.now
+          c.args.slots.now.first c.args.sender.now.uses c.args.slot c.requires.stands.unlent c.requires.left);
+    }
+
+pub returns-clause-sent : goal.returns-clause-sent
+returns-clause-sent g c = c.begin_again.ensures
+    ∙ ap (λ (m : Message g.row.T.Denot g.row.U.Denot). with_uses (record c.args.sender.now.uses { sending = Some m }) c.args.sender.now)
+    (is_message g.T.Words.of_parts (middle_of c.args.slots.now.numbered g.U.Words.of_parts) c.args.slots.now.table.now
+    c.args.slots.now.first c.args.slot c.middle-between.result c.elements.result c.deref.result.now c.middle-between.ensures
+    c.elements.ensures (c.deref.ensures.value ∙ c.take_payload.ensures.taken))

@@ -4,6 +4,6 @@ use Rattle.iox_lanes_opening.proofs.Returning.{Returning}
 use Rattle.iox_lanes_opening.proofs.leaving.restoring.restore_waiting.Given as goal
 
 abbrev pub invariant-loop-at : goal.invariant-loop-at
-invariant-loop-at g l = Returning g.T.Words.of_parts (middle_of l.numbered g.U.Words.of_parts) l.lanes l.fn.connection l.fn.first
+invariant-loop-at g l = Returning g.T.Words.of_parts (middle_of l.fn.numbered g.U.Words.of_parts) l.lanes l.fn.connection l.fn.first
     l.fn.index l.fn.sender
     l.sender l.at × (vec_capacity l.one ≡ vec_capacity l.fn.one)
