@@ -32,6 +32,7 @@ pub mod HaveNumbers
 pub mod PublisherCourses
 pub mod SubscriberCourses
 pub mod Takes
+pub mod FinishedReceives
 pub mod Payloads
 pub mod Missing
 pub mod SequenceRuns

@@ -50,7 +50,7 @@ use Rattle.iox_lanes_machine.proofs.LanesParties.Rings.{and_left, and_right}
 use Rattle.iox_lanes_machine.specs.Apart.{access_of, publisher_access}
 use Rattle.iox_lanes_machine.specs.Paces.{after_entry, led}
 use Rattle.iox_lanes_machine.specs.Sends.{is_sender}
-use Rattle.iox_lanes_machine.specs.World.{World, ends, fits, happens, publisher_begins, publisher_ends_at, publisher_fits_at}
+use Rattle.iox_lanes_machine.specs.World.{World, fits, happens, publisher_begins, publisher_ends_at, publisher_fits_at}
 use Rattle.iox_lanes_machine.specs.World.{publisher_given, publisher_stage}
 use Rattle.iox_lanes_machine.proofs.Ends.{some_is}
 use Rattle.iox_lanes_machine.proofs.Paces.{begun_first, later, one_more, turn}

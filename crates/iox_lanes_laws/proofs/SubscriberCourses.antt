@@ -48,7 +48,7 @@ use Rattle.iox_lanes_machine.proofs.LanesParties.Rings.{and_right}
 use Rattle.iox_lanes_machine.specs.Apart.{access_of, subscriber_access}
 use Rattle.iox_lanes_machine.specs.Paces.{after_entry, led}
 use Rattle.iox_lanes_machine.specs.Receipts.{is_receiver}
-use Rattle.iox_lanes_machine.specs.World.{World, ends, fits, happens, placed, publisher_begins, publisher_goes_on, subscriber_begins}
+use Rattle.iox_lanes_machine.specs.World.{World, fits, happens, placed, publisher_begins, publisher_goes_on, subscriber_begins}
 use Rattle.iox_lanes_machine.specs.World.{subscriber_ends_at, subscriber_fits_at, subscriber_given, subscriber_goes_on}
 use Rattle.iox_lanes_machine.proofs.Ends.{some_is}
 use Rattle.iox_lanes_machine.proofs.Paces.{later, one_more}

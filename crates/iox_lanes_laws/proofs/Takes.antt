@@ -12,7 +12,6 @@ use Rattle.iox_queues_steps.specs.declared.access.Access.TheVariants as own
 use Rattle.iox_queues_steps.specs.declared.order.PopAnswer.{PopAnswer}
 use Rattle.iox_queues_steps.specs.declared.order.PopAnswer.TheVariants.{Got, Saw}
 use Rattle.iox_queues_steps.specs.declared.rings.ends.RingKind.{RingKind}
-use Rattle.iox_queues_steps.specs.declared.rings.ends.RingKind.TheVariants as kind
 use Rattle.iox_queues_steps.specs.declared.rings.ends.Push.{Push}
 use Rattle.iox_queues_steps.specs.declared.rings.ends.Pop.{Pop}
 use Rattle.iox_queues_steps.specs.declared.rings.ends.Pop.TheVariants as pop
@@ -31,7 +30,8 @@ use Rattle.iox_lanes_base.specs.declared.calls.subscriber.SubscriberCall.TheVari
 use Rattle.iox_lanes_machine.proofs.QueuesSteps.EitherRing.{pop_goes}
 use Rattle.iox_lanes_machine.specs.LanesParties.Keeping as keeping
 use Rattle.iox_lanes_machine.specs.LanesParties.Keeping.{SubscriberState}
-use Rattle.iox_lanes_machine.specs.LanesParties.Parties.{SubscriberLaneState, subscriber_may, subscriber_begun, subscriber_after}
+use Rattle.iox_lanes_machine.specs.LanesParties.Parties.{SubscriberLaneState, subscriber_may, subscriber_fits, subscriber_begun}
+use Rattle.iox_lanes_machine.specs.LanesParties.Parties.{subscriber_after}
 use Rattle.iox_lanes_machine.specs.LanesParties.Within.{IsSubscriber, IsSubscribing}
 use Rattle.iox_lanes_machine.specs.LanesParties.declared.call.Call.TheVariants as call
 use Rattle.iox_lanes_machine.specs.LanesParties.declared.call.Entry.{Entry}
@@ -45,6 +45,7 @@ use Rattle.iox_lanes_machine.specs.Links.{LinkState}
 use Rattle.iox_lanes_machine.specs.Paces.{after_entry, led}
 use Rattle.iox_lanes_machine.specs.Receipts.{is_receiver}
 use Rattle.iox_lanes_machine.specs.Rings.{push_on, ring_in, waiting}
+use Rattle.iox_lanes_machine.specs.WholeReads.{CameTo}
 use Rattle.iox_lanes_machine.specs.World.{World, fits, happens, pop_acts, pops_from, publisher_stage, push_at, sender_stage}
 use Rattle.iox_lanes_machine.specs.World.{subscriber_begins, subscriber_fits_at, subscriber_given, subscriber_stage}
 use Rattle.iox_lanes_machine.proofs.Ends.{pop_here, some_is}
@@ -55,6 +56,7 @@ use Rattle.iox_lanes_machine.proofs.Paces.{came_kept, later, one_more}
 use Rattle.iox_lanes_machine.proofs.Steps.{happens_moments}
 use Rattle.iox_lanes_machine.proofs.Whole.{happens_keeps}
 use Rattle.iox_lanes_machine.proofs.Within.{changed_routes, set_same}
+use Rattle.iox_lanes_laws.specs.Accesses.{IsInSubscriberCall}
 use Rattle.iox_lanes_laws.specs.Takes.{PlacedTake, placed_takes, takes_on, step_takes, own_takes, Took, Visits, ReceivesTakeInOrder}
 use Rattle.iox_lanes_laws.proofs.Pops.{first_looks}
 use Rattle.iox_lanes_laws.proofs.SubscriberCourses.{Goes, begun_first, begun_goes, goes_on, staged, turn}
@@ -536,25 +538,31 @@ all_taking place first start w takes (entry ∷ entries) small few p =
     subst (Taking place first start (led w (entry ∷ entries)))
     (append_assoc takes t (own_takes (λ party. is_receiver party place) (after_entry b w entry) entries)) rest
 
-pub receives_take_in_order : ReceivesTakeInOrder
-receives_take_in_order m came place lane entries is =
+-- what a receive that is under way took
+pub receive_takes : (m : World) → CameTo m → (place : ℕ) (lane : SubscriberLaneState) (entries : List Entry)
+    → slice_get m.subscribers place ≡ Some lane → subscriber_fits lane (Begin call.Receive) ≡ true → length lane.port.routes < 2 ^ 64 - 1
+    → (led (happens m (Subscriber place) (Begin call.Receive)) entries).moments ≤ 2 ^ 63
+    → (inside : IsInSubscriberCall (led (happens m (Subscriber place) (Begin call.Receive)) entries) place m.moments)
+    → Visits lane.port.borrowed lane.port.most_borrowed 0 false lane.port.routes
+    (own_takes (λ party. is_receiver party place) (happens m (Subscriber place) (Begin call.Receive)) entries) inside.lane.port.call
+receive_takes m came place lane entries found may connections few inside =
     let fit : fits m (Subscriber place) (Begin call.Receive) ≡ true
-    = ap (λ (at : Option SubscriberLaneState). subscriber_fits_at at (Begin call.Receive)) is.found ∙ is.may in
+    = ap (λ (at : Option SubscriberLaneState). subscriber_fits_at at (Begin call.Receive)) found ∙ may in
     let next = happens_moments m (Subscriber place) (Begin call.Receive) fit in
-    let after = later (happens m (Subscriber place) (Begin call.Receive)) entries is.few in
-    let bound : m.moments < 2 ^ 63 = omega (arith, next, after, is.few) in
+    let after = later (happens m (Subscriber place) (Begin call.Receive)) entries few in
+    let bound : m.moments < 2 ^ 63 = omega (arith, next, after, few) in
     let begun : SubscriberLaneState = subscriber_begun m.moments call.Receive lane in
     let there : slice_get (happens m (Subscriber place) (Begin call.Receive)).subscribers place ≡ Some begun =
-    ap (λ (at : Option SubscriberLaneState). slice_get (subscriber_begins m place call.Receive at).subscribers place) is.found ∙
-    set_same m.subscribers place begun lane is.found in
-    let end = all_taking place m.moments lane.port (happens m (Subscriber place) (Begin call.Receive)) [] entries is.connections is.few
+    ap (λ (at : Option SubscriberLaneState). slice_get (subscriber_begins m place call.Receive at).subscribers place) found ∙
+    set_same m.subscribers place begun lane found in
+    let end = all_taking place m.moments lane.port (happens m (Subscriber place) (Begin call.Receive)) [] entries connections few
     (record {
       kept = happens_keeps m (Subscriber place) (Begin call.Receive) fit (came_kept m came).0;
       past = omega (arith, next, one_more m.moments bound);
-      on = λ other found since busy.
+      on = λ other there_now since busy.
           subst (λ (x : SubscriberLaneState). Goes x.port.call × IsTaking lane.port x.port x.port.call [])
-          (some_is _ other (sym there ∙ found)) (
-            begun_goes m.moments call.Receive lane is.may,
+          (some_is _ other (sym there ∙ there_now)) (
+            begun_goes m.moments call.Receive lane may,
             (
               from_borrows lane.port lane.port 0 (is_full_at lane.port.borrowed lane.port.most_borrowed 0) false
                   (slice_get lane.port.routes 0) (refl, refl, refl),
@@ -562,4 +570,8 @@ receives_take_in_order m came place lane entries is =
             ),
           );
     }) in
-    ((end.on is.inside.lane is.inside.found is.inside.since is.inside.busy).1).1
+    ((end.on inside.lane inside.found inside.since inside.busy).1).1
+
+pub receives_take_in_order : ReceivesTakeInOrder
+receives_take_in_order m came place lane entries is =
+    receive_takes m came place lane entries is.found is.may is.connections is.few is.inside

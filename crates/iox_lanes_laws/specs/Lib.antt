@@ -16,5 +16,6 @@ pub mod RecordedRuns
 pub mod HaveNumbers
 pub mod Accesses
 pub mod Takes
+pub mod FinishedReceives
 pub mod Payloads
 pub mod Sequences

@@ -1,5 +1,5 @@
 -- What a receive took at its connections, in any run of lanes.
-use Rattle.std.specs.Prelude.{ℕ, ◌≡◌, ◌+◌, ◌^◌, ◌&&◌, ◌||◌, Bool, true, false, if◌then◌else◌, List, [], ◌∷◌, ◌++◌, Option, Some, None}
+use Rattle.std.specs.Prelude.{ℕ, ◌≡◌, ◌+◌, ◌&&◌, ◌||◌, Bool, true, false, if◌then◌else◌, List, [], ◌∷◌, ◌++◌, Option, Some, None}
 use Rattle.iox_queues_steps.specs.Order.{take_values}
 use Rattle.iox_queues_steps.specs.Ends.{pop_looks}
 use Rattle.iox_queues_steps.specs.declared.order.PopAnswer.{PopAnswer}

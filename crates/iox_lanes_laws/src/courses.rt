@@ -9,6 +9,7 @@
 
 ghost use Rattle.iox_lanes_laws.specs.Accesses.{PublishersKeepCourse, PublishersEndAtOnce, SubscribersKeepCourse, SubscribersEndAtOnce};
 ghost use Rattle.iox_lanes_laws.specs.Accesses.{ReleasesEndSoon};
+ghost use Rattle.iox_lanes_laws.specs.FinishedReceives.{FinishedReceivesFollow};
 ghost use Rattle.iox_lanes_laws.specs.Takes.{ReceivesTakeInOrder};
 
 /// A publisher's call makes just the accesses of its course, by what each was answered, whoever steps between them. It ends right
@@ -35,4 +36,10 @@ pub fn releases_end_soon()
 /// look saw a message, else `Nothing`.
 pub fn receives_take_in_order()
     ensures { ReceivesTakeInOrder }
+{}
+
+/// So did each receive that ended, wherever steps brought the lanes: the call that `finished` lists began at its first moment, took or
+/// looked so by its own steps since, and answered by these takes at its last moment. So it is as long as at most 2^63 steps were made.
+pub fn finished_receives_follow()
+    ensures { FinishedReceivesFollow }
 {}
