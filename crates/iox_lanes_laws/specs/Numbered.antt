@@ -12,6 +12,7 @@ use Rattle.iox_lanes_machine.specs.LanesParties.Parties.{PublisherLaneState}
 use Rattle.iox_lanes_machine.specs.Held.{slot_held}
 use Rattle.iox_lanes_machine.specs.World.{World}
 use Rattle.iox_lanes_laws.specs.Messages.{MessageState}
+use Rattle.iox_lanes_laws.specs.declared.messages.placed_message.PlacedMessage.{PlacedMessage}
 
 -- what is found in a slot of a publisher that has so many uses: where it has any, a message with the words that the slot holds
 abbrev pub found_in : World → ℕ → ℕ → ℕ → List MessageState
@@ -66,6 +67,10 @@ number_in messages (Some slot) moment = last_number messages slot moment (length
 abbrev pub number_of_placed : List MessageState → Option Placed → Option ℕ
 number_of_placed messages None = None
 number_of_placed messages (Some placed) = number_in messages (acted_slot placed.act) placed.moment
+
+-- an entry of an order, with the number of the message that it puts or takes
+abbrev pub with_number : List MessageState → Placed → PlacedMessage
+with_number messages placed = record { placed = placed; number = number_of_placed messages (Some placed) }
 
 -- the number of the last message that was sent in a slot by a moment; 0 where none was
 abbrev pub number_by : List MessageState → ℕ → ℕ → ℕ

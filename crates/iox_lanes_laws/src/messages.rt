@@ -6,6 +6,7 @@
 //! let mut lanes = RecordedLanes::new(alloc, lanes);
 //! lanes.step(Party::Publisher(0), &Move::Begin(Call::Send { loan }));
 //! let sent = lanes.message(0);
+//! let put = lanes.order_at(connection, 0);
 //! ```
 //!
 //! Each law is the contract of a function that does nothing. A proof cites a law by a call of its function, which does nothing;
@@ -17,6 +18,7 @@
 //! ```
 
 pub mod message;
+pub mod placed_message;
 pub mod recorded;
 
 ghost use Rattle.iox_lanes_laws.specs.HaveNumbers.{OrdersHaveNumbers};
@@ -26,6 +28,7 @@ ghost use Rattle.iox_lanes_laws.specs.RecordedRuns.{RecordsRunLanes};
 ghost use Rattle.iox_lanes_laws.specs.WholeMessages.{ReadsGiveWhatWasSent, UsedSlotsSendNothing};
 
 pub use message::Message;
+pub use placed_message::PlacedMessage;
 pub use recorded::RecordedLanes;
 
 /// From where nobody is inside a call, whatever steps follow and wherever parties stop: a read gives just the words of the last

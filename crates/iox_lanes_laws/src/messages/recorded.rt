@@ -1,16 +1,18 @@
 //! Lanes that keep the messages which are sent on them.
 ghost use Rattle.std.specs.Prelude.{◌≡◌, ◌<◌, ◌==◌, [], ◌∷◌, Some, slice_get, option_copied, option_to_list, IfOk, OnErr, true, length};
-ghost use Rattle.std.specs.Prelude.{if◌then◌else◌, ◌++◌, ◌+◌, ◌≤◌, IfErr, IfSome, OnOk, drop, get_or, take};
+ghost use Rattle.std.specs.Prelude.{option_map, if◌then◌else◌, ◌++◌, ◌+◌, ◌≤◌, IfErr, IfSome, OnOk, drop, get_or, take};
 ghost use Rattle.iox_lanes_machine.specs.LanesParties.Values.{AreValues};
 ghost use Rattle.iox_lanes_machine.specs.LanesBase.Numbers.{words_of};
 ghost use Rattle.iox_lanes_laws.specs.Recorded.{AreAsHeld, ArePast};
 ghost use Rattle.iox_lanes_laws.specs.Numbered.{acted_slot, found_first, found_in, found_messages, found_of, last_number, number_of_placed};
+ghost use Rattle.iox_lanes_laws.specs.Numbered.{with_number};
 
 use crate::messages::message::Message;
-use iox_lanes_machine::Lanes;
-use iox_lanes_parties::{Call, Entry, Move, Party, PublisherLane, values_in};
+use crate::messages::placed_message::PlacedMessage;
+use iox_lanes_machine::{Lanes, Positions};
+use iox_lanes_parties::{Call, Entry, FinishedCall, Move, Party, PublisherLane, values_in};
 use iox_queues_base::Words;
-use iox_queues_steps::{Act, PopAnswer, Stepped};
+use iox_queues_steps::{Act, Placed, PopAnswer, Stepped};
 use std::alloc::{AllocError, Global};
 use std::marker::Model;
 
@@ -42,7 +44,9 @@ impl RecordedLanes {
     ghost use Rattle.iox_lanes_machine.specs.Held.{ReadsWhole};
     ghost use Rattle.iox_lanes_machine.specs.Left.{StoresLeft};
     ghost use Rattle.iox_lanes_machine.specs.Loans.{LoansLent};
-    ghost use Rattle.iox_lanes_machine.specs.Mailboxes.{OrdersFollow};
+    ghost use Rattle.iox_lanes_machine.specs.Arrivals.{OrderArrives};
+    ghost use Rattle.iox_lanes_machine.specs.Mailboxes.{OrderFollows, OrdersFollow, PositionsNear, positions_of};
+    ghost use Rattle.iox_lanes_machine.specs.Returns.{ReturnsNear};
     ghost use Rattle.iox_lanes_machine.specs.Queues.{GivenBackInTurn};
     ghost use Rattle.iox_lanes_machine.specs.Reads.{ReadsLie};
     ghost use Rattle.iox_lanes_machine.specs.Receipts.{ReceiptsFollow};
@@ -257,6 +261,48 @@ impl RecordedLanes {
         let placed = self.lanes.order(connection).get(at)?;
         let slot = acted_slot(placed.act)?;
         last_number(&self.messages, slot, placed.moment)
+    }
+
+    /// An entry of a connection's order, with the number of its message, as `number` tells it. None where there are fewer.
+    pub fn order_at(&self, connection: u64, at: usize) -> Option<PlacedMessage>
+        ensures { result ≡ option_map (with_number self.now.messages) (slice_get (get_or self.now.lanes.orders connection []) at) }
+    {
+        let placed = *self.lanes.order(connection).get(at)?;
+        Some(PlacedMessage {
+            placed,
+            number: self.number(connection, at),
+        })
+    }
+
+    /// The puts, takes and looks of a connection, and what holds of them, as `Lanes::order`.
+    pub fn order(&self, connection: u64) -> &[Placed]
+        ensures value { result.now ≡ get_or self.now.lanes.orders connection [] }
+        ensures follows { OrderFollows self.now.lanes connection result.now }
+        ensures arrives { OrderArrives self.now.lanes connection result.now }
+    {
+        self.lanes.order(connection)
+    }
+
+    /// The four positions of a connection, and what holds of them, as `Lanes::position`.
+    pub fn position(&self, connection: u64) -> Positions
+        requires { connection < length self.now.lanes.links }
+        ensures value { result ≡ positions_of self.now.lanes.table connection }
+        ensures near { PositionsNear self.now.lanes connection result }
+        ensures back { ReturnsNear self.now.lanes result }
+    {
+        self.lanes.position(connection)
+    }
+
+    /// The calls that ended, in their order, and what holds of them, as `Lanes::finished`.
+    pub fn finished(&self) -> &[FinishedCall]
+        ensures value { result.now ≡ self.now.lanes.finished }
+        ensures receipts { ReceiptsFollow self.now.lanes }
+        ensures sends { SendsFollow self.now.lanes }
+        ensures calls { CallsKeepTime self.now.lanes }
+        ensures reads { ReadsLie self.now.lanes }
+        ensures releases { ReleasesFollow self.now.lanes }
+    {
+        self.lanes.finished()
     }
 
     /// The user header and the value that a read gave whose words begin there among those that were read. None where fewer words were
