@@ -70,6 +70,7 @@ mod CauseLaws
 mod Told
 mod Nodes
 mod Places
+mod Sized
 mod Taken
 mod RefusedCalls
 mod Walks

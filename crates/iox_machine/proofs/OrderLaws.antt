@@ -22,7 +22,7 @@ use Rattle.iox_machine.proofs.Order.{IsUnder, MayCome}
 use Rattle.iox_machine.proofs.OrderCommands.{step-ordered}
 use Rattle.iox_machine.proofs.OrderSteps.{noted, Lacks, Fits, IsOfOne, IsOrdered, has_it}
 use Rattle.iox_machine.proofs.Parts.{Once}
-use Rattle.iox_machine.proofs.Runs.{AnyMessage, AreSound, Numbered, all-found, runs-numbered}
+use Rattle.iox_machine.proofs.Runs.{AnyMessage, AnyOptions, AreSound, Numbered, all-found, runs-numbered}
 use Rattle.iox_machine.proofs.Sound.{Sound, SampleFits}
 use Rattle.iox_command.specs.NegotiateBase.DescribeBase.declared.message_type.MessageTypeDetails.{MessageTypeDetails}
 use Rattle.iox_command.specs.NegotiateBase.DescribeSettings.declared.static_config.publish_subscribe.StaticConfig.{StaticConfig}
@@ -128,10 +128,10 @@ module _ {T : Type 0} (p s : ℕ) where
     pub fresh-numbers : (state : State T) → AreSound AnyMessage (Numbered types choices buffer state) state
         → AllByRecursion (λ (other : Service T). at (state.made.samples + 1) other.samples ≡ None) state.services
     fresh-numbers state sound =
-        all-weaker (Sound AnyMessage (Numbered types choices buffer state))
+        all-weaker (Sound AnyMessage (Numbered types choices buffer state) AnyOptions)
         (λ (other : Service T). at (state.made.samples + 1) other.samples ≡ None)
         (λ service fits. none-above service.samples state.made.samples (state.made.samples + 1) refl
-        (all-weaker (λ (entry : ℕ × Sample T). SampleFits AnyMessage (Numbered types choices buffer state) entry.0 entry.1)
+        (all-weaker (λ (entry : ℕ × Sample T). SampleFits AnyMessage (Numbered types choices buffer state) AnyOptions entry.0 entry.1)
         (λ (entry : ℕ × Sample T). entry.0 ≤ state.made.samples) (λ entry it. it.0) service.samples fits.3))
         state.services sound
 

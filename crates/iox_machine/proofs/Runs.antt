@@ -1,5 +1,5 @@
 -- What holds of every run.
-use Rattle.std.proofs.Common.{◌≡◌, ◌⊎◌, ◌≤◌, ◌+◌, ℕ, Bool, true, false, cond, List, [], ◌∷◌, length, Option, None, Some, refl, sym, ap}
+use Rattle.std.proofs.Common.{◌≡◌, ◌⊎◌, ◌≤◌, ◌+◌, ℕ, Bool, true, false, cond, List, [], ◌∷◌, Option, None, Some, refl, sym, ap}
 use Rattle.std.proofs.Common.{subst, inl, inr, arith, ◌∙◌}
 use Rattle.std.specs.Global.{Vec}
 use Rattle.std.specs.List.{AllByRecursion}
@@ -10,21 +10,21 @@ use Rattle.iox_machine.specs.Message.{Message, Sample}
 use Rattle.iox_machine.specs.Ports.{subscriber_in}
 use Rattle.iox_machine.specs.Receiving.{Receives, has_samples}
 use Rattle.iox_machine.specs.Run.{Step, Runs}
-use Rattle.iox_machine.specs.RunLaws.{AllMessages, BeginsToSend, Began, IsWithinSizes, SizesAreAgreed, MessagesWereSent, SamplesReadTheSame}
+use Rattle.iox_machine.specs.RunLaws.{AllMessages, BeginsToSend, Began, MessagesWereSent, SamplesReadTheSame}
 use Rattle.iox_machine.specs.Service.{Service, Publisher, Subscriber, Send, mailbox}
 use Rattle.iox_machine.specs.State.{State, Made, new_state, counted}
 use Rattle.iox_machine.specs.SubscriberUpdate as subscribing
 use Rattle.iox_machine.specs.Table.{at}
 use Rattle.iox_machine.proofs.Cases.{same-some, never-some, chosen}
-use Rattle.iox_machine.proofs.Lists.{all-both, all-weaker, all-at, first-of}
+use Rattle.iox_machine.proofs.Lists.{all-weaker, all-at, first-of}
 use Rattle.iox_machine.proofs.Moving.{at-one}
-use Rattle.iox_machine.proofs.Places.{Placed, listed-few, runs-placed}
 use Rattle.iox_machine.proofs.Sound.{BoxFits, PublisherFits, SampleFits, Sound, box-fits, subscriber-fits, subscriber-updates}
 use Rattle.iox_machine.proofs.Steps.{step-sound}
 use Rattle.iox_command.specs.DomainValues.declared.port_error.ReceiveError.TheVariants as receive_error
 use Rattle.iox_command.specs.NegotiateBase.DescribeBase.declared.message_type.MessageTypeDetails.{MessageTypeDetails}
 use Rattle.iox_command.specs.declared.command.Command.{Command}
 use Rattle.iox_command.specs.declared.command.Command.TheVariants as command
+use Rattle.iox_command.specs.declared.port.PublisherOptions.{PublisherOptions}
 use Rattle.iox_command.specs.declared.refusal.Refusal.{Refusal}
 use Rattle.iox_command.specs.declared.refusal.Refusal.TheVariants as refusal
 use Rattle.iox_command.specs.declared.reply.Reply.{Reply}
@@ -55,6 +55,10 @@ samples-rise (reply.Values values) made = omega arith
 samples-rise (reply.Has may) made = omega arith
 samples-rise reply.Skipped made = omega arith
 samples-rise (reply.Refused why) made = omega arith
+
+-- whatever is named for a publisher
+abbrev pub AnyOptions : ℕ → PublisherOptions → Type 0
+AnyOptions number options = ⊤
 
 module _ {T : Type 0} where
   abbrev pub values_in : Reply T → Vec T → Vec T
@@ -93,44 +97,45 @@ module _ {T : Type 0} where
   weaker-sound : (Good Other : ℕ → Message T → Type 0) (Fine Next : ℕ → Sample T → Type 0)
       → ((publisher : ℕ) (message : Message T) → Good publisher message → Other publisher message)
       → ((number : ℕ) (sample : Sample T) → Fine number sample → Next number sample)
-      → (service : Service T) → Sound Good Fine service → Sound Other Next service
+      → (service : Service T) → Sound Good Fine AnyOptions service → Sound Other Next AnyOptions service
   weaker-sound Good Other Fine Next on next service sound = (
     (λ publisher subscriber box e.
-        let fits : BoxFits Good Fine publisher service.settings box = sound.0 publisher subscriber box e in (
+        let fits : BoxFits Good Fine AnyOptions publisher service.settings box = sound.0 publisher subscriber box e in (
           fits.0,
           fits.1,
           fits.2,
           all-weaker (Good publisher) (Other publisher) (on publisher) box.waiting fits.3,
           all-weaker (Good publisher) (Other publisher) (on publisher) box.borrowed fits.4,
         )),
-    all-weaker (λ (entry : ℕ × Publisher T). PublisherFits Good Fine service.settings entry.0 entry.1)
-        (λ (entry : ℕ × Publisher T). PublisherFits Other Next service.settings entry.0 entry.1)
+    all-weaker (λ (entry : ℕ × Publisher T). PublisherFits Good Fine AnyOptions service.settings entry.0 entry.1)
+        (λ (entry : ℕ × Publisher T). PublisherFits Other Next AnyOptions service.settings entry.0 entry.1)
         (λ entry fits. (
           fits.0,
           all-weaker (Good entry.0) (Other entry.0) (on entry.0) entry.1.history fits.1,
           weaker-send (Good entry.0) (Other entry.0) (on entry.0) entry.1.blocked fits.2,
+          fits.3,
         ))
         service.publishers sound.1,
     sound.2,
-    all-weaker (λ (entry : ℕ × Sample T). SampleFits Good Fine entry.0 entry.1)
-        (λ (entry : ℕ × Sample T). SampleFits Other Next entry.0 entry.1)
+    all-weaker (λ (entry : ℕ × Sample T). SampleFits Good Fine AnyOptions entry.0 entry.1)
+        (λ (entry : ℕ × Sample T). SampleFits Other Next AnyOptions entry.0 entry.1)
         (λ entry fits. (next entry.0 entry.1 fits.0, on entry.1.publisher entry.1.message fits.1)) service.samples sound.3,
   )
 
   abbrev pub AreSound : (ℕ → Message T → Type 0) → (ℕ → Sample T → Type 0) → State T → Type 0
-  AreSound Good Fine state = AllByRecursion (Sound Good Fine) state.services
+  AreSound Good Fine state = AllByRecursion (Sound Good Fine AnyOptions) state.services
 
   all-weaker-sound : (Good Other : ℕ → Message T → Type 0) (Fine Next : ℕ → Sample T → Type 0)
       → ((publisher : ℕ) (message : Message T) → Good publisher message → Other publisher message)
       → ((number : ℕ) (sample : Sample T) → Fine number sample → Next number sample)
       → (state : State T) → AreSound Good Fine state → AreSound Other Next state
   all-weaker-sound Good Other Fine Next on next state all =
-      all-weaker (Sound Good Fine) (Sound Other Next) (weaker-sound Good Other Fine Next on next) state.services all
+      all-weaker (Sound Good Fine AnyOptions) (Sound Other Next AnyOptions) (weaker-sound Good Other Fine Next on next) state.services all
 
   abbrev pub AnyMessage : ℕ → Message T → Type 0
   AnyMessage publisher message = ⊤
 
-  abbrev AnySample : ℕ → Sample T → Type 0
+  abbrev pub AnySample : ℕ → Sample T → Type 0
   AnySample number sample = ⊤
 
   module _ (types : MessageTypeDetails) (choices : Choices T) (buffer : ℕ) where
@@ -147,8 +152,8 @@ module _ {T : Type 0} where
     runs-sized [] old answers new run all = subst (AreSound AnyMessage AnySample) (sym run.1) all
     runs-sized (one ∷ more) old answers new run all =
         runs-sized more run.1 run.2 new run.4
-        (step-sound AnyMessage AnySample types choices buffer one old run.0 run.1 (λ publisher message b. tt)
-        (λ sample values told same. tt) run.3 all).0
+        (step-sound AnyMessage AnySample AnyOptions types choices buffer one old run.0 run.1 (λ publisher message b. tt)
+        (λ sample values told same. tt) (λ number options came. tt) run.3 all).0
 
     -- ---- what was sent
 
@@ -167,8 +172,8 @@ module _ {T : Type 0} where
         let before : AreSound Next AnySample old =
         all-weaker-sound Good Next AnySample AnySample (λ publisher message good. inl good) (λ number sample fine. fine) old all in
         let mid : AreSound Next AnySample run.1 =
-        (step-sound Next AnySample types choices buffer one old run.0 run.1 (λ publisher message begins. inr begins)
-        (λ sample values told same. tt)
+        (step-sound Next AnySample AnyOptions types choices buffer one old run.0 run.1 (λ publisher message begins. inr begins)
+        (λ sample values told same. tt) (λ number options came. tt)
         run.3 before).0 in
         all-weaker-sound
         (λ publisher message. Next publisher message ⊎ Began types choices buffer publisher message.values more run.1 run.2 new run.4)
@@ -202,7 +207,7 @@ module _ {T : Type 0} where
 
     receives-good : (Good : ℕ → Message T → Type 0) (Fine : ℕ → Sample T → Type 0) (number next : ℕ) (subscriber : Subscriber)
         (old : Service T)
-        (sample : ℕ) (values : Vec T) (new : Service T) → Sound Good Fine old
+        (sample : ℕ) (values : Vec T) (new : Service T) → Sound Good Fine AnyOptions old
         → Receives number next subscriber old (reply.Received sample values) new → IsTaken Good next sample values
     receives-good Good Fine number next subscriber old sample values new sound (None, is, (told, came)) =
         never-received sample values (has_samples number subscriber old) (refusal.Receive receive_error.ExceedsMaxBorrows) told
@@ -210,7 +215,7 @@ module _ {T : Type 0} where
         (Some publisher, is, (message, found, first, same, told, came)) = (
           publisher,
           message,
-          first-of (Good publisher) (mailbox publisher number old).waiting message first (box-fits Good Fine publisher number old sound).3,
+          first-of (Good publisher) (mailbox publisher number old).waiting message first (box-fits Good Fine AnyOptions publisher number old sound).3,
           ap (λ (answer : Reply T). vec_items (values_in answer values)) told ∙ same,
           ap number_in told,
         )
@@ -224,20 +229,20 @@ module _ {T : Type 0} where
         (subscribing.UpdatesFirst choices buffer subscriber (λ failure. refusal.Receive (receive_error.ConnectionFailure failure))
         (Receives subscriber (old.made.samples + 1))) old (reply.Received sample values) new h) [
           | inl w ↦ never-told (reply.Received sample values) reply.Skipped w.0 refl refl
-          | inr w ↦ taken w.0 w.1 w.2 (all-found (Sound Good Fine)
+          | inr w ↦ taken w.0 w.1 w.2 (all-found (Sound Good Fine AnyOptions)
               (λ (other : Service T). is_some (subscriber_in subscriber other)) old.services w.0 w.3 all)
               w.4 w.5
         ]
       where
-        taken : (service : Service T) (one : Subscriber) (after : Service T) → Sound Good Fine service
+        taken : (service : Service T) (one : Subscriber) (after : Service T) → Sound Good Fine AnyOptions service
             → subscriber_in subscriber service ≡ Some one
             → subscribing.UpdatesFirst choices buffer subscriber (λ failure. refusal.Receive (receive_error.ConnectionFailure failure))
             (Receives subscriber (old.made.samples + 1)) one service (reply.Received sample values) after
             → IsTaken Good (old.made.samples + 1) sample values
         taken service one after sound found did =
-            subscriber-updates Good Fine choices (IsTaken Good (old.made.samples + 1) sample values) buffer subscriber
+            subscriber-updates Good Fine AnyOptions choices (IsTaken Good (old.made.samples + 1) sample values) buffer subscriber
             (λ failure. refusal.Receive (receive_error.ConnectionFailure failure)) (Receives subscriber (old.made.samples + 1)) one service
-            (reply.Received sample values) after (sound, subscriber-fits Good Fine subscriber one service sound found)
+            (reply.Received sample values) after (sound, subscriber-fits Good Fine AnyOptions subscriber one service sound found)
             (λ next mid well took. receives-good Good Fine subscriber (old.made.samples + 1) next mid sample values after well.0 took)
             (λ why mid on refused. never-told (reply.Received sample values) (reply.Refused why) refused.0 refl refl) did
 
@@ -247,8 +252,8 @@ module _ {T : Type 0} where
         → AreSound AnyMessage AnySample old
         → new.made ≡ counted answer old.made
     made-so asked old answer new h all =
-        (step-sound AnyMessage AnySample types choices buffer asked old answer new (λ publisher message b. tt)
-        (λ sample values told same. tt) h all).1
+        (step-sound AnyMessage AnySample AnyOptions types choices buffer asked old answer new (λ publisher message b. tt)
+        (λ sample values told same. tt) (λ number options came. tt) h all).1
 
     pub forgotten : (Fine : ℕ → Sample T → Type 0) (state : State T) → AreSound AnyMessage Fine state → AreSound AnyMessage AnySample state
     forgotten Fine state all = all-weaker-sound AnyMessage AnyMessage Fine AnySample (λ publisher message good. tt)
@@ -275,8 +280,8 @@ module _ {T : Type 0} where
         all-weaker-sound AnyMessage AnyMessage (Numbered old) (Numbered run.1) (λ publisher message good. tt)
         (λ number sample fine. below number old.made.samples run.1.made.samples fine up) old all in
         runs-numbered more run.1 run.2 new run.4
-        (step-sound AnyMessage (Numbered run.1) types choices buffer one old run.0 run.1 (λ publisher message b. tt)
-        (λ sample values told same. next run.0 run.1 values told made) run.3 before).0
+        (step-sound AnyMessage (Numbered run.1) AnyOptions types choices buffer one old run.0 run.1 (λ publisher message b. tt)
+        (λ sample values told same. next run.0 run.1 values told made) (λ number options came. tt) run.3 before).0
       where
         below : (number low high : ℕ) → number ≤ low → low ≤ high → number ≤ high
         below number low high h k = omega arith
@@ -299,8 +304,8 @@ module _ {T : Type 0} where
     runs-read sample values (one ∷ more) old answers new run made all =
         runs-read sample values more run.1 run.2 new run.4
         (under (rises one old run.0 run.1 run.3 (forgotten (Reads sample values) old all)))
-        (step-sound AnyMessage (Reads sample values) types choices buffer one old run.0 run.1 (λ publisher message b. tt)
-        (λ other found told same is. absurd (past is)) run.3 all).0
+        (step-sound AnyMessage (Reads sample values) AnyOptions types choices buffer one old run.0 run.1 (λ publisher message b. tt)
+        (λ other found told same is. absurd (past is)) (λ number options came. tt) run.3 all).0
       where
         under : old.made.samples ≤ run.1.made.samples → sample ≤ run.1.made.samples
         under h = omega (arith, made, h)
@@ -317,33 +322,16 @@ received-number types choices buffer asked answers old run subscriber sample val
     (received-good types choices buffer AnyMessage AnySample subscriber old sample values new
     (runs-sized types choices buffer asked new_state answers old run tt) h).4
 
-pub sizes-agreed : {T : Type 0} (choices : Choices T) → SizesAreAgreed choices
-sizes-agreed {T} choices types buffer asked answers new run =
-    all-both (Sound AnyMessage AnySample) Placed IsWithinSizes
-    (λ (service : Service T) (sound : Sound AnyMessage AnySample service) (placed : Placed service). (
-      (λ publisher subscriber box e.
-          let fits : BoxFits AnyMessage AnySample publisher service.settings box = sound.0 publisher subscriber box e in
-          (fits.0, fits.2, fits.1)),
-      all-weaker (λ (entry : ℕ × Publisher T). PublisherFits AnyMessage AnySample service.settings entry.0 entry.1)
-          (λ (entry : ℕ × Publisher T). length entry.1.history ≤ service.settings.history_size)
-          (λ entry fits. fits.0) service.publishers sound.1,
-      sound.2,
-      listed-few service.publisher_list.places service.settings.max_publishers placed.0,
-      listed-few service.subscriber_list.places service.settings.max_subscribers placed.1,
-    ))
-    new.services (runs-sized types choices buffer asked new_state answers new run tt)
-    (runs-placed types choices buffer asked new_state answers new run tt)
-
 pub messages-sent : {T : Type 0} (choices : Choices T) → MessagesWereSent choices
 messages-sent {T} choices types buffer asked answers new run =
     let Good : ℕ → Message T → Type 0 = Sent types choices buffer asked answers new run in
-    all-weaker (Sound Good AnySample) (AllMessages Good)
-    (λ (service : Service T) (sound : Sound Good AnySample service). (
+    all-weaker (Sound Good AnySample AnyOptions) (AllMessages Good)
+    (λ (service : Service T) (sound : Sound Good AnySample AnyOptions service). (
       (λ publisher subscriber box e.
-          let fits : BoxFits Good AnySample publisher service.settings box = sound.0 publisher subscriber box e in (fits.3, fits.4)),
-      all-weaker (λ (entry : ℕ × Publisher T). PublisherFits Good AnySample service.settings entry.0 entry.1)
+          let fits : BoxFits Good AnySample AnyOptions publisher service.settings box = sound.0 publisher subscriber box e in (fits.3, fits.4)),
+      all-weaker (λ (entry : ℕ × Publisher T). PublisherFits Good AnySample AnyOptions service.settings entry.0 entry.1)
           (λ (entry : ℕ × Publisher T). AllByRecursion (Good entry.0) entry.1.history) (λ entry fits. fits.1) service.publishers sound.1,
-      all-weaker (λ (entry : ℕ × Sample T). SampleFits Good AnySample entry.0 entry.1)
+      all-weaker (λ (entry : ℕ × Sample T). SampleFits Good AnySample AnyOptions entry.0 entry.1)
           (λ (entry : ℕ × Sample T). Good entry.1.publisher entry.1.message) (λ entry fits. fits.1) service.samples sound.3,
     ))
     new.services (sent-sound types choices buffer asked answers new run)
@@ -359,9 +347,10 @@ samples-read {T} choices types buffer asked answers old run subscriber sample va
     all-weaker-sound AnyMessage AnyMessage (Numbered types choices buffer old) (Reads types choices buffer sample values)
     (λ publisher message good. tt) (λ number one fine is. absurd (above number fine is taken.4)) old numbered in
     let after : AreSound AnyMessage (Reads types choices buffer sample values) mid =
-    (step-sound AnyMessage (Reads types choices buffer sample values) types choices buffer (command.Receive subscriber) old
+    (step-sound AnyMessage (Reads types choices buffer sample values) AnyOptions types choices buffer (command.Receive subscriber) old
     (reply.Received sample values) mid (λ publisher message b. tt)
-    (λ one found said same is. ap (λ (answer : Reply T). vec_items (values_in answer values)) said ∙ same) received before).0 in
+    (λ one found said same is. ap (λ (answer : Reply T). vec_items (values_in answer values)) said ∙ same)
+    (λ number options came. tt) received before).0 in
     let made : mid.made.samples ≡ old.made.samples + 1 =
     ap (λ (it : Made). it.samples)
     (made-so types choices buffer (command.Receive subscriber) old (reply.Received sample values) mid received plain) in
@@ -373,8 +362,8 @@ samples-read {T} choices types buffer asked answers old run subscriber sample va
     × (answered ≡ reply.Values found) × (then_so ≡ service)) later (reply.Values read) new h) [
       | inl w ↦ never-told (reply.Values read) reply.Skipped w.0 refl refl
       | inr w ↦ ap (λ (answer : Reply T). vec_items (values_in answer read)) w.5.2 ∙ (w.5.1
-          ∙ sym ((all-at (SampleFits AnyMessage (Reads types choices buffer sample values)) sample w.1 w.0.samples w.4
-          (all-found (Sound AnyMessage (Reads types choices buffer sample values))
+          ∙ sym ((all-at (SampleFits AnyMessage (Reads types choices buffer sample values) AnyOptions) sample w.1 w.0.samples w.4
+          (all-found (Sound AnyMessage (Reads types choices buffer sample values) AnyOptions)
           (λ (other : Service T). is_some (at sample other.samples))
           later.services w.0 w.3 end).3).0 refl))
     ]

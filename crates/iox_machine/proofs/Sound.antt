@@ -21,7 +21,7 @@ use Rattle.iox_machine.specs.Ports.{publisher_in, subscriber_in, LendsLoan, Puts
 use Rattle.iox_machine.specs.PublisherUpdate as publishing
 use Rattle.iox_machine.specs.Receiving.{Receives, IsGiver, gives, lasting, Takes}
 use Rattle.iox_machine.specs.Sending.{GoesOn, Begins, Sends}
-use Rattle.iox_machine.specs.RunLaws.{numbered, sent_as, is_written}
+use Rattle.iox_machine.specs.RunLaws.{IsSizedAs, numbered, sent_as, is_written}
 use Rattle.iox_machine.specs.Service.{Service, Publisher, Subscriber, Send, mailbox, with_mailbox, connect, new_service}
 use Rattle.iox_machine.specs.SubscriberUpdate as subscribing
 use Rattle.iox_machine.specs.Table.{at, removed, contains}
@@ -36,6 +36,7 @@ use Rattle.iox_command.specs.DomainValues.declared.port_error.SendError.TheVaria
 use Rattle.iox_command.specs.DomainValues.declared.create_error.PublisherCreateError.TheVariants as publisher_error
 use Rattle.iox_command.specs.DomainValues.declared.create_error.SubscriberCreateError.TheVariants as subscriber_error
 use Rattle.iox_command.specs.NegotiateBase.DescribeSettings.declared.static_config.publish_subscribe.StaticConfig.{StaticConfig}
+use Rattle.iox_command.specs.declared.port.PublisherOptions.{PublisherOptions}
 use Rattle.iox_command.specs.declared.refusal.Refusal.{Refusal}
 use Rattle.iox_command.specs.declared.refusal.Refusal.TheVariants as refusal
 use Rattle.iox_command.specs.declared.reply.Reply.{Reply}
@@ -69,7 +70,7 @@ buffer-of : (most : ℕ) (o : Option Subscriber) → ((one : Subscriber) → o �
 buffer-of most None on = omega arith
 buffer-of most (Some one) on = on one refl
 
-module _ {T : Type 0} (Good : ℕ → Message T → Type 0) (Fine : ℕ → Sample T → Type 0) where
+module _ {T : Type 0} (Good : ℕ → Message T → Type 0) (Fine : ℕ → Sample T → Type 0) (Named : ℕ → PublisherOptions → Type 0) where
   -- no more wait than may, no more are borrowed, and each message is one that is good of its publisher
   abbrev pub BoxFits : ℕ → StaticConfig → Mailbox T → Type 0
   BoxFits publisher settings box =
@@ -81,6 +82,7 @@ module _ {T : Type 0} (Good : ℕ → Message T → Type 0) (Fine : ℕ → Samp
   PublisherFits settings number publisher =
       (length publisher.history ≤ settings.history_size) × AllByRecursion (Good number) publisher.history
       × MatchOption publisher.blocked ⊤ (λ send. Good number send.message)
+      × ((options : PublisherOptions) × Named number options × IsSizedAs options settings publisher)
 
   abbrev pub SubscriberFits : StaticConfig → ℕ → Subscriber → Type 0
   SubscriberFits settings number subscriber = subscriber.buffer_size ≤ settings.subscriber_max_buffer_size
@@ -309,7 +311,7 @@ module _ {T : Type 0} (Good : ℕ → Message T → Type 0) (Fine : ℕ → Samp
         blocked = cond (is_some (slice_get after.0.left 0))
             (Some after.0) None;
       }) after.1 on.0.0
-      (on.0.1.0, on.0.1.1, blocked-good number (is_some (slice_get after.0.left 0)) after.0 on.1))
+      (on.0.1.0, on.0.1.1, blocked-good number (is_some (slice_get after.0.left 0)) after.0 on.1, on.0.1.3))
 
   pub begins : (choices : Choices T) (number : ℕ) (message : Message T) (publisher : Publisher T) (old : Service T) (answer : Reply T)
       (new : Service T)
@@ -325,6 +327,7 @@ module _ {T : Type 0} (Good : ℕ → Message T → Type 0) (Fine : ℕ → Samp
           all-newest (Good number) old.settings.history_size kept
               (all-joined (Good number) publisher.history (numbered publisher message ∷ []) both.1.1 (good, tt)),
           both.1.2,
+          both.1.3,
         ),
       )
       good h
@@ -571,9 +574,10 @@ module _ {T : Type 0} (Good : ℕ → Message T → Type 0) (Fine : ℕ → Samp
 
   -- ---- ports that come
 
-  pub publisher-arrives : (number : ℕ) (one : Publisher T) (old : Service T) (answer : Reply T) (new : Service T) → Both number one old
-      → PublisherArrives number one old answer new → Sound new
-  publisher-arrives number one old answer new both h =
+  pub publisher-arrives : (number : ℕ) (one : Publisher T) (old : Service T) (answer : Reply T) (new : Service T) → Sound old
+      → (answer ≡ reply.PublisherMade number → PublisherFits old.settings number one) → PublisherArrives number one old answer new
+      → Sound new
+  publisher-arrives number one old answer new sound fits h =
       elim (by-bool (nat_le (2 ^ 32) (worst_case old.settings one.max_loaned_samples) || nat_le (2 ^ 32) one.room)
       (IsRefused (refusal.Publisher publisher_error.UnableToCreateDataSegment) old answer new)
       (MatchBool (list_all is_some old.publisher_list.places)
@@ -582,7 +586,7 @@ module _ {T : Type 0} (Good : ℕ → Message T → Type 0) (Fine : ℕ → Samp
       ⊎ ((place : ℕ) × (slice_get old.publisher_list.places place ≡ Some None) × (after : Publisher T) × (mid : Service T)
       × publishing.Follows number one (record old { publishers = old.publishers ++ (number, one) ∷ [] }) after mid
       × (answer ≡ reply.PublisherMade number) × (new ≡ record mid { publisher_list = registered place number mid.publisher_list })))) h) [
-        | inl w ↦ subst Sound (sym w.1.1) both.0
+        | inl w ↦ subst Sound (sym w.1.1) sound
         | inr w ↦ further w.1
       ]
     where
@@ -591,18 +595,19 @@ module _ {T : Type 0} (Good : ℕ → Message T → Type 0) (Fine : ℕ → Samp
           × publishing.Follows number one (record old { publishers = old.publishers ++ (number, one) ∷ [] }) after mid
           × (answer ≡ reply.PublisherMade number) × (new ≡ record mid { publisher_list = registered place number mid.publisher_list }))
           → Sound new
-      comes (inl same) = subst Sound (sym same.1) both.0
+      comes (inl same) = subst Sound (sym same.1) sound
       comes (inr (place, free, after, mid, came, told, is)) =
           let more : Service T = record old { publishers = old.publishers ++ (number, one) ∷ [] } in
+          let fit : PublisherFits old.settings number one = fits told in
           let on : Sound more = (
-            both.0.0,
+            sound.0,
             all-joined (λ (entry : ℕ × Publisher T). PublisherFits old.settings entry.0 entry.1) old.publishers
-                ((number, one) ∷ []) both.0.1
-                (both.1, tt),
-            both.0.2,
-            both.0.3,
+                ((number, one) ∷ []) sound.1
+                (fit, tt),
+            sound.2,
+            sound.3,
           ) in
-          subst Sound (sym is) (follows number one more after mid (on, both.1) came).0
+          subst Sound (sym is) (follows number one more after mid (on, fit) came).0
 
       further : MatchBool (list_all is_some old.publisher_list.places)
           (IsRefused (refusal.Publisher publisher_error.ExceedsMaxSupportedPublishers) old answer new)
@@ -619,7 +624,7 @@ module _ {T : Type 0} (Good : ℕ → Message T → Type 0) (Fine : ℕ → Samp
           × publishing.Follows number one (record old { publishers = old.publishers ++ (number, one) ∷ [] }) after mid
           × (answer ≡ reply.PublisherMade number) ×
           (new ≡ record mid { publisher_list = registered place number mid.publisher_list }))) h) [
-            | inl w ↦ subst Sound (sym w.1.1) both.0
+            | inl w ↦ subst Sound (sym w.1.1) sound
             | inr w ↦ comes w.1
           ]
 

@@ -14,7 +14,7 @@ use Rattle.iox_machine.specs.Ports.{publisher_in, subscriber_in, LendsLoan, Puts
 use Rattle.iox_machine.specs.PublisherUpdate as publishing
 use Rattle.iox_machine.specs.Receiving.{Receives, has_samples}
 use Rattle.iox_machine.specs.Run.{Step, AtFactory}
-use Rattle.iox_machine.specs.RunLaws.{BeginsToSend, has_begun, sent_as, numbered, is_written}
+use Rattle.iox_machine.specs.RunLaws.{BeginsToSend, ComesAs, has_begun, sent_as, numbered, is_written}
 use Rattle.iox_machine.specs.Sending.{GoesOn, Begins}
 use Rattle.iox_machine.specs.Service.{Service, Publisher, Subscriber, Send}
 use Rattle.iox_machine.specs.State.{State, AtOne, is_service_of, counted, with_phase}
@@ -34,6 +34,7 @@ use Rattle.iox_command.specs.NegotiateBase.DescribeBase.declared.message_type.Me
 use Rattle.iox_command.specs.declared.command.Command.{Command}
 use Rattle.iox_command.specs.declared.command.Command.TheVariants as command
 use Rattle.iox_command.specs.declared.port.PortNumber.TheVariants as port
+use Rattle.iox_command.specs.declared.port.PublisherOptions.{PublisherOptions}
 use Rattle.iox_command.specs.declared.refusal.HubError.TheVariants.{OutOfMemory}
 use Rattle.iox_command.specs.declared.refusal.Refusal.{Refusal}
 use Rattle.iox_command.specs.declared.refusal.Refusal.TheVariants as refusal
@@ -62,9 +63,9 @@ beginning-told choices number message publisher old answer new h =
     going-told choices number (keeping message publisher old)
     (sending message publisher) old answer new h
 
-module _ {T : Type 0} (Good : ℕ → Message T → Type 0) (Fine : ℕ → Sample T → Type 0) where
+module _ {T : Type 0} (Good : ℕ → Message T → Type 0) (Fine : ℕ → Sample T → Type 0) (Named : ℕ → PublisherOptions → Type 0) where
   abbrev IsSound : Service T → Type 0
-  IsSound service = Sound Good Fine service
+  IsSound service = Sound Good Fine Named service
 
   abbrev AreSound : State T → Type 0
   AreSound state = AllByRecursion IsSound state.services
@@ -73,7 +74,7 @@ module _ {T : Type 0} (Good : ℕ → Message T → Type 0) (Fine : ℕ → Samp
   Leaves old answer new = Keeps IsSound old answer new
 
   at-free : (number : ℕ) (Does : Publisher T → Service T → Reply T → Service T → Type 0) (old : State T) (answer : Reply T) (new : State T)
-      → ((one : Publisher T) (service after : Service T) → Both Good Fine number one service → Does one service answer after
+      → ((one : Publisher T) (service after : Service T) → Both Good Fine Named number one service → Does one service answer after
       → IsSound after)
       → AtFree number Does old answer new → AreSound old → Leaves old answer new
   at-free number Does old answer new does h all =
@@ -83,14 +84,14 @@ module _ {T : Type 0} (Good : ℕ → Message T → Type 0) (Fine : ℕ → Samp
       old answer new (λ it sound. sound)
       (λ one service after first found did sound. elim
       (by-option one.blocked (Does one service answer after) (λ send. IsSkipped service answer after) did) [
-        | inl w ↦ does one service after (sound, publisher-fits Good Fine number one service sound found) w.1
+        | inl w ↦ does one service after (sound, publisher-fits Good Fine Named number one service sound found) w.1
         | inr w ↦ subst IsSound (sym w.2.1) sound
       ])
       h all
 
   at-blocked : (number : ℕ) (Does : Publisher T → Send T → Service T → Reply T → Service T → Type 0) (old : State T) (answer : Reply T)
       (new : State T)
-      → ((one : Publisher T) (send : Send T) (service after : Service T) → Both Good Fine number one service → Good number send.message
+      → ((one : Publisher T) (send : Send T) (service after : Service T) → Both Good Fine Named number one service → Good number send.message
       → Does one send service answer after → IsSound after)
       → AtBlocked number Does old answer new → AreSound old → Leaves old answer new
   at-blocked number Does old answer new does h all =
@@ -101,9 +102,9 @@ module _ {T : Type 0} (Good : ℕ → Message T → Type 0) (Fine : ℕ → Samp
       (λ one service after first found did sound. elim (by-option one.blocked (IsSkipped service answer after)
       (λ send. Does one send service answer after) did) [
         | inl w ↦ subst IsSound (sym w.1.1) sound
-        | inr w ↦ does one w.0 service after (sound, publisher-fits Good Fine number one service sound found)
+        | inr w ↦ does one w.0 service after (sound, publisher-fits Good Fine Named number one service sound found)
             (subst (λ (o : Option (Send T)). MatchOption o ⊤ (λ it. Good number it.message)) w.1
-            (publisher-fits Good Fine number one service sound found).2) w.2
+            (publisher-fits Good Fine Named number one service sound found).2) w.2
       ])
       h all
 
@@ -111,15 +112,15 @@ module _ {T : Type 0} (Good : ℕ → Message T → Type 0) (Fine : ℕ → Samp
       (Does : Subscriber → Service T → Reply T → Service T → Type 0)
       (old : State T)
       (answer : Reply T) (new : State T)
-      → ((one : Subscriber) (service after : Service T) → Well Good Fine number one service → Does one service answer after → IsSound after)
+      → ((one : Subscriber) (service after : Service T) → Well Good Fine Named number one service → Does one service answer after → IsSound after)
       → AtOne (subscriber_in number) (subscribing.UpdatesFirst choices buffer number told Does) old answer new → AreSound old
       → Leaves old answer new
   at-subscriber choices buffer number told Does old answer new does h all =
       at-one-keeps IsSound IsSound (subscriber_in number) (subscribing.UpdatesFirst choices buffer number told Does) old answer new
       (λ it sound. sound)
-      (λ one service after first found did sound. subscriber-updates Good Fine choices
+      (λ one service after first found did sound. subscriber-updates Good Fine Named choices
       (IsSound after) buffer number told Does one service answer after
-      (sound, subscriber-fits Good Fine number one service sound found)
+      (sound, subscriber-fits Good Fine Named number one service sound found)
       (λ next mid well done. does next mid after well done) (λ why mid on refused. subst IsSound (sym refused.1) on) did)
       h all
 
@@ -139,84 +140,86 @@ module _ {T : Type 0} (Good : ℕ → Message T → Type 0) (Fine : ℕ → Samp
       ]
 
   module _ (types : MessageTypeDetails) (choices : Choices T) (buffer : ℕ) where
-    -- Each step keeps that all services are sound, if the message whose send it begins is good, and the sample that it makes is fine.
+    -- Each step keeps that all services are sound, if the message whose send it begins is good, the sample that it makes is fine, and
+    -- what it names for a publisher that comes is so.
     pub step-sound : (asked : Command T) (old : State T) (answer : Reply T) (new : State T)
         → ((publisher : ℕ) (message : Message T) → BeginsToSend publisher message.values asked old answer → Good publisher message)
         → ((one : Sample T) (values : Vec T) → answer ≡ reply.Received (old.made.samples + 1) values → vec_items values ≡ one.message.values
         → Fine (old.made.samples + 1) one)
+        → ((number : ℕ) (options : PublisherOptions) → ComesAs number options asked answer → Named number options)
         → Step types choices buffer asked old answer new → AreSound old → Leaves old answer new
-    step-sound command.Node old answer new good fine (inl (told, came)) all =
+    step-sound command.Node old answer new good fine named (inl (told, came)) all =
         (subst AreSound (sym came) all, ap (λ (state : State T). state.made) came)
-    step-sound command.Node old answer new good fine (inr refused) all = refused-keeps IsSound
+    step-sound command.Node old answer new good fine named (inr refused) all = refused-keeps IsSound
         (refusal.Hub OutOfMemory) old answer new refused all
-    step-sound (command.Create node name options attributes steps) old answer new good fine h all =
-        negotiated-keeps IsSound (factory_of node name options) (new-sound Good Fine name) old answer new
+    step-sound (command.Create node name options attributes steps) old answer new good fine named h all =
+        negotiated-keeps IsSound (factory_of node name options) (new-sound Good Fine Named name) old answer new
         (creates types steps (factory_of node name options) old answer new options attributes h) all
-    step-sound (command.Open node name options required steps) old answer new good fine h all =
-        negotiated-keeps IsSound (factory_of node name options) (new-sound Good Fine name) old answer new
+    step-sound (command.Open node name options required steps) old answer new good fine named h all =
+        negotiated-keeps IsSound (factory_of node name options) (new-sound Good Fine Named name) old answer new
         (opens types steps (factory_of node name options) old answer new options required h) all
-    step-sound (command.OpenOrCreate node name options required steps) old answer new good fine h all =
-        negotiated-keeps IsSound (factory_of node name options) (new-sound Good Fine name) old answer new
+    step-sound (command.OpenOrCreate node name options required steps) old answer new good fine named h all =
+        negotiated-keeps IsSound (factory_of node name options) (new-sound Good Fine Named name) old answer new
         (opens-or-creates types steps (factory_of node name options) old answer new options required h) all
-    step-sound (command.Foreign pattern name steps) old answer new good fine (inl (told, came)) all = (
+    step-sound (command.Foreign pattern name steps) old answer new good fine named (inl (told, came)) all = (
       subst AreSound (sym came) all,
       ap (λ (state : State T). state.made) came ∙ ap (λ (told_so : Reply T). counted told_so old.made)
           (sym told),
     )
-    step-sound (command.Foreign pattern name steps) old answer new good fine (inr (done, few, refused)) all =
+    step-sound (command.Foreign pattern name steps) old answer new good fine named (inr (done, few, refused)) all =
         refused-keeps IsSound (refusal.Hub OutOfMemory)
         (with_phase pattern name (fold (acted types pattern) (old.phases pattern name) (take done steps)) old) answer new refused all
-    step-sound (command.Close factory) old answer new good fine h all = closed-keeps IsSound factory old answer new
+    step-sound (command.Close factory) old answer new good fine named h all = closed-keeps IsSound factory old answer new
         (closed factory old answer new h) all
-    step-sound (command.Publisher factory options) old answer new good fine h all =
+    step-sound (command.Publisher factory options) old answer new good fine named h all =
         at-factory types choices buffer factory
         (λ (service : Service T). PublisherArrives (old.made.publishers + 1)
         (new_publisher factory options service.settings) service) old answer new
-        (λ service after sound did. publisher-arrives Good Fine (old.made.publishers + 1)
+        (λ service after sound did. publisher-arrives Good Fine Named (old.made.publishers + 1)
         (new_publisher factory options service.settings) service answer after
-        (sound, (omega arith, tt, tt)) did)
+        sound (λ told. (omega arith, tt, tt, (options, named (old.made.publishers + 1) options (refl, told), (refl, refl)))) did)
         h all
-    step-sound (command.Subscriber factory options) old answer new good fine h all =
+    step-sound (command.Subscriber factory options) old answer new good fine named h all =
         at-factory types choices buffer factory
         (λ (service : Service T). SubscriberArrives buffer (old.made.subscribers + 1)
         (new_subscriber factory options service.settings) service)
         old answer new
-        (λ service after sound did. subscriber-arrives Good Fine buffer (old.made.subscribers + 1)
+        (λ service after sound did. subscriber-arrives Good Fine Named buffer (old.made.subscribers + 1)
         (new_subscriber factory options service.settings) service
         answer after sound did)
         h all
-    step-sound (command.Loan publisher count) old answer new good fine (value, is, h) all =
+    step-sound (command.Loan publisher count) old answer new good fine named (value, is, h) all =
         at-free publisher (LendsLoan (old.made.loans + 1) publisher count (Some value)) old answer new
-        (λ one service after both did. lends-loan Good Fine (old.made.loans + 1) publisher count
+        (λ one service after both did. lends-loan Good Fine Named (old.made.loans + 1) publisher count
         (Some value) one service answer after both did) h all
-    step-sound (command.LoanUninit publisher count) old answer new good fine h all =
+    step-sound (command.LoanUninit publisher count) old answer new good fine named h all =
         at-free publisher (LendsLoan (old.made.loans + 1) publisher count None) old answer new
-        (λ one service after both did. lends-loan Good Fine
+        (λ one service after both did. lends-loan Good Fine Named
         (old.made.loans + 1) publisher count None one service answer after both did) h all
-    step-sound (command.Set loan place value) old answer new good fine h all =
+    step-sound (command.Set loan place value) old answer new good fine named h all =
         at-one-keeps IsSound IsSound (λ (service : Service T). at loan service.loans)
         (λ (one : Loan T). Writes loan one (is_written one && nat_lt place (length one.values))
         (set one.values place (Some value))) old answer new
         (λ it sound. sound)
-        (λ one service after first found did sound. writes Good Fine loan one (is_written one && nat_lt place (length one.values))
+        (λ one service after first found did sound. writes Good Fine Named loan one (is_written one && nat_lt place (length one.values))
         (set one.values place (Some value)) service answer after sound did)
         h all
-    step-sound (command.Fill loan values) old answer new good fine h all =
+    step-sound (command.Fill loan values) old answer new good fine named h all =
         at-one-keeps IsSound IsSound (λ (service : Service T). at loan service.loans)
         (λ (one : Loan T). Writes loan one (length values == length one.values) (map Some values)) old answer new (λ it sound. sound)
-        (λ one service after first found did sound. writes Good Fine loan one (length values == length one.values)
+        (λ one service after first found did sound. writes Good Fine Named loan one (length values == length one.values)
         (map Some values) service answer after
         sound did)
         h all
-    step-sound (command.Drop loan) old answer new good fine h all =
+    step-sound (command.Drop loan) old answer new good fine named h all =
         at-one-keeps IsSound IsSound (λ (service : Service T). at loan service.loans)
         (λ (one : Loan T) (service : Service T) (answered : Reply T) (after : Service T). (answered ≡ reply.Done)
         × (after ≡ record service { loans = removed loan service.loans }))
         old answer new (λ it sound. sound) (λ one service after first found did sound. subst IsSound (sym did.1) sound) h all
-    step-sound (command.Send loan) old answer new good fine h all =
+    step-sound (command.Send loan) old answer new good fine named h all =
         at-one-keeps IsSound IsSound (λ (service : Service T). at loan service.loans) (SendsLoan choices loan) old answer new
         (λ it sound. sound)
-        (λ one service after first found did sound. sends-loan Good Fine choices loan one service answer after sound
+        (λ one service after first found did sound. sends-loan Good Fine Named choices loan one service answer after sound
         (λ mid then written begun. good one.publisher (numbered mid (sent_as one)) (
           service,
           one,
@@ -229,9 +232,9 @@ module _ {T : Type 0} (Good : ℕ → Message T → Type 0) (Fine : ℕ → Samp
         ))
         did)
         h all
-    step-sound (command.Put publisher values) old answer new good fine h all =
+    step-sound (command.Put publisher values) old answer new good fine named h all =
         at-free publisher (Puts choices publisher values) old answer new
-        (λ one service after both did. puts Good Fine choices publisher values one service answer after both
+        (λ one service after both did. puts Good Fine Named choices publisher values one service answer after both
         (λ next mid begun. good publisher (numbered next (record { number = one.next; sequence = None; values = values })) (
           refl,
           refl,
@@ -240,81 +243,81 @@ module _ {T : Type 0} (Good : ℕ → Message T → Type 0) (Fine : ℕ → Samp
         ))
         did)
         h all
-    step-sound (command.Retry publisher nanoseconds) old answer new good fine h all =
+    step-sound (command.Retry publisher nanoseconds) old answer new good fine named h all =
         at-blocked publisher
         (λ (one : Publisher T) (send : Send T). GoesOn choices publisher one
         (record send { retries = send.retries + 1; elapsed = nanoseconds })) old answer new
-        (λ one send service after both sent did. goes-on Good Fine choices publisher one
+        (λ one send service after both sent did. goes-on Good Fine Named choices publisher one
         (record send { retries = send.retries + 1; elapsed = nanoseconds }) service
         answer after both sent did)
         h all
-    step-sound (command.GiveUp publisher) old answer new good fine h all =
+    step-sound (command.GiveUp publisher) old answer new good fine named h all =
         at-blocked publisher
         (λ (one : Publisher T) (send : Send T) (service : Service T) (answered : Reply T) (after : Service T).
         (answered ≡ reply.Delivered send.delivered)
         × (after ≡ with_publisher publisher (record one { blocked = None }) service))
         old answer new
         (λ one send service after both sent did. subst IsSound (sym did.1)
-        (publisher-changed Good Fine publisher (record one { blocked = None }) service both.0 (both.1.0, both.1.1, tt)))
+        (publisher-changed Good Fine Named publisher (record one { blocked = None }) service both.0 (both.1.0, both.1.1, tt, both.1.3)))
         h all
-    step-sound (command.Receive subscriber) old answer new good fine h all =
+    step-sound (command.Receive subscriber) old answer new good fine named h all =
         at-subscriber choices buffer subscriber (λ failure. refusal.Receive (receive_error.ConnectionFailure failure))
         (Receives subscriber (old.made.samples + 1)) old answer new
-        (λ one service after well did. receives Good Fine subscriber (old.made.samples + 1) one service answer after well
+        (λ one service after well did. receives Good Fine Named subscriber (old.made.samples + 1) one service answer after well
         (λ sample values of told same. fine sample values told same) did)
         h all
-    step-sound (command.Read sample) old answer new good fine h all =
+    step-sound (command.Read sample) old answer new good fine named h all =
         at-one-keeps IsSound IsSound (λ (service : Service T). at sample service.samples)
         (λ (one : Sample T) (service : Service T) (answered : Reply T) (after : Service T). (values : Vec T) ×
         (vec_items values ≡ one.message.values)
         × (answered ≡ reply.Values values) × (after ≡ service))
         old answer new (λ it sound. sound) (λ one service after first found did sound. subst IsSound (sym did.3) sound) h all
-    step-sound (command.Sequence sample) old answer new good fine h all =
+    step-sound (command.Sequence sample) old answer new good fine named h all =
         at-one-keeps IsSound IsSound (λ (service : Service T). at sample service.samples)
         (λ (one : Sample T) (service : Service T) (answered : Reply T) (after : Service T).
         (answered ≡ reply.Sequence one.message.sequence) × (after ≡ service))
         old answer new (λ it sound. sound) (λ one service after first found did sound. subst IsSound (sym did.1) sound) h all
-    step-sound (command.Release sample) old answer new good fine h all =
+    step-sound (command.Release sample) old answer new good fine named h all =
         at-one-keeps IsSound IsSound (λ (service : Service T). at sample service.samples) (Releases sample) old answer new
         (λ it sound. sound)
-        (λ one service after first found did sound. releases Good Fine sample one service answer after sound did) h all
-    step-sound (command.Update (port.Publisher number)) old answer new good fine h all =
+        (λ one service after first found did sound. releases Good Fine Named sample one service answer after sound did) h all
+    step-sound (command.Update (port.Publisher number)) old answer new good fine named h all =
         at-free number
         (publishing.UpdatesFirst choices number refusal.Connection
         (λ (one : Publisher T) (service : Service T) (answered : Reply T) (after : Service T). (answered ≡ reply.Done) × (after ≡ service)))
         old answer new
-        (λ one service after both did. updates-first Good Fine choices number refusal.Connection
+        (λ one service after both did. updates-first Good Fine Named choices number refusal.Connection
         (λ (it : Publisher T) (mid : Service T) (answered : Reply T) (end : Service T). (answered ≡ reply.Done) ×
         (end ≡ mid)) one service answer after
         both (λ it mid on done. subst IsSound (sym done.1) on.0) did)
         h all
-    step-sound (command.Update (port.Subscriber number)) old answer new good fine h all =
+    step-sound (command.Update (port.Subscriber number)) old answer new good fine named h all =
         at-subscriber choices buffer number refusal.Connection
         (λ (one : Subscriber) (service : Service T) (answered : Reply T) (after : Service T). (answered ≡ reply.Done) ×
         (after ≡ service)) old answer new
         (λ one service after well did. subst IsSound (sym did.1) well.0) h all
-    step-sound (command.Leave (port.Publisher number)) old answer new good fine h all =
+    step-sound (command.Leave (port.Publisher number)) old answer new good fine named h all =
         at-free number
         (λ (one : Publisher T) (service : Service T) (answered : Reply T) (after : Service T). (answered ≡ reply.Done)
         × (after ≡ with_publisher number (record one { stands = false })
         (record service { publisher_list = left number service.publisher_list })))
         old answer new
         (λ one service after both did. subst IsSound (sym did.1)
-        (publisher-changed Good Fine number (record one { stands = false })
+        (publisher-changed Good Fine Named number (record one { stands = false })
         (record service { publisher_list = left number service.publisher_list }) both.0 both.1))
         h all
-    step-sound (command.Leave (port.Subscriber number)) old answer new good fine h all =
+    step-sound (command.Leave (port.Subscriber number)) old answer new good fine named h all =
         at-one-keeps IsSound IsSound (subscriber_in number)
         (λ (one : Subscriber) (service : Service T) (answered : Reply T) (after : Service T). (answered ≡ reply.Done)
         × (after ≡ with_subscriber number (record one { stands = false })
         (record service { subscriber_list = left number service.subscriber_list })))
         old answer new (λ it sound. sound)
         (λ one service after first found did sound. subst IsSound (sym did.1)
-        (subscriber-changed Good Fine number (record one { stands = false })
+        (subscriber-changed Good Fine Named number (record one { stands = false })
         (record service { subscriber_list = left number service.subscriber_list }) sound
-        (subscriber-fits Good Fine number one service sound found)))
+        (subscriber-fits Good Fine Named number one service sound found)))
         h all
-    step-sound (command.Has subscriber) old answer new good fine h all =
+    step-sound (command.Has subscriber) old answer new good fine named h all =
         at-subscriber choices buffer subscriber refusal.Connection
         (λ (one : Subscriber) (service : Service T) (answered : Reply T) (after : Service T).
         (answered ≡ reply.Has (has_samples subscriber one service))

@@ -20,7 +20,7 @@ use Rattle.iox_machine.proofs.Held.{any-found}
 use Rattle.iox_machine.proofs.HeldSteps.{AreOwned, IsThere, received-there, run-owned, run-there, step-stays}
 use Rattle.iox_machine.proofs.Lists.{all-at, all-both, all-weaker}
 use Rattle.iox_machine.proofs.OrderLaws.{all-behind}
-use Rattle.iox_machine.proofs.Runs.{AnyMessage, AreSound, Numbered, all-found, forgotten, made-so, received-number, rises, runs-numbered}
+use Rattle.iox_machine.proofs.Runs.{AnyMessage, AnyOptions, AreSound, Numbered, all-found, forgotten, made-so, received-number, rises, runs-numbered}
 use Rattle.iox_machine.proofs.Sound.{SampleFits, Sound}
 use Rattle.iox_machine.proofs.Steps.{step-sound}
 use Rattle.iox_machine.proofs.Taken.{received-was-sent}
@@ -186,8 +186,8 @@ module _ {T : Type 0} (types : MessageTypeDetails) (choices : Choices T) (buffer
   runs-held sample message (one ∷ more) old answers new run made all =
       runs-held sample message more run.1 run.2 new run.4
       (under (rises types choices buffer one old run.0 run.1 run.3 (forgotten types choices buffer (Holds sample message) old all)))
-      (step-sound AnyMessage (Holds sample message) types choices buffer one old run.0 run.1 (λ publisher it b. tt)
-      (λ other found told same is. absurd (past is)) run.3 all).0
+      (step-sound AnyMessage (Holds sample message) AnyOptions types choices buffer one old run.0 run.1 (λ publisher it b. tt)
+      (λ other found told same is. absurd (past is)) (λ number options came. tt) run.3 all).0
     where
       under : old.made.samples ≤ run.1.made.samples → sample ≤ run.1.made.samples
       under h = omega (arith, made, h)
@@ -228,17 +228,17 @@ sequence-stays {T} choices types buffer asked answers old run subscriber sample 
         runs-numbered types choices buffer (asked ++ command.Receive subscriber ∷ []) new_state
         (answers ++ reply.Received sample values ∷ []) mid whole tt in
         let holds : AreSound AnyMessage (Holds types choices buffer sample it.message) mid =
-        all-both (Sound AnyMessage (Numbered types choices buffer mid))
+        all-both (Sound AnyMessage (Numbered types choices buffer mid) AnyOptions)
         (λ (service : Service T). AllByRecursion (λ (entry : ℕ × Sample T). entry.0 ≡ sample → entry.1 ≡ it) service.samples)
-        (Sound AnyMessage (Holds types choices buffer sample it.message))
+        (Sound AnyMessage (Holds types choices buffer sample it.message) AnyOptions)
         (λ service sound its. (
           sound.0,
           sound.1,
           sound.2,
           all-both
-              (λ (entry : ℕ × Sample T). SampleFits AnyMessage (Numbered types choices buffer mid) entry.0 entry.1)
+              (λ (entry : ℕ × Sample T). SampleFits AnyMessage (Numbered types choices buffer mid) AnyOptions entry.0 entry.1)
               (λ (entry : ℕ × Sample T). entry.0 ≡ sample → entry.1 ≡ it)
-              (λ (entry : ℕ × Sample T). SampleFits AnyMessage (Holds types choices buffer sample it.message) entry.0 entry.1)
+              (λ (entry : ℕ × Sample T). SampleFits AnyMessage (Holds types choices buffer sample it.message) AnyOptions entry.0 entry.1)
               (λ entry fits so. ((λ is. ap (λ (one : Sample T). one.message) (so is)), tt)) service.samples sound.3 its,
         )) mid.services numbered only
         in
@@ -269,8 +269,8 @@ sequence-stays {T} choices types buffer asked answers old run subscriber sample 
                 | inl v ↦ absurd v.1
                 | inr v ↦ v.2.0
                     ∙ ap (λ (one : Message T). reply.Sequence one.sequence)
-                    ((all-at (SampleFits AnyMessage (Holds types choices buffer sample it.message)) sample v.0 w.0.samples v.1
-                    (all-found (Sound AnyMessage (Holds types choices buffer sample it.message))
+                    ((all-at (SampleFits AnyMessage (Holds types choices buffer sample it.message) AnyOptions) sample v.0 w.0.samples v.1
+                    (all-found (Sound AnyMessage (Holds types choices buffer sample it.message) AnyOptions)
                     (λ (other : Service T). is_some (at sample other.samples)) later.services w.0 w.1 end).3).0 refl)
               ]
         ]

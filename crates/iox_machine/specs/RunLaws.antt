@@ -3,6 +3,7 @@ use Rattle.std.specs.Prelude.{ℕ, ◌≡◌, ◌≤◌, ◌⊎◌, Bool, true, 
 use Rattle.std.specs.Global.{Vec}
 use Rattle.std.specs.List.{AllByRecursion, list_all}
 use Rattle.std.specs.Vec.{vec_items}
+use Rattle.iox_machine.specs.Arriving.{new_publisher}
 use Rattle.iox_machine.specs.Choices.{Choices}
 use Rattle.iox_machine.specs.Mailbox.{Mailbox}
 use Rattle.iox_machine.specs.Message.{Message, Loan}
@@ -16,9 +17,11 @@ use Rattle.iox_command.specs.DomainValues.Sequences.{next_sequence}
 use Rattle.iox_command.specs.DomainValues.declared.port_error.SendError.TheVariants as error
 use Rattle.iox_command.specs.NegotiateBase.DescribeBase.declared.message_type.MessageTypeDetails.{MessageTypeDetails}
 use Rattle.iox_command.specs.NegotiateBase.DescribeBase.declared.pattern.MessagingPattern.{MessagingPattern}
+use Rattle.iox_command.specs.NegotiateBase.DescribeSettings.declared.static_config.publish_subscribe.StaticConfig.{StaticConfig}
 use Rattle.iox_command.specs.Patterns.{pattern_of}
 use Rattle.iox_command.specs.declared.command.Command.{Command}
 use Rattle.iox_command.specs.declared.command.Command.TheVariants as command
+use Rattle.iox_command.specs.declared.port.PublisherOptions.{PublisherOptions}
 use Rattle.iox_command.specs.declared.refusal.Refusal.{Refusal}
 use Rattle.iox_command.specs.declared.refusal.Refusal.TheVariants as refusal
 use Rattle.iox_command.specs.declared.reply.Reply.{Reply}
@@ -71,10 +74,21 @@ AllMessages {T} Is service =
     × AllByRecursion (λ entry. AllByRecursion (Is entry.0) entry.1.history) service.publishers
     × AllByRecursion (λ entry. Is entry.1.publisher entry.1.message) service.samples
 
+-- A publisher of this number came, and this was named for it.
+abbrev pub ComesAs : {T : Type 0} → ℕ → PublisherOptions → Command T → Reply T → Type 0
+ComesAs number options (command.Publisher factory named) answer = (named ≡ options) × (answer ≡ reply.PublisherMade number)
+ComesAs number options other answer = ⊥
+
+-- A publisher has as many slots, and as many of its loans may be out, as settings and what was named for it come to.
+abbrev pub IsSizedAs : {T : Type 0} → PublisherOptions → StaticConfig → Publisher T → Type 0
+IsSizedAs {T} options settings publisher =
+    let made : Publisher T = new_publisher publisher.factory options settings in
+    (publisher.max_loaned_samples ≡ made.max_loaned_samples) × (publisher.slots ≡ made.slots)
+
 -- No more messages wait, are borrowed or are kept as history than the settings of the service allow, and no more publishers and
--- subscribers are listed.
-abbrev pub IsWithinSizes : {T : Type 0} → Service T → Type 0
-IsWithinSizes {T} service =
+-- subscribers are listed. The lists have just as many places, and each publisher is sized by these settings and by what was named for it.
+abbrev pub IsWithinSizes : {T : Type 0} → (ℕ → PublisherOptions → Type 0) → Service T → Type 0
+IsWithinSizes {T} Named service =
     ((publisher subscriber : ℕ) (box : Mailbox T) → service.mailboxes publisher subscriber ≡ Some box
     → (length box.waiting ≤ box.limit) × (box.limit ≤ service.settings.subscriber_max_buffer_size)
     × (length box.borrowed ≤ service.settings.subscriber_max_borrowed_samples))
@@ -82,6 +96,10 @@ IsWithinSizes {T} service =
     × AllByRecursion (λ entry. entry.1.buffer_size ≤ service.settings.subscriber_max_buffer_size) service.subscribers
     × (length (those service.publisher_list.places) ≤ service.settings.max_publishers)
     × (length (those service.subscriber_list.places) ≤ service.settings.max_subscribers)
+    × (length service.publisher_list.places ≡ service.settings.max_publishers)
+    × (length service.subscriber_list.places ≡ service.settings.max_subscribers)
+    × AllByRecursion (λ entry. (options : PublisherOptions) × Named entry.0 options × IsSizedAs options service.settings entry.1)
+    service.publishers
 
 -- A command is a call for the service of a pattern and name: it creates or opens it, or has nodes outside the hub do steps there.
 abbrev pub IsCallFor : {T : Type 0} → MessagingPattern → List ℕ → Command T → Type 0
@@ -98,6 +116,13 @@ module _ {T : Type 0} (types : MessageTypeDetails) (choices : Choices T) (buffer
   Began publisher values [] old answers new run = ⊥
   Began publisher values (one ∷ more) old answers new run =
       BeginsToSend publisher values one old run.0 ⊎ Began publisher values more run.1 run.2 new run.4
+
+  -- In a run a publisher of this number came, and this was named for it.
+  abbrev pub CameAs : ℕ → PublisherOptions → (asked : List (Command T)) (old : State T) (answers : List (Reply T)) (new : State T)
+      → Runs types choices buffer asked old answers new → Type 0
+  CameAs number options [] old answers new run = ⊥
+  CameAs number options (one ∷ more) old answers new run =
+      ComesAs number options one run.0 ⊎ CameAs number options more run.1 run.2 new run.4
 
 module _ {T : Type 0} (choices : Choices T) where
   -- A command that is skipped changes nothing.
@@ -117,10 +142,13 @@ module _ {T : Type 0} (choices : Choices T) where
       → IsCallFor pattern name asked → Step types choices buffer asked old (reply.Refused why) new
       → (new ≡ old) ⊎ ((phase : Phase) × (new ≡ with_phase pattern name phase old))
 
-  -- In every run of a new machine, what is in use of each service is within the sizes that its settings name.
+  -- In every run of a new machine, what is in use of each service is within the sizes that its settings name. It has as many places for
+  -- ports, and its publishers as many slots and loans as they and the commands name by which these came.
   abbrev pub SizesAreAgreed : Type 0
   SizesAreAgreed = (types : MessageTypeDetails) (buffer : ℕ) (asked : List (Command T)) (answers : List (Reply T)) (new : State T)
-      → Runs types choices buffer asked new_state answers new → AllByRecursion IsWithinSizes new.services
+      (run : Runs types choices buffer asked new_state answers new)
+      → AllByRecursion (IsWithinSizes (λ number options. CameAs types choices buffer number options asked new_state answers new run))
+      new.services
 
   -- In every run of a new machine, each message that is anywhere has the values with which its publisher began to send it.
   abbrev pub MessagesWereSent : Type 0

@@ -45,7 +45,8 @@ pub fn overflow_drops_the_oldest()
 {}
 
 /// In every run of a new machine no more messages wait in a mailbox, are borrowed from it, or are kept as history, than the settings of
-/// the service name, and no subscriber has a longer buffer.
+/// the service name, and no subscriber has a longer buffer. The lists of ports have just as many places as these name. Each publisher has
+/// as many slots, and as many loans of it may be out, as they and the command by which it came name.
 pub fn sizes_are_agreed<T: Default, B: Decides + Degrades, D: Degrades>()
     ensures { (handed : Handed B D) → SizesAreAgreed (chosen_by T.is_default (λ who. B.decides who) (λ who. B.degrades who)
         (λ who. D.degrades who) handed) }

@@ -1,5 +1,5 @@
 use Rattle.iox_machine.specs.Choices.{chosen_by}
-use Rattle.iox_machine.proofs.Runs.{sizes-agreed}
+use Rattle.iox_machine.proofs.Sized.{sizes-agreed}
 use Rattle.iox_machine.proofs.sizes_are_agreed.Goals as goal
 
 pub returns : goal.returns
