@@ -8,7 +8,9 @@ pub mod GivingUp
 pub mod Reading
 pub mod Entries
 pub mod Loans
+pub mod Rewriting
 pub mod Writing
+pub mod Headers
 pub mod Removing
 pub mod Settling
 pub mod Dropping

@@ -86,7 +86,7 @@ module _ {T U : Type 0} (names : Naming) (lent : List (ℕ × LentSlot)) (held :
     (service : Service T) (sample : ℕ) (taken : Taken) (stands : StandsFor names lent held buffer ports service)
     (held_there : at sample held ≡ Some taken) where
   -- the message of a sample that goes by a number
-  message_there : (message : Message T U) × (sample_in taken ports ≡ Some message)
+  pub message_there : (message : Message T U) × (sample_in taken ports ≡ Some message)
   message_there =
       let borrowed = (connection_in taken.publisher taken.index ports.publishers).borrowed in
       let found = borrowed_there taken.slot borrowed
@@ -95,7 +95,7 @@ module _ {T U : Type 0} (names : Naming) (lent : List (ℕ × LentSlot)) (held :
       (found.0, sample_by taken ports ∙ found.1)
 
   -- and the machine's sample
-  sample_there : at sample service.samples ≡ Some (sample_as names ports taken)
+  pub sample_there : at sample service.samples ≡ Some (sample_as names ports taken)
   sample_there =
       ap (λ samples. at sample samples) stands.samples.same ∙ at_mapped (sample_as names ports) sample held
       ∙ ap (option_map (sample_as names ports)) held_there

@@ -1,5 +1,5 @@
 -- What is written in a loan of a domain is written in that of the machine.
-use Rattle.std.proofs.Common.{◌≡◌, ◌≢◌, ◌≤◌, ◌<◌, ◌⊎◌, [], ℕ, Bool, true, false, cond, ◌&&◌, List, length, map, set, Option, None, Some}
+use Rattle.std.proofs.Common.{◌≡◌, ◌≢◌, ◌≤◌, ◌<◌, [], ℕ, Bool, true, false, cond, ◌&&◌, List, length, map, set, Option, None, Some}
 use Rattle.std.proofs.Common.{refl, sym, ap, subst, inl, inr, ◌∙◌, arith}
 use Rattle.std.proofs.Math.Dec.{eqb}
 use Rattle.std.proofs.Math.Logic.{⊎_elim}
@@ -11,7 +11,7 @@ use Rattle.std.specs.Prelude.{is_some, nat_lt, option_map, if◌then◌else◌, 
 use Rattle.iox_command.specs.declared.reply.Reply.{Reply}
 use Rattle.iox_command.specs.declared.reply.Reply.TheVariants as reply
 use Rattle.iox_domain.proofs.DomainSlots.Counts.{one}
-use Rattle.iox_domain.proofs.Numbered.{at_number, same_set, all_then}
+use Rattle.iox_domain.proofs.Numbered.{at_number, all_then}
 use Rattle.iox_domain.specs.DomainPorts.Messages.{Loan, write_value, write_all}
 use Rattle.iox_domain.specs.DomainPorts.MessagesSending.{slots_of, is_written_loan, has_place, has_length}
 use Rattle.iox_domain.specs.DomainPorts.Publishers.{port_of, with_port}
@@ -22,18 +22,17 @@ use Rattle.iox_domain.specs.DomainSlots.Counting.{times}
 use Rattle.iox_domain.specs.Lending.{loan_in, passes, passes_port, written_in}
 use Rattle.iox_domain.specs.declared.ports.service_ports.ServicePorts.{ServicePorts}
 use Rattle.iox_domain_machine.specs.Laws.{SetMatches, FillMatches, done_or_skipped, with_alone}
-use Rattle.iox_domain_machine.specs.Mailboxes.{MailboxesStandFor}
 use Rattle.iox_domain_machine.specs.Naming.{Naming}
-use Rattle.iox_domain_machine.specs.Publishers.{PublisherStandsFor, NamesSlots}
-use Rattle.iox_domain_machine.specs.Standing.{StandsFor, PublisherIs}
+use Rattle.iox_domain_machine.specs.Standing.{StandsFor}
 use Rattle.iox_domain_machine.specs.Tables.{LentSlot, LoansStandFor, loans_at_port, loan_as}
 use Rattle.iox_domain_machine.proofs.Alone.{alone_does}
-use Rattle.iox_domain_machine.proofs.Changing.{one_changed, with_one}
+use Rattle.iox_domain_machine.proofs.Changing.{with_one}
 use Rattle.iox_domain_machine.proofs.Entries.{hits, found_counts, all_either, IsEither, IsChanged, changed_mapped}
 use Rattle.iox_domain_machine.proofs.Found.{other_found, at_mapped}
-use Rattle.iox_domain_machine.proofs.Kept.{out_of, loan_by, slots_by, samples_kept}
-use Rattle.iox_domain_machine.proofs.Loans.{slots, in_slot, slots_same, found_changed, found_other, found_there, found_passes}
+use Rattle.iox_domain_machine.proofs.Kept.{out_of, loan_by, slots_by}
+use Rattle.iox_domain_machine.proofs.Loans.{slots, in_slot, found_changed, found_other, found_there, found_passes}
 use Rattle.iox_domain_machine.proofs.Named.{lent_used}
+use Rattle.iox_domain_machine.proofs.Rewriting.{rewritten_now, rewritten_slots, rewritten_stands}
 use Rattle.iox_machine.specs.Choices.{Choices}
 use Rattle.iox_machine.specs.Message as machine
 use Rattle.iox_machine.specs.Ports.{Writes}
@@ -106,19 +105,11 @@ module _ {T U : Type 0} (names : Naming) (lent : List (ℕ × LentSlot)) (held :
     abbrev new : ServicePorts T U
     new = with_one out.publisher after ports
 
+    now : port_of out.publisher new.publishers ≡ Some after
+    now = rewritten_now ports out.publisher out.slot whose is_there.there change
+
     abbrev written : machine.Loan T
     written = record (loan_as names ports out) { values = (change is_there.loan).values }
-
-    now : port_of out.publisher new.publishers ≡ Some after
-    now = same_set (at_number out.publisher) ports.publishers after whose is_there.there
-
-    out_slots : (other : ℕ) → (other ≡ out.publisher) ⊎ (other ≢ out.publisher)
-        → slots (out_of (port_of other ports.publishers)) ≡ slots (out_of (port_of other new.publishers))
-    out_slots other (inl same) =
-        ap (λ n. slots (out_of (port_of n ports.publishers))) same ∙ ap (λ port. slots (out_of port)) is_there.there
-        ∙ sym (slots_same out.slot change keeps whose.sender.uses.loans)
-        ∙ sym (ap (λ n. slots (out_of (port_of n new.publishers))) same ∙ ap (λ port. slots (out_of port)) now)
-    out_slots other (inr off) = ap (λ port. slots (out_of port)) (sym (other_found out.publisher other after ports.publishers off))
 
     here_now : loan_as names new out ≡ written
     here_now =
@@ -171,62 +162,15 @@ module _ {T U : Type 0} (names : Naming) (lent : List (ℕ × LentSlot)) (held :
           (all_then (IsEither loan out) (IsChanged loan written (loan_as names ports) (loan_as names new)) lent each each_either);
       once = stands.loans.once;
       all = λ other. stands.loans.all other ∙ slots_by (port_of other ports.publishers)
-          ∙ out_slots other (⊎_elim (λ same. inl same.1) (λ not. inr not.1) (eqb_tells other out.publisher))
+          ∙ rewritten_slots ports out.publisher out.slot whose is_there.there change keeps other
+          (⊎_elim (λ same. inl same.1) (λ not. inr not.1) (eqb_tells other out.publisher))
           ∙ sym (slots_by (port_of other new.publishers));
-    }
-
-    was : PublisherIs names ports service out.publisher whose
-    was = stands.publishers out.publisher whose is_there.there
-
-    port_after : PublisherStandsFor (names.message out.publisher) (names.reader out.publisher) ports.sizes.max_subscribers after was.0
-    port_after = record {
-      factory = was.2.factory;
-      stands = was.2.stands;
-      max_loaned_samples = was.2.max_loaned_samples;
-      allocation = was.2.allocation;
-      slots = was.2.slots;
-      room = was.2.room;
-      segments = was.2.segments;
-      last_sequence = was.2.last_sequence;
-      history = was.2.history;
-      once = was.2.once;
-      seen = was.2.seen;
-      connected = was.2.connected;
-      ties = was.2.ties;
-      blocked = was.2.blocked;
-      left = was.2.left;
-      named = subst (λ (slots : List ℕ). NamesSlots (names.message out.publisher) (record
-          (slots_of whose.sender) { loans = slots }) was.0.first was.0.next)
-          (sym (slots_same out.slot change keeps whose.sender.uses.loans)) was.2.named;
-      unit = was.2.unit;
-      most_segments = was.2.most_segments;
-      ample = was.2.ample;
-    }
-
-    boxes_after : MailboxesStandFor (names.message out.publisher) (names.reader out.publisher) names.subscriber after (service.mailboxes
-        (names.publisher out.publisher)) service.subscribers
-    boxes_after = record {
-      live = was.3.live;
-      ended = was.3.ended;
-      quiet = was.3.quiet;
-      others = was.3.others;
-      none = was.3.none;
-      known = was.3.known;
-      apart = was.3.apart;
-      led = was.3.led;
-      heard = was.3.heard;
-      read = was.3.read;
-      unmet = was.3.unmet;
-      once = was.3.once;
-      due = was.3.due;
     }
 
     pub written_stands : StandsFor names lent held buffer new (record service { loans = changed loan written service.loans })
     written_stands =
-        one_changed names names.message lent lent held buffer ports service out.publisher whose after was.0 service.publishers
-        (changed loan written service.loans) stands
-        is_there.there (λ other off. refl) was.1 (λ other off. refl) port_after boxes_after refl refl refl loans_after
-        (samples_kept out.publisher whose after ports is_there.there names held service.samples refl stands.samples)
+        rewritten_stands names lent held buffer ports service stands out.publisher out.slot whose is_there.there change keeps
+        (changed loan written service.loans) loans_after
 
 -- a loan of a domain changes, or nothing does
 abbrev pub written_if : {T U : Type 0} → Bool → LentSlot → PublisherPort T U → (Loan T U → Loan T U) → ServicePorts T U → ServicePorts T U

@@ -17,3 +17,4 @@ pub mod PutLaws
 pub mod PublisherUpdateLaws
 pub mod ComingLaws
 pub mod ComingPublisherLaws
+pub mod HeaderLaws

@@ -15,6 +15,7 @@ ghost use Rattle.iox_domain_values.specs.declared.degradation.DegradationCause.T
 ghost use Rattle.iox_machine.specs.Choices.{Handed, chosen_by};
 ghost use Rattle.iox_domain_machine.specs.Laws.{NewStands, SetMatches, FillMatches, DropMatches, ReadMatches, SequenceMatches};
 ghost use Rattle.iox_domain_machine.specs.Laws.{GiveUpMatches};
+ghost use Rattle.iox_domain_machine.specs.HeaderLaws.{HeaderMatches, UserHeaderStands};
 ghost use Rattle.iox_domain_machine.specs.ReleaseLaws.{ReleaseMatches};
 ghost use Rattle.iox_domain_machine.specs.LeaveLaws.{PublisherLeaveMatches, SubscriberLeaveMatches};
 ghost use Rattle.iox_domain_machine.specs.LendingLaws.{LendUninitMatches, LendMatches};
@@ -64,6 +65,18 @@ pub fn reading_matches<T: Default, U, B: Decides + Degrades, D: Degrades>()
 pub fn telling_a_sequence_number_matches<T: Default, U, B: Decides + Degrades, D: Degrades>()
     ensures { (handed : Handed B D) → SequenceMatches T U (chosen_by T.is_default (λ who. B.decides who)
         (λ who. B.degrades who) (λ who. D.degrades who) handed) }
+{}
+
+/// The user header of a loan is written, where its publisher passes a test: the ports stand for the service for which they stood. So it is
+/// where one changes behind a reference, which is written in any case.
+pub fn writing_a_user_header_stands<T, U>()
+    ensures { UserHeaderStands T U }
+{}
+
+/// A sample that goes by a number has a header, which tells the sequence number that the machine's sample has. It is told by the publisher
+/// that the machine has under the name that its sample tells.
+pub fn telling_a_header_matches<T, U>()
+    ensures { HeaderMatches T U }
 {}
 
 /// A send that waits ends, and as many are told to have taken its message. Where none waits, or the publisher left, nothing happens.
