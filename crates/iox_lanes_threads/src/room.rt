@@ -125,28 +125,38 @@ fn seat_subscriber(
     LaneSubscriber::new(share, board, place, port)
 }
 
+// What the publishers need to take their seats: for each a share of the words and what it is asked for, and room for all of them.
+struct PublisherNeeds {
+    shares: Vec<Share>,
+    writes: Vec<Move>,
+    seated: Vec<LanePublisher>,
+}
+
 // All publishers with their seats, in the room for them.
 fn seat_publishers(
     of: &Snapshot<Lanes>,
     board: u64,
-    mut shares: Vec<Share>,
-    mut writes: Vec<Move>,
     home: &mut WordSeat,
     sizes: TableSizes,
     lanes: Vec<PublisherLane>,
-    mut seated: Vec<LanePublisher>,
+    needs: PublisherNeeds,
 ) -> Vec<LanePublisher>
     requires lanes { (lanes.items ≡ of.now.value.publishers) × PublishersStand of.now.value 0 lanes.items }
     requires sizes { (sizes ≡ of.now.value.table.sizes) × IsSmall sizes × (home.old.table_id.words ≡ words_of sizes) }
     requires home { home.old.me ≡ (first_view of.now.value, []) }
-    requires shares { All (λ share. share ≡ home.old.table_id) shares.items }
-    requires enough { (length lanes.items ≡ length shares.items) × (length lanes.items ≡ length writes.items)
-        × All (HasRoom sizes) writes.items }
-    requires room { (seated.items ≡ []) × (length lanes.items ≤ vec_capacity seated) }
+    requires shares { All (λ share. share ≡ home.old.table_id) needs.shares.items }
+    requires enough { (length lanes.items ≡ length needs.shares.items) × (length lanes.items ≡ length needs.writes.items)
+        × All (HasRoom sizes) needs.writes.items }
+    requires room { (needs.seated.items ≡ []) × (length lanes.items ≤ vec_capacity needs.seated) }
     ensures seated { result.items ≡ opened_publishers board home.old.table_id of.now.value 0 lanes.items }
     ensures home { (home.new.table_id ≡ home.old.table_id)
         × (home.new.me ≡ (waits (length lanes.items) (subscribers_from of.now.value 0 of.now.value.subscribers), [])) }
 {
+    let PublisherNeeds {
+        mut shares,
+        mut writes,
+        mut seated,
+    } = needs;
     let mut rest = lanes.into_iter();
     while let Some(lane) = rest.next() {
         let Some(share) = shares.pop() else {
@@ -242,16 +252,12 @@ impl Room {
         let (publisher_lanes, subscriber_lanes) = lanes.into_ports();
         let publisher_count = publisher_lanes.len();
         let subscriber_count = subscriber_lanes.len();
-        let publishers = seat_publishers(
-            &of,
-            board,
-            publisher_shares,
+        let needs = PublisherNeeds {
+            shares: publisher_shares,
             writes,
-            &mut home,
-            sizes,
-            publisher_lanes,
-            publishers,
-        );
+            seated: publishers,
+        };
+        let publishers = seat_publishers(&of, board, &mut home, sizes, publisher_lanes, needs);
         let subscribers = seat_subscribers(
             &of,
             board,
