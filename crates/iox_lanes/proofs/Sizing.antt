@@ -1,5 +1,5 @@
 -- Lanes have the sizes that they were made of, and what laws say by those holds by what was agreed.
-use Rattle.std.proofs.Common.{ℕ, Bool, ◌≡◌, ◌+◌, ◌-◌, ◌*◌, ◌≤◌, List, [], ◌∷◌, true, false, length, get_or, slice_get, option_map}
+use Rattle.std.proofs.Common.{ℕ, Bool, ◌≡◌, ◌+◌, ◌-◌, ◌*◌, ◌<◌, ◌≤◌, ◌^◌, List, [], ◌∷◌, true, false, length, get_or, slice_get, option_map}
 use Rattle.std.proofs.Common.{unwrap_or, Option, Some, None, refl, sym, ◌∙◌, ap, subst, inl, inr, arith}
 use Rattle.std.proofs.lemmas.Option.{slice_get_within, slice_get-get_or}
 use Rattle.iox_domain_values.specs.declared.service_sizes.ServiceSizes.{ServiceSizes}
@@ -24,13 +24,13 @@ use Rattle.iox_lanes_machine.specs.declared.found.Found.{Found}
 use Rattle.iox_lanes_machine.specs.declared.sizes.LaneSizes.{LaneSizes}
 use Rattle.iox_lanes_machine.proofs.Fixed.{fixed_on, same_fixed, steps_fixed}
 use Rattle.iox_lanes_machine.proofs.FoundKeptWhole.{all_found}
-use Rattle.iox_lanes_machine.proofs.Paces.{IsSized, came_kept, loans_end_soon}
+use Rattle.iox_lanes_machine.proofs.Paces.{IsSized, came_kept, loans_end_soon, sends_end_soon}
 use Rattle.iox_lanes_machine.proofs.PermittedLoans.{loans_end_as_begun}
 use Rattle.iox_lanes_machine.proofs.Start.{listed_is}
 use Rattle.iox_lanes_machine.proofs.StartUses.{start_kept}
 use Rattle.iox_lanes_machine.proofs.TakenInPlaces.{takes_in}
 use Rattle.iox_lanes.specs.Finding.{WasFound}
-use Rattle.iox_lanes.specs.Sized.{most_waiting, most_at, AreAgreed, AreSized, AgreedLoansEndSoon, AgreedSlotsSuffice}
+use Rattle.iox_lanes.specs.Sized.{most_waiting, most_at, AreAgreed, AreSized, AgreedLoansEndSoon, AgreedSendsEndSoon, AgreedSlotsSuffice}
 
 -- each publisher keeps as many messages, and each subscriber may borrow as many samples, as these sizes say
 record Keeps (sizes : LaneSizes) (m : World) : Type 0 where
@@ -139,6 +139,20 @@ agreed_loans_end_soon = λ agreed publishers subscribers payload header begun is
     subst (λ (n : ℕ). steps ≤ 4 * n * (most_at agreed + 2) + 2) (is.are_agreed).as_many_subscribers
     (subst (λ (n : ℕ). steps ≤ 4 * (is.sizes).subscribers * (n + 2) + 2)
     (most_is agreed publishers subscribers payload header is.sizes is.are_agreed) done)
+
+pub agreed_sends_end_soon : AgreedSendsEndSoon
+unfolding came_on
+agreed_sends_end_soon = λ agreed publishers subscribers payload header begun is few_words schedule made m runs place loan entries fit few
+    inside.
+    let steps : ℕ = 1 + own_steps (happens m (Publisher place) (Begin (call.Send loan))) place entries + 1 in
+    let words : (is.sizes).user_header_words ≡ header = (is.are_agreed).user_header in
+    let done : steps ≤ 4 * (is.sizes).subscribers * ((is.sizes).buffer + (is.sizes).most_borrowed + 3) + (is.sizes).user_header_words + 7 =
+    sends_end_soon m (came_on is.sizes begun schedule made m is.found runs) place loan entries
+    (subst (λ (n : ℕ). n < 2 ^ 61) (sym words) few_words) fit few inside in
+    subst (λ (n : ℕ). steps ≤ 4 * n * (most_at agreed + 3) + header + 7) (is.are_agreed).as_many_subscribers
+    (subst (λ (n : ℕ). steps ≤ 4 * (is.sizes).subscribers * (n + 3) + header + 7)
+    (most_is agreed publishers subscribers payload header is.sizes is.are_agreed)
+    (subst (λ (n : ℕ). steps ≤ 4 * (is.sizes).subscribers * ((is.sizes).buffer + (is.sizes).most_borrowed + 3) + n + 7) words done))
 
 -- a step that fits
 went_fixed : (m : World) (party : Party) (step : Move) (over : Bool) → ends m party step ≡ over → fits m party step ≡ true

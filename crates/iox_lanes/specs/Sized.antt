@@ -66,6 +66,18 @@ AgreedLoansEndSoon = (agreed : ServiceSizes) (publishers subscribers payload_cou
     → IsInCall (led (happens m (Publisher place) (Begin call.LoanUninit)) entries) place m.moments
     → 1 + own_steps (happens m (Publisher place) (Begin call.LoanUninit)) place entries + 1 ≤ 4 * subscribers * (most_at agreed + 2) + 2
 
+-- Nor does a send of such lanes take more than 4 * S * (B + R + 3) + W + 7 steps, where W words lie between the three of a header and the
+-- payload, fewer than 2^61; as long as at most 2^63 steps were made.
+abbrev pub AgreedSendsEndSoon : Type 0
+AgreedSendsEndSoon = (agreed : ServiceSizes) (publishers subscribers payload_count header_count : ℕ) (begun : World)
+    → AreSized agreed publishers subscribers payload_count header_count begun → header_count < 2 ^ 61
+    → (schedule : List Entry) (made : ℕ) (m : World) → RunsTo begun schedule made m
+    → (place loan : ℕ) (entries : List Entry) → fits m (Publisher place) (Begin (call.Send loan)) ≡ true
+    → (led (happens m (Publisher place) (Begin (call.Send loan))) entries).moments ≤ 2 ^ 63
+    → IsInCall (led (happens m (Publisher place) (Begin (call.Send loan))) entries) place m.moments
+    → 1 + own_steps (happens m (Publisher place) (Begin (call.Send loan))) place entries + 1
+    ≤ 4 * subscribers * (most_at agreed + 3) + header_count + 7
+
 -- And such a loan ends with a slot, if as it began fewer were out than may be and the publisher had as many slots as it can have a use
 -- for; as long as at most 2^63 steps were made, and for slots that have numbers below 2^64.
 abbrev pub AgreedSlotsSuffice : Type 0

@@ -1,6 +1,6 @@
 //! What holds of lanes and of the domain beside them.
 ghost use Rattle.iox_lanes.specs.Joined.{JoinedStays};
-ghost use Rattle.iox_lanes.specs.Sized.{AgreedLoansEndSoon, AgreedSlotsSuffice};
+ghost use Rattle.iox_lanes.specs.Sized.{AgreedLoansEndSoon, AgreedSendsEndSoon, AgreedSlotsSuffice};
 
 /// Lanes that go with a domain still do after a step: what [`into_lanes`](crate::into_lanes) says of the lanes that it gives
 /// holds until they become a domain again. That a step leaves what this takes, `Lanes::step` and `Lanes::run` say.
@@ -15,7 +15,14 @@ pub fn agreed_loans_end_soon()
     ensures { AgreedLoansEndSoon }
 {}
 
-/// Such a loan ends with a slot, if as it began fewer loans were out than may be, and the publisher had S · (B + R) slots, one for
+/// A send of theirs takes at most 4 · S · (B + R + 3) + W + 7 steps of its publisher, where W words lie between the three of a header and
+/// the payload: those of the user header, and the number where messages have numbers. So it is for W below 2^61, as long as at most 2^63
+/// steps were made.
+pub fn agreed_sends_end_soon()
+    ensures { AgreedSendsEndSoon }
+{}
+
+/// A loan of theirs ends with a slot, if as it began fewer loans were out than may be, and the publisher had S · (B + R) slots, one for
 /// each message of the agreed history, and one for each loan; as long as at most 2^63 steps were made, and for slots with numbers
 /// below 2^64.
 pub fn agreed_slots_suffice()
