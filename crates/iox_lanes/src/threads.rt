@@ -21,7 +21,7 @@ pub mod ending;
 pub mod opening;
 pub mod threads;
 
-pub use ending::end;
+pub use ending::{end, end_together};
 pub use iox_lanes_threads::{EndError, OpenError};
 pub use opening::open_threads;
 pub use threads::{DomainBoard, DomainThreads};

@@ -1,12 +1,55 @@
 //! From threads back to a domain.
-ghost use Rattle.std.specs.Prelude.{◌≡◌, IfOk, IfErr};
-ghost use Rattle.iox_lanes_threads.specs.Ending.{AreAll};
+ghost use Rattle.std.specs.Prelude.{◌≡◌, ◌++◌, true, false, IfOk, IfErr, map};
+ghost use Rattle.iox_lanes_threads_rule.specs.Gathered.{Agree};
+ghost use Rattle.iox_lanes_threads.specs.Ending.{AreAll, ArePublishersOf, AreSubscribersOf};
 ghost use Rattle.iox_lanes.specs.Emptied.{IsEnded};
 
 use crate::threads::emptying::{forget_all, go_on_all};
 use crate::threads::threads::{DomainBoard, DomainThreads};
 use iox_domain::Domain;
-use iox_lanes_threads::{Board, EndError, LanePublisher, LaneSubscriber, are_all};
+use iox_lanes_threads::{EndError, LanePublisher, LaneSubscriber, are_all};
+
+// Whether these are all ports of a domain's board.
+fn has_all<T, U, B, D>(
+    board: &DomainBoard<T, U, B, D>,
+    publishers: &[LanePublisher],
+    subscribers: &[LaneSubscriber],
+) -> bool
+    ensures all { result ≡ true → AreAll board.now.board publishers.now subscribers.now }
+    ensures lacks { result ≡ false → AreAll board.now.board publishers.now subscribers.now → ⊥ }
+{
+    are_all(&board.board, publishers, subscribers)
+}
+
+// Some ports that aren't all those of a board: they come back.
+fn not_all<T, U, B, D>(
+    board: DomainBoard<T, U, B, D>,
+    publishers: Vec<LanePublisher>,
+    subscribers: Vec<LaneSubscriber>,
+) -> (EndError, DomainThreads<T, U, B, D>)
+    ensures { result.1 ≡ record { board = board; publishers = publishers; subscribers = subscribers } }
+{
+    let threads = DomainThreads {
+        board,
+        publishers,
+        subscribers,
+    };
+    (EndError::NotAllPorts, threads)
+}
+
+// A domain whose publishers have these numbers, by the places of their ports: without messages, and each goes on behind the number that its
+// port gave last.
+fn emptied<T: Copy, U: Copy, B, D>(
+    mut domain: Domain<T, U, B, D>,
+    numbers: &[u64],
+    publishers: &[LanePublisher],
+) -> Domain<T, U, B, D>
+    ensures { IsEnded numbers.now publishers.now domain result }
+{
+    go_on_all(&mut domain.state.ports.publishers, numbers, publishers);
+    forget_all(&mut domain.state.ports.publishers, numbers);
+    domain
+}
 
 /// Ends all ports of a domain's board: the domain has the same ports again, and no messages. It is as it was when its lanes
 /// began, but nothing waits at a connection of its publishers, their histories are empty, and their numbers go on behind those that their
@@ -22,25 +65,44 @@ pub fn end<T: Copy, U: Copy, B, D>(
     ensures refused { IfErr result (λ refused. (AreAll board.board publishers.items subscribers.items → ⊥)
         × (refused.1 ≡ record { board = board; publishers = publishers; subscribers = subscribers })) }
 {
+    if !has_all(&board, &publishers, &subscribers) {
+        return Err(not_all(board, publishers, subscribers));
+    }
     let DomainBoard {
-        board,
-        mut domain,
+        board: _,
+        domain,
         publishers: numbers,
     } = board;
-    if !are_all(&board, &publishers, &subscribers) {
-        let board = DomainBoard {
-            board,
-            domain,
-            publishers: numbers,
-        };
-        let threads = DomainThreads {
-            board,
-            publishers,
-            subscribers,
-        };
-        return Err((EndError::NotAllPorts, threads));
+    Ok(emptied(domain, &numbers, &publishers))
+}
+
+/// Ends all ports of a domain's board as [`end`] does, where each port that the board knows by its number steps on the board's own words:
+/// so it is where no two boards have one number. Then what a subscriber has read of a sample that it has still is what its publisher
+/// knows of the slot, as long as the ports know that no write position came to 2^64 - 1. This port's own.
+pub fn end_together<T: Copy, U: Copy, B, D>(
+    board: DomainBoard<T, U, B, D>,
+    publishers: Vec<LanePublisher>,
+    subscribers: Vec<LaneSubscriber>,
+) -> Result<Domain<T, U, B, D>, (EndError, DomainThreads<T, U, B, D>)>
+    requires publishers { ArePublishersOf board.board publishers.items }
+    requires subscribers { AreSubscribersOf board.board subscribers.items }
+    ensures ended { IfOk result (λ domain. AreAll board.board publishers.items subscribers.items
+        × IsEnded board.publishers publishers.items board.domain domain) }
+    ensures agree { IfOk result (λ _. Agree (map (λ p. p.own.port) publishers.items ++ map (λ s. s.own.port) subscribers.items)) }
+    ensures refused { IfErr result (λ refused. (AreAll board.board publishers.items subscribers.items → ⊥)
+        × (refused.1 ≡ record { board = board; publishers = publishers; subscribers = subscribers })) }
+{
+    if !has_all(&board, &publishers, &subscribers) {
+        return Err(not_all(board, publishers, subscribers));
     }
-    go_on_all(&mut domain.state.ports.publishers, &numbers, &publishers);
-    forget_all(&mut domain.state.ports.publishers, &numbers);
-    Ok(domain)
+    let DomainBoard {
+        board,
+        domain,
+        publishers: numbers,
+    } = board;
+    let domain = emptied(domain, &numbers, &publishers);
+    match iox_lanes_threads::end_together(board, publishers, subscribers) {
+        Ok(_) => Ok(domain),
+        Err(_) => unreachable!(),
+    }
 }

@@ -1,5 +1,6 @@
 //! From the lanes of a domain to threads.
 ghost use Rattle.std.specs.Prelude.{◌≡◌, IfOk, IfErr};
+ghost use Rattle.iox_lanes_threads.specs.Ending.{ArePublishersOf, AreSubscribersOf};
 ghost use Rattle.iox_lanes_threads.specs.Ports.{MayOpen};
 ghost use Rattle.iox_lanes_threads.specs.Threads.{RefusesToOpen};
 ghost use Rattle.iox_lanes.specs.Opened.{IsOpened};
@@ -17,8 +18,8 @@ use std::alloc::Global;
 ///
 /// The board has this number, by which it knows its ports: whoever opens two gives them two. The lanes come back as they were
 /// where a party is inside a call (`PartyInCall`), a loan or a sample is out (`SamplesOut`), more than 2^63 steps were made
-/// (`TooManySteps`), or an allocation fails (`OutOfMemory`), in this order. The ports take no memory from here on. This port's
-/// own.
+/// (`TooManySteps`), or an allocation fails (`OutOfMemory`), in this order. The ports take no memory from here on, and step on the
+/// board's own words, as `end_together` asks. This port's own.
 pub fn open_threads<T: Words, U: Words>(
     alloc: Global,
     board: u64,
@@ -26,6 +27,8 @@ pub fn open_threads<T: Words, U: Words>(
 ) -> Result<DomainThreads<T, U>, (OpenError, DomainLanes<T, U>)>
     ensures opened { IfOk result (λ threads. MayOpen lanes.lanes.lanes
         × IsOpened board lanes.lanes.lanes lanes.domain lanes.publishers.items threads) }
+    ensures own { IfOk result (λ threads. ArePublishersOf threads.board.board threads.publishers.items
+        × AreSubscribersOf threads.board.board threads.subscribers.items) }
     ensures refused { IfErr result (λ refused. RefusesToOpen refused.0 lanes.lanes.lanes × (refused.1 ≡ lanes)) }
 {
     let DomainLanes {
