@@ -1,6 +1,6 @@
 //! Lanes whose calls go in turn, and which record, for proofs alone, what is asked and answered.
 ghost use Rattle.std.specs.Prelude.{ℕ, ◌≡◌, ◌+◌, ◌<◌, ◌∷◌, ◌++◌, [], ⊤, suc, true, false, length, drop};
-ghost use Rattle.std.specs.Prelude.{None, Some, MatchBool, MatchOption, MatchResult, IfOk, IfSome};
+ghost use Rattle.std.specs.Prelude.{None, Some, MatchBool, MatchOption, MatchResult, IfOk, IfSome, OnErr};
 ghost use Rattle.iox_command.specs.NegotiateBase.DescribeBase.declared.message_type.MessageTypeDetails.{MessageTypeDetails};
 ghost use Rattle.iox_command.specs.declared.command.Command.TheVariants as command;
 ghost use Rattle.iox_command.specs.declared.reply.Reply.TheVariants as reply;
@@ -24,6 +24,7 @@ use iox_lanes_base::calls::Receipt;
 use iox_lanes_machine::{LaneSizes, Lanes};
 use iox_lanes_parties::publisher::LoanAnswer;
 use iox_lanes_parties::{Answer, Call, Party, SendAnswer};
+use iox_queues_base::Words;
 use std::alloc::{AllocError, Global};
 use std::marker::Model;
 
@@ -230,6 +231,38 @@ impl LanesInTurn {
                 false
             }
         }
+    }
+
+    /// A loan's publisher writes this value into it, and keeps this user header for its send: as `write` of their words. It fails where an
+    /// allocation fails, and nothing changes then.
+    /// Example: `let is_written = lanes.write_values(alloc, &loan, &value, &user_header)?;`
+    pub fn write_values<T: Words, U: Words>(
+        &mut self,
+        alloc: Global,
+        loan: &TurnLoan,
+        value: &T,
+        user_header: &U,
+    ) -> Result<bool, AllocError>
+        requires { at loan.now.number.value self.old.lent ≡ Some (record { publisher = loan.now.publisher; slot = loan.now.slot }) }
+        ensures written { IfOk result (λ done. MatchBool done
+            (self.new ≡ record (turned (command.Fill loan.now.number.value (T.parts value.now ∷ [])) reply.Done self.old) {
+              written = loan.now.number.value ∷ self.old.written;
+            })
+            (IsUnanswered ((T.WORDS ≡ self.old.sizes.payload_words)
+            × (U.WORDS ≡ self.old.sizes.user_header_words)) self.old self.new)) }
+        ensures stuck { IfOk result (λ done. self.old.stuck ≡ true → done ≡ false) }
+        ensures same { OnErr result (self.new ≡ self.old) }
+    {
+        let write = Call::write(alloc, loan.slot, value, user_header)?;
+        let Call::Write {
+            payload,
+            user_header,
+            ..
+        } = write
+        else {
+            unreachable!()
+        };
+        Ok(self.write(loan, payload, user_header))
     }
 
     /// A loan is sent, and goes by no number then: the command `Send`. It fits where the loan was written.
