@@ -31,6 +31,7 @@ new_stands T U buffer number name settings = record {
   listed = λ number port is. never_some port is;
   present = λ place member is. never_some member (sym (same_at None settings.max_publishers place) ∙ is);
   gone_publishers = λ number publisher gone is. never_some publisher is;
+  numbered = λ number port is. never_some port is;
   once = λ number. omega arith;
   once_subscribers = λ number. omega arith;
   keyed = λ number port is. never_some port is;

@@ -140,7 +140,7 @@ module _ {T U : Type 0} (names : Naming) (message : ℕ → ℕ → ℕ) (lent a
       (other_boxes : (other : ℕ) → other ≢ names.publisher number → mailboxes other ≡ service.mailboxes other)
       (same_boxes : (one other : ℕ) → is_some (mailboxes one other) ≡ is_some (service.mailboxes one other))
       (same_subscribers : AreButHeld old.subscribers subscribers)
-      (once : (other : ℕ) → how_often other (keys_of subscribers) ≤ 1) where
+      (once : (other : ℕ) → how_often other (keys_of subscribers) ≤ 1) (same_number : after.number ≡ port.number) where
     there_now : port_of number new.publishers ≡ Some after
     there_now = same_set (at_number number) old.publishers after port there
 
@@ -187,6 +187,13 @@ module _ {T U : Type 0} (names : Naming) (message : ℕ → ℕ → ℕ) (lent a
         let before = stands.listed number port there (sym same_stands ∙ standing) in
         (before.0, ap (λ place. get_or old.publisher_list.places place None) same_place ∙ before.1, before.2)))
     listed same_stands same_place other found (inr off) it = stands.listed other found (sym (elsewhere other off) ∙ it)
+
+    own_number : (other : ℕ) (found : PublisherPort T U) → (other ≡ number) ⊎ (other ≢ number)
+        → port_of other new.publishers ≡ Some found → found.number ≡ other
+    own_number other found (inl same) it =
+        ap (λ (one : PublisherPort T U). one.number) (is_after other found same it)
+        ∙ (same_number ∙ (stands.numbered number port there ∙ sym same))
+    own_number other found (inr off) it = stands.numbered other found (sym (elsewhere other off) ∙ it)
 
     keyed : IsKeyed number after old.subscribers → (other : ℕ) (found : PublisherPort T U)
         → (other ≡ number) ⊎ (other ≢ number) → port_of other new.publishers ≡ Some found → IsKeyed other found old.subscribers
@@ -251,6 +258,7 @@ module _ {T U : Type 0} (names : Naming) (message : ℕ → ℕ → ℕ) (lent a
       listed = is_listed;
       present = is_present;
       gone_publishers = λ other one none it. gone other one (cases_eq other number) none it;
+      numbered = λ other found it. own_number other found (cases_eq other number) it;
       once = λ other. subst (λ keys. how_often other keys ≤ 1) (sym (keys-set_value (at_number number) old.publishers after))
           (stands.once other);
       once_subscribers = once;
@@ -314,14 +322,14 @@ module _ {T U : Type 0} (names : Naming) (message : ℕ → ℕ → ℕ) (lent a
       → PublisherStandsFor (message number) (names.reader number) old.sizes.max_subscribers after publisher
       → MailboxesStandFor (message number) (names.reader number) names.subscriber after (service.mailboxes (names.publisher number))
       service.subscribers
-      → after.stands ≡ port.stands → after.place ≡ port.place → after.readers ≡ port.readers
+      → after.stands ≡ port.stands → after.place ≡ port.place → after.number ≡ port.number → after.readers ≡ port.readers
       → LoansStandFor (record names { message = message }) (with_one number after old) after_lent loans
       → SamplesStandFor (record names { message = message }) (with_one number after old) held service.samples
       → StandsFor (record names { message = message }) after_lent held buffer (with_one number after old)
       (record service { publishers = publishers; loans = loans })
-  one_changed stands there others at_it at_others is boxes same_stands same_place same_readers =
+  one_changed stands there others at_it at_others is boxes same_stands same_place same_number same_readers =
       all_changed names message lent after_lent held held buffer old service number port after publisher publishers loans service.samples
       service.mailboxes old.subscribers stands there others at_it at_others is boxes (λ other off. refl) (λ one other. refl)
-      (λ other. refl) stands.once_subscribers same_stands same_place
+      (λ other. refl) stands.once_subscribers same_number same_stands same_place
       (λ index to read attached. stands.keyed number port there index to (sym (ap (λ readers. get_or readers index None) same_readers)
       ∙ read) attached)

@@ -362,19 +362,19 @@ module _ {T U : Type 0} (types : MessageTypeDetails) (choices : Choices T) (buff
 
         abbrev there_ports : ServicePorts T U
         there_ports = listed_ports names lent held buffer old service name place first one stands fresh named_so next_none next_once
-            found_place.1 found_place.0 refl refl refl refl refl first_is first_boxes led_apart
+            found_place.1 found_place.0 refl refl refl refl refl refl first_is first_boxes led_apart
 
         abbrev there_names : Naming
         there_names = listed_names names lent held buffer old service name place first one stands fresh named_so next_none next_once
-            found_place.1 found_place.0 refl refl refl refl refl first_is first_boxes led_apart
+            found_place.1 found_place.0 refl refl refl refl refl refl first_is first_boxes led_apart
 
         abbrev there_service : Service T
         there_service = listed_service names lent held buffer old service name place first one stands fresh named_so next_none next_once
-            found_place.1 found_place.0 refl refl refl refl refl first_is first_boxes led_apart
+            found_place.1 found_place.0 refl refl refl refl refl refl first_is first_boxes led_apart
 
         there_stands : StandsFor there_names lent held buffer there_ports there_service
         there_stands = listed_stands names lent held buffer old service name place first one stands fresh named_so next_none next_once
-            found_place.1 found_place.0 refl refl refl refl refl first_is first_boxes led_apart
+            found_place.1 found_place.0 refl refl refl refl refl refl first_is first_boxes led_apart
 
         well_first : IsTiedWell (next + 1) old.subscriber_list.places first
         well_first = new_well (next + 1) old.subscriber_list.places first refl refl (omega (arith, roomy.tied.places))

@@ -56,7 +56,8 @@ module _ {T U : Type 0} (names : Naming) (lent : List (ℕ × LentSlot)) (held :
     (none_there : port_of old.next_port old.publishers ≡ None)
     (next_once : how_often old.next_port (keys_of old.publishers) ≡ 0)
     (free : get_or old.publisher_list.places place None ≡ None) (within : place < length old.publisher_list.places)
-    (port_stands : port.stands ≡ true) (port_place : port.place ≡ place) (no_loans : port.sender.uses.loans ≡ [])
+    (port_stands : port.stands ≡ true) (port_place : port.place ≡ place) (port_number : port.number ≡ old.next_port)
+    (no_loans : port.sender.uses.loans ≡ [])
     (no_connections : port.sender.uses.connections ≡ []) (no_readers : port.readers ≡ [])
     (is : PublisherStandsFor (names.message old.next_port) (names.reader old.next_port) old.sizes.max_subscribers port one)
     (boxes : MailboxesStandFor (names.message old.next_port) (names.reader old.next_port) names.subscriber port (service.mailboxes name)
@@ -199,6 +200,12 @@ module _ {T U : Type 0} (names : Naming) (lent : List (ℕ × LentSlot)) (held :
             ∙ before.1,
         before.2,
       )
+
+  own_number : (other : ℕ) (found : PublisherPort T U) → (other ≡ next) ⊎ (other ≢ next)
+      → port_of other listed_ports.publishers ≡ Some found → found.number ≡ other
+  own_number other found (inl here) it =
+      ap (λ (one_port : PublisherPort T U). one_port.number) (own other found here it) ∙ (port_number ∙ sym here)
+  own_number other found (inr off) it = stands.numbered other found (sym (elsewhere other off) ∙ it)
 
   -- who is at a place of the list is who came, or was there
   at_place_now : (at_place : ℕ) (member : Member PublisherEntry) → get_or new_places at_place None ≡ Some member
@@ -352,6 +359,7 @@ module _ {T U : Type 0} (names : Naming) (lent : List (ℕ × LentSlot)) (held :
           (before.0, found_still member.value.publisher before.0 before.1, before.2, before.3)
     ];
     gone_publishers = λ other found none it. gone other found (cases_eq other next) none it;
+    numbered = λ other found it. own_number other found (cases_eq other next) it;
     once = λ other. elim (cases_eq other next) [
       | inl here ↦ omega (
         arith,

@@ -193,7 +193,7 @@ module _ {T U : Type 0} (names : Naming) (lent : List (ℕ × LentSlot)) (held :
       one_changed names names.message lent
       (removed loan lent) held buffer ports service out.publisher whose after was.0 service.publishers
       (removed loan service.loans) stands
-      there.there (λ other off. refl) was.1 (λ other off. refl) port_after boxes_after refl refl refl loans_after
+      there.there (λ other off. refl) was.1 (λ other off. refl) port_after boxes_after refl refl refl refl loans_after
       (samples_kept out.publisher whose after ports there.there names held service.samples refl stands.samples)
 
   pub gave_up_stands : IsSound ports

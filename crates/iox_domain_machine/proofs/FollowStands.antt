@@ -217,6 +217,13 @@ module _ {T U : Type 0} (names : Naming) (lent : List (ℕ × LentSlot)) (held :
           stands.gone_publishers other one (sym (elsewhere other off) ∙ none)
           (sym (at_others (names.publisher other) (apart_name other off)) ∙ it)
 
+      own_number : (other : ℕ) (found : PublisherPort T U) → (other ≡ number) ⊎ (other ≢ number)
+          → port_of other new.publishers ≡ Some found → found.number ≡ other
+      own_number other found (inl same) it =
+          ap (λ (one : PublisherPort T U). one.number) (is_after other found same it)
+          ∙ (ap (λ (one : PublisherPort T U). one.number) followed.only ∙ (stands.numbered number port there ∙ sym same))
+      own_number other found (inr off) it = stands.numbered other found (sym (elsewhere other off) ∙ it)
+
       keyed : (other : ℕ) (found : PublisherPort T U) → (other ≡ number) ⊎ (other ≢ number) → port_of other new.publishers ≡ Some found
           → IsKeyed other found old.subscribers
       keyed other found (inl same) it =
@@ -303,6 +310,7 @@ module _ {T U : Type 0} (names : Naming) (lent : List (ℕ × LentSlot)) (held :
             let before = stands.present place member is in
             present member.value.publisher place before.0 (cases_eq member.value.publisher number) before.1 before.2 before.3;
         gone_publishers = λ other one none it. gone other one (cases_eq other number) none it;
+        numbered = λ other found it. own_number other found (cases_eq other number) it;
         once = λ other. subst (λ keys. how_often other keys ≤ 1) (sym (keys-set_value (at_number number) old.publishers after))
             (stands.once other);
         once_subscribers = stands.once_subscribers;

@@ -188,7 +188,7 @@ module _ {T U : Type 0} (types : MessageTypeDetails) (choices : Choices T) (buff
             (concluded_stands port (names.message number) (names.reader number) old.sizes.max_subscribers was.0 was.2)
             (concluded_boxes port (names.message number) (names.reader number) names.subscriber
             (service.mailboxes name) service.subscribers was.3)
-            refl refl refl
+            refl refl refl refl
             (loans_kept number port after old there names lent service.loans refl stands.loans)
             (samples_kept number port after old there names held service.samples refl stands.samples)),
       )

@@ -128,9 +128,6 @@ header_matches T U names lent held buffer ports service number taken stands held
         header = header_of port message;
         found = found;
         sequence = sym (ap (option_and_then (λ (one : Message T U). one.sequence)) is);
-        port = port;
-        there = there;
-        whose = refl;
-        named = refl;
+        publisher = ap names.publisher (stands.numbered taken.publisher port there);
       },
     )

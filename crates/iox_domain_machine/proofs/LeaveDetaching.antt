@@ -138,7 +138,7 @@ module _ {T U : Type 0} (names : Naming) (lent : List (ℕ × LentSlot)) (held :
         once = was.3.once;
         due = was.3.due;
       })
-      (λ other off. refl) (λ one other. refl) (λ other. refl) stands.once_subscribers refl refl keyed_still
+      (λ other off. refl) (λ one other. refl) (λ other. refl) stands.once_subscribers refl refl refl keyed_still
       (loans_kept number port after old there names lent service.loans refl stands.loans)
       (samples_kept number port after old there names held service.samples refl stands.samples)
 
@@ -168,6 +168,7 @@ module _ {T U : Type 0} (names : Naming) (lent : List (ℕ × LentSlot)) (held :
       (left_boxes port ends parted silent (names.message number) (names.reader number) names.subscriber
       (service.mailboxes (names.publisher number)) service.subscribers before.3)
       (λ other off. refl) (λ one other. refl) (λ other. refl) stands.once_subscribers
+      (ap (λ (one : PublisherPort T U). one.number) (ended_parts index port).same)
       (ap (λ (one : PublisherPort T U). one.stands) (ended_parts index port).same)
       (ap (λ (one : PublisherPort T U). one.place) (ended_parts index port).same)
       (λ i to reads attached. stands.keyed number port there i to (still_read port ends parted silent i to reads) attached)

@@ -252,6 +252,7 @@ module _ {T U : Type 0} (names : Naming) (lent : List (ℕ × LentSlot)) (held :
     listed = stands.listed;
     present = stands.present;
     gone_publishers = stands.gone_publishers;
+    numbered = stands.numbered;
     once = stands.once;
     once_subscribers = λ other. subst (λ keys. how_often other keys ≤ 1)
         (sym (keys-set_value (at_number number) old.subscribers left_port)) (stands.once_subscribers other);

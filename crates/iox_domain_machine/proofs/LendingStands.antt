@@ -225,4 +225,4 @@ module _ {T U : Type 0} (names : Naming) (lent : List (ℕ × LentSlot)) (held :
         (old.mailboxes (names.publisher number)) old.subscribers) (sym here)
         (boxes_now (names.message number) (names.reader number) ports.sizes.max_subscribers port was.0 was.2 free slot values unused room
         segments first names.subscriber (old.mailboxes (names.publisher number)) old.subscribers was.3))
-        refl refl refl loans_now samples_now
+        refl refl refl refl loans_now samples_now

@@ -125,7 +125,7 @@ module _ {T U : Type 0} (names : Naming) (lent : List (ℕ × LentSlot)) (held :
       (same_boxes name (names.subscriber number) box service (ap is_some box_there)) same_subscribers
       (λ other. subst (λ keys. how_often other keys ≤ 1) (sym (keys-set_value (at_number number) old.subscribers holder))
       (stands.once_subscribers other))
-      refl refl (stands.keyed giver.publisher publisher there) loans_after
+      refl refl refl (stands.keyed giver.publisher publisher there) loans_after
       (samples_after names held old service.samples sample giver publisher number port message more stands.samples there found waits
       (was.3.once giver.index message.slot) free reads)
 

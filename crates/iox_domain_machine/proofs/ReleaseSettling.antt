@@ -82,6 +82,7 @@ module _ {T U : Type 0} (names : Naming) (lent : List (ℕ × LentSlot)) (held :
       listed = stands.listed;
       present = stands.present;
       gone_publishers = stands.gone_publishers;
+      numbered = stands.numbered;
       once = stands.once;
       once_subscribers = λ other.
           let before = stands.once_subscribers other in omega (arith, before, often_gone (at_number number) other ports.subscribers);

@@ -387,7 +387,7 @@ module _ {T U : Type 0} (names : Naming) (lent : List (ℕ × LentSlot)) (held :
         (same_boxes gone.publisher gone.subscriber given service (ap is_some box_there)) same_subscribers
         (λ other. subst (λ keys. how_often other keys ≤ 1) (sym (keys-set_value (at_number taken.subscriber) old.subscribers less))
         (stands.once_subscribers other))
-        refl refl (stands.keyed taken.publisher it.port it.there) loans_after samples_after
+        refl refl refl (stands.keyed taken.publisher it.port it.there) loans_after samples_after
 
     abbrev settled_ports : ServicePorts T U
     settled_ports = record new { publishers = publishers.settled taken.publisher new.publishers }

@@ -98,5 +98,5 @@ module _ {T U : Type 0} (names : Naming) (lent : List (ℕ × LentSlot)) (held :
       → StandsFor names lent held buffer (with_one number after ports) (record service { loans = loans })
   rewritten_stands loans same_loans =
       one_changed names names.message lent lent held buffer ports service number port after was.0 service.publishers loans stands there
-      (λ other off. refl) was.1 (λ other off. refl) port_after boxes_after refl refl refl same_loans
+      (λ other off. refl) was.1 (λ other off. refl) port_after boxes_after refl refl refl refl same_loans
       (samples_kept number port after ports there names held service.samples refl stands.samples)

@@ -218,6 +218,7 @@ module _ {T U : Type 0} (names : Naming) (lent : List (ℕ × LentSlot)) (held :
         let before = stands.present place member listed_there in
         present member.value.publisher place before.0 (cases_eq member.value.publisher number) before.1 before.2 before.3;
     gone_publishers = λ other publisher none it. gone other publisher (cases_eq other number) none it;
+    numbered = λ other found it. stands.numbered other found (was_there other found (cases_eq other number) it);
     once = λ other. let before = stands.once other in omega (arith, before, often_gone (at_number number) other ports.publishers);
     once_subscribers = stands.once_subscribers;
     keyed = λ other found it. stands.keyed other found (was_there other found (cases_eq other number) it);

@@ -517,7 +517,7 @@ module _ {T U : Type 0} (names : Naming) (lent : List (ℕ × LentSlot)) (held_s
     pub joined_stands : StandsFor (record names { reader = reader }) lent held_so buffer (with_one number joined old) service_after
     joined_stands =
         publisher_changed names reader lent held_so buffer old service number port joined service_after.mailboxes stands there
-        reads_other made.stands (ap (λ (it : PublisherPort T U). it.place) is)
+        reads_other made.stands (ap (λ (it : PublisherPort T U). it.place) is) (ap (λ (it : PublisherPort T U). it.number) is)
         (subst (λ read. PublisherStandsFor (names.message number) read old.sizes.max_subscribers joined was.0) (sym reads_at)
         (subst (λ (it : PublisherPort T U). PublisherStandsFor (names.message number) reader_here old.sizes.max_subscribers it was.0)
         (sym is) port_after))
@@ -573,7 +573,7 @@ module _ {T U : Type 0} (names : Naming) (lent : List (ℕ × LentSlot)) (held_s
       let same = before.2 in
       let boxes_were = before.3 in
       publisher_changed names names.reader lent held_so buffer old service number port now_read service.mailboxes stands there
-      (λ other off. refl) refl refl
+      (λ other off. refl) refl refl refl
       (record {
         factory = same.factory;
         stands = same.stands;

@@ -50,7 +50,7 @@ module _ {T U : Type 0} (names : Naming) (reader : ℕ → ℕ → ℕ) (lent : 
       (names.publisher number) was.0 service.publishers stands.named_publishers was.1) (sym same)
 
   module _ (others : (other : ℕ) → other ≢ number → reader other ≡ names.reader other)
-      (same_stands : after.stands ≡ port.stands) (same_place : after.place ≡ port.place)
+      (same_stands : after.stands ≡ port.stands) (same_place : after.place ≡ port.place) (same_number : after.number ≡ port.number)
       (is : PublisherStandsFor (names.message number) (reader number) old.sizes.max_subscribers after was.0)
       (boxes : MailboxesStandFor (names.message number) (reader number) names.subscriber after (mailboxes (names.publisher number))
       service.subscribers)
@@ -86,6 +86,13 @@ module _ {T U : Type 0} (names : Naming) (reader : ℕ → ℕ → ℕ) (lent : 
         let before = stands.listed number port there (sym same_stands ∙ standing) in
         (before.0, ap (λ place. get_or old.publisher_list.places place None) same_place ∙ before.1, before.2)))
     listed other found (inr off) it = stands.listed other found (sym (elsewhere other off) ∙ it)
+
+    own_number : (other : ℕ) (found : PublisherPort T U) → (other ≡ number) ⊎ (other ≢ number)
+        → port_of other new.publishers ≡ Some found → found.number ≡ other
+    own_number other found (inl same) it =
+        ap (λ (one : PublisherPort T U). one.number) (is_after other found same it)
+        ∙ (same_number ∙ (stands.numbered number port there ∙ sym same))
+    own_number other found (inr off) it = stands.numbered other found (sym (elsewhere other off) ∙ it)
 
     keyed : (other : ℕ) (found : PublisherPort T U) → (other ≡ number) ⊎ (other ≢ number) → port_of other new.publishers ≡ Some found
         → IsKeyed other found old.subscribers
@@ -126,6 +133,7 @@ module _ {T U : Type 0} (names : Naming) (reader : ℕ → ℕ → ℕ) (lent : 
           let before = stands.present place member it in
           present member.value.publisher place before.0 (cases_eq member.value.publisher number) before.1 before.2 before.3;
       gone_publishers = λ other one none it. gone other one (cases_eq other number) none it;
+      numbered = λ other found it. own_number other found (cases_eq other number) it;
       once = λ other. subst (λ keys. how_often other keys ≤ 1) (sym (keys-set_value (at_number number) old.publishers after))
           (stands.once other);
       once_subscribers = stands.once_subscribers;

@@ -181,6 +181,7 @@ module _ {T U : Type 0} (names : Naming) (lent : List (ℕ × LentSlot)) (held :
         listed = stands.listed;
         present = stands.present;
         gone_publishers = stands.gone_publishers;
+        numbered = stands.numbered;
         once = stands.once;
         once_subscribers = once;
         keyed = is_keyed;

@@ -148,7 +148,7 @@ module _ {T U : Type 0} (types : MessageTypeDetails) (choices : Choices T) (buff
               (sym (kept_there number port (with_port number old.publishers port)
               (same_set (at_number number) old.publishers port port there) standing))
               (one_changed names names.message lent lent held buffer old service number port port found.0 service.publishers service.loans
-              stands there (λ other off. refl) found.1 (λ other off. refl) found.2 found.3 refl refl refl
+              stands there (λ other off. refl) found.1 (λ other off. refl) found.2 found.3 refl refl refl refl
               (loans_kept number port port old there names lent service.loans refl stands.loans)
               (samples_kept number port port old there names held service.samples refl stands.samples))),
         ),

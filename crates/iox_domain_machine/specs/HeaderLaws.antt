@@ -2,7 +2,6 @@
 use Rattle.std.specs.Prelude.{ℕ, ◌≡◌, Bool, List, Some}
 use Rattle.iox_domain.specs.DescribeBase.declared.header.Header.{Header}
 use Rattle.iox_domain.specs.DomainPorts.Messages.{write_user_header}
-use Rattle.iox_domain.specs.DomainPorts.Publishers.{port_of}
 use Rattle.iox_domain.specs.DomainPorts.declared.attached.Taken.{Taken}
 use Rattle.iox_domain.specs.DomainPorts.declared.publisher_port.PublisherPort.{PublisherPort}
 use Rattle.iox_domain.specs.Lending.{written_in}
@@ -22,16 +21,12 @@ UserHeaderStands T U = (names : Naming) (lent : List (ℕ × LentSlot)) (held : 
     → StandsFor names lent held buffer ports service
     → StandsFor names lent held buffer (written_in publisher test slot (write_user_header user_header) ports) service
 
--- A sample has a header, which tells the sequence number that the machine's sample has. It is told by the publisher that the machine has
--- under the name that its sample tells.
+-- A sample has a header, which tells what the machine's sample does: whose message it is, by name, and its sequence number.
 pub record HeaderTells {T U : Type 0} (names : Naming) (ports : ServicePorts T U) (taken : Taken) (sample : Sample T) : Type 0 where
   pub header : Header
   pub found : header_in taken ports ≡ Some header
   pub sequence : header.sequence ≡ sample.message.sequence
-  pub port : PublisherPort T U
-  pub there : port_of taken.publisher ports.publishers ≡ Some port
-  pub whose : header.publisher_id ≡ port.number
-  pub named : names.publisher taken.publisher ≡ sample.publisher
+  pub publisher : names.publisher header.publisher_id ≡ sample.publisher
 
 -- The header of a sample that goes by a number tells what the machine has of it.
 abbrev pub HeaderMatches : Type 0 → Type 0 → Type 0

@@ -70,6 +70,8 @@ pub record StandsFor {T U : Type 0} (names : Naming) (lent : List (ℕ × LentSl
       × (port.place ≡ place)
   pub gone_publishers : (number : ℕ) (publisher : Publisher T) → port_of number ports.publishers ≡ None
       → at (names.publisher number) service.publishers ≡ Some publisher → publisher.stands ≡ false
+  -- each publisher tells the number by which it goes, and no two ports go by one
+  pub numbered : (number : ℕ) (port : PublisherPort T U) → port_of number ports.publishers ≡ Some port → port.number ≡ number
   pub once : (number : ℕ) → how_often number (keys_of ports.publishers) ≤ 1
   pub once_subscribers : (number : ℕ) → how_often number (keys_of ports.subscribers) ≤ 1
   -- who reads at a connection stands, and has a key for it

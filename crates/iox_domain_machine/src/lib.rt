@@ -73,8 +73,8 @@ pub fn writing_a_user_header_stands<T, U>()
     ensures { UserHeaderStands T U }
 {}
 
-/// A sample that goes by a number has a header, which tells the sequence number that the machine's sample has. It is told by the publisher
-/// that the machine has under the name that its sample tells.
+/// A sample that goes by a number has a header, which tells what the machine's sample does: whose message it is, by name, and its sequence
+/// number.
 pub fn telling_a_header_matches<T, U>()
     ensures { HeaderMatches T U }
 {}
