@@ -1,25 +1,16 @@
 //! Services are created and opened in a hub.
-ghost use Rattle.std.specs.Prelude.{◌≡◌, ℕ, List, None, ⊤, nat_eq, false, true};
+ghost use Rattle.std.specs.Prelude.{◌≡◌, ℕ, List, nat_eq};
 ghost use Rattle.std.specs.Result.{result_map_both};
 ghost use Rattle.iox_delivery_factories.specs.DescribeBase.Detail.{detail};
 ghost use Rattle.iox_delivery_factories.specs.DescribeBase.Hash.{service_hash_of};
 ghost use Rattle.iox_delivery_factories.specs.DescribeBase.declared.type_detail.TypeVariant.TheVariants.{FixedSize};
-ghost use Rattle.iox_delivery_factories.specs.DescribeSettings.Agreement.{agreement};
-ghost use Rattle.iox_negotiate.specs.Asked.{IsRefusal};
-ghost use Rattle.iox_negotiate.specs.Negotiation.{Negotiates, Creates, Either};
-ghost use Rattle.iox_negotiate_table.specs.NegotiateBase.Opening.{Opens};
-ghost use Rattle.iox_negotiate_table.specs.NegotiateBase.declared.failure.CreateFailure.TheVariants as uncreated;
-ghost use Rattle.iox_negotiate_table.specs.NegotiateBase.declared.failure.OpenFailure.TheVariants as unopened;
-ghost use Rattle.iox_negotiate_table.specs.Stepped.{SteppedSight};
-ghost use Rattle.iox_hub_base.specs.Opening.{OpensInHub, lacking_either};
+ghost use Rattle.iox_hub_base.specs.OfPattern.{CreatesOfPattern, OpensJudged, EitherOfPattern};
 
-use crate::entering::Lacking;
 use crate::factory::PortFactory;
 use crate::hub::Hub;
-use crate::untouched::lacking_create;
+use crate::opening::{create, open, open_or_create};
 use iox_describe::{AttributeSpecifier, AttributeVerifier, ZeroCopySend};
 use iox_negotiate::{Negotiated, ServiceBuilder};
-use iox_negotiate_base::{CreateFailure, OpenFailure, OpenOrCreateFailure};
 use iox_negotiate_table::StepList;
 use iox_queues_base::Words;
 use std::alloc::Global;
@@ -68,24 +59,13 @@ pub trait HubBuilder<P: Negotiated>: Sized {
         steps: Vec<StepList>,
     ) -> Result<PortFactory<P>, P::CreateError>
         requires { hub_of self ≡ hub.old.table.id }
-        ensures { OpensInHub (detail FixedSize T.name T.size T.alignment) (detail FixedSize U.name U.size U.alignment)
-            (IsRefusal (P.IsWithinLimits (P.adjusted (P.asked (requirement_of self))))
-            (P.IsHistoryTooLong (P.adjusted (P.asked (requirement_of self)))) None)
-            (λ was_new. P.create_error uncreated.OutOfMemory)
-            (λ old answer new. Creates SteppedSight old.table.id (service_hash_of P.pattern (name_of self)) (node_of self)
-            (agreement (name_of self) (service_hash_of P.pattern (name_of self))
-            (P.settings (P.adjusted (P.asked (requirement_of self)))) (P.attributes (requirement_of self)).pairs)
-            (P.IsWithinLimits (P.adjusted (P.asked (requirement_of self))))
-            (P.IsHistoryTooLong (P.adjusted (P.asked (requirement_of self)))) P.create_error old answer new) steps.items hub.old
+        ensures { let config = P.adjusted (P.asked (requirement_of self)) in CreatesOfPattern
+            (detail FixedSize T.name T.size T.alignment) (detail FixedSize U.name U.size U.alignment) P.pattern (P.settings config)
+            (P.IsWithinLimits config) (P.IsHistoryTooLong config) P.create_error (node_of self) (name_of self)
+            (P.attributes (requirement_of self)).pairs steps.items hub.old
             (result_map_both (λ factory. (factory.service.membership, factory.owner)) (λ error. error) result) hub.new }
     {
-        let builder = self.builder();
-        let Ok(mut parts) = hub.lend_parts(alloc, steps) else {
-            return Err(lacking_create(alloc, builder));
-        };
-        let answer = builder.create(alloc, &mut parts.table);
-        let lacking = Lacking::either_way(P::create_error(CreateFailure::OutOfMemory));
-        hub.settle(alloc, parts, answer, lacking)
+        create(alloc, self.builder(), None, hub, steps)
     }
 
     /// Creates the service with these attributes.
@@ -100,24 +80,12 @@ pub trait HubBuilder<P: Negotiated>: Sized {
         steps: Vec<StepList>,
     ) -> Result<PortFactory<P>, P::CreateError>
         requires { hub_of self ≡ hub.old.table.id }
-        ensures { OpensInHub (detail FixedSize T.name T.size T.alignment) (detail FixedSize U.name U.size U.alignment)
-            (IsRefusal (P.IsWithinLimits (P.adjusted (P.asked (requirement_of self))))
-            (P.IsHistoryTooLong (P.adjusted (P.asked (requirement_of self)))) None)
-            (λ was_new. P.create_error uncreated.OutOfMemory)
-            (λ old answer new. Creates SteppedSight old.table.id (service_hash_of P.pattern (name_of self)) (node_of self)
-            (agreement (name_of self) (service_hash_of P.pattern (name_of self))
-            (P.settings (P.adjusted (P.asked (requirement_of self)))) attributes.now)
-            (P.IsWithinLimits (P.adjusted (P.asked (requirement_of self))))
-            (P.IsHistoryTooLong (P.adjusted (P.asked (requirement_of self)))) P.create_error old answer new) steps.items hub.old
-            (result_map_both (λ factory. (factory.service.membership, factory.owner)) (λ error. error) result) hub.new }
+        ensures { let config = P.adjusted (P.asked (requirement_of self)) in CreatesOfPattern
+            (detail FixedSize T.name T.size T.alignment) (detail FixedSize U.name U.size U.alignment) P.pattern (P.settings config)
+            (P.IsWithinLimits config) (P.IsHistoryTooLong config) P.create_error (node_of self) (name_of self) attributes.now steps.items
+            hub.old (result_map_both (λ factory. (factory.service.membership, factory.owner)) (λ error. error) result) hub.new }
     {
-        let builder = self.builder();
-        let Ok(mut parts) = hub.lend_parts(alloc, steps) else {
-            return Err(lacking_create(alloc, builder));
-        };
-        let answer = builder.create_with_attributes(alloc, attributes, &mut parts.table);
-        let lacking = Lacking::either_way(P::create_error(CreateFailure::OutOfMemory));
-        hub.settle(alloc, parts, answer, lacking)
+        create(alloc, self.builder(), Some(attributes), hub, steps)
     }
 
     /// Opens the service, whatever its attributes. See `open_with_attributes_in`.
@@ -129,20 +97,11 @@ pub trait HubBuilder<P: Negotiated>: Sized {
         steps: Vec<StepList>,
     ) -> Result<PortFactory<P>, P::OpenError>
         requires { hub_of self ≡ hub.old.table.id }
-        ensures { OpensInHub (detail FixedSize T.name T.size T.alignment) (detail FixedSize U.name U.size U.alignment)
-            ⊤ (λ was_new. P.open_error unopened.OutOfMemory)
-            (λ old answer new. Negotiates SteppedSight old.table.id (node_of self) P.open_error
-            (λ made answer. Opens (service_hash_of P.pattern (name_of self)) (node_of self)
-            (λ given. P.verdict (requirement_of self) given) made answer) old answer new) steps.items hub.old
+        ensures { OpensJudged (detail FixedSize T.name T.size T.alignment) (detail FixedSize U.name U.size U.alignment) P.open_error
+            (service_hash_of P.pattern (name_of self)) (node_of self) (λ given. P.verdict (requirement_of self) given) steps.items hub.old
             (result_map_both (λ factory. (factory.service.membership, factory.owner)) (λ error. error) result) hub.new }
     {
-        let builder = self.builder();
-        let lacking = Lacking::either_way(P::open_error(OpenFailure::OutOfMemory));
-        let Ok(mut parts) = hub.lend_parts(alloc, steps) else {
-            return Err(lacking.opened);
-        };
-        let answer = builder.open(alloc, &mut parts.table);
-        hub.settle(alloc, parts, answer, lacking)
+        open(alloc, self.builder(), None, hub, steps)
     }
 
     /// Opens the service if it has these attributes too.
@@ -157,20 +116,12 @@ pub trait HubBuilder<P: Negotiated>: Sized {
         steps: Vec<StepList>,
     ) -> Result<PortFactory<P>, P::OpenError>
         requires { hub_of self ≡ hub.old.table.id }
-        ensures { OpensInHub (detail FixedSize T.name T.size T.alignment) (detail FixedSize U.name U.size U.alignment)
-            ⊤ (λ was_new. P.open_error unopened.OutOfMemory)
-            (λ old answer new. Negotiates SteppedSight old.table.id (node_of self) P.open_error
-            (λ made answer. Opens (service_hash_of P.pattern (name_of self)) (node_of self)
-            (λ given. P.verdict (P.with_attributes (requirement_of self) attributes) given) made answer) old answer new) steps.items
-            hub.old (result_map_both (λ factory. (factory.service.membership, factory.owner)) (λ error. error) result) hub.new }
+        ensures { OpensJudged (detail FixedSize T.name T.size T.alignment) (detail FixedSize U.name U.size U.alignment) P.open_error
+            (service_hash_of P.pattern (name_of self)) (node_of self)
+            (λ given. P.verdict (P.with_attributes (requirement_of self) attributes) given) steps.items hub.old
+            (result_map_both (λ factory. (factory.service.membership, factory.owner)) (λ error. error) result) hub.new }
     {
-        let builder = self.builder();
-        let lacking = Lacking::either_way(P::open_error(OpenFailure::OutOfMemory));
-        let Ok(mut parts) = hub.lend_parts(alloc, steps) else {
-            return Err(lacking.opened);
-        };
-        let answer = builder.open_with_attributes(alloc, attributes, &mut parts.table);
-        hub.settle(alloc, parts, answer, lacking)
+        open(alloc, self.builder(), Some(attributes), hub, steps)
     }
 
     /// Opens the service, whatever its attributes, or creates it with none. See `open_or_create_with_attributes_in`.
@@ -182,23 +133,13 @@ pub trait HubBuilder<P: Negotiated>: Sized {
         steps: Vec<StepList>,
     ) -> Result<PortFactory<P>, P::OpenOrCreateError>
         requires { hub_of self ≡ hub.old.table.id }
-        ensures { OpensInHub (detail FixedSize T.name T.size T.alignment) (detail FixedSize U.name U.size U.alignment)
-            ⊤ (λ was_new. P.open_or_create_error (lacking_either was_new))
-            (λ old answer new. Either SteppedSight old.table.id (service_hash_of P.pattern (name_of self)) (node_of self)
-            (λ given. P.verdict (requirement_of self) given)
-            (agreement (name_of self) (service_hash_of P.pattern (name_of self))
-            (P.settings (P.adjusted (P.asked (requirement_of self)))) (P.attributes (requirement_of self)).pairs)
-            (P.IsWithinLimits (P.adjusted (P.asked (requirement_of self))))
-            (P.IsHistoryTooLong (P.adjusted (P.asked (requirement_of self)))) P.open_or_create_error old answer new) steps.items hub.old
+        ensures { let required = requirement_of self in let config = P.adjusted (P.asked required) in EitherOfPattern
+            (detail FixedSize T.name T.size T.alignment) (detail FixedSize U.name U.size U.alignment) P.pattern (P.settings config)
+            (P.IsWithinLimits config) (P.IsHistoryTooLong config) (λ given. P.verdict required given) P.open_or_create_error
+            (node_of self) (name_of self) (P.attributes required).pairs steps.items hub.old
             (result_map_both (λ factory. (factory.service.membership, factory.owner)) (λ error. error) result) hub.new }
     {
-        let builder = self.builder();
-        let lacking = lacking_either::<P>();
-        let Ok(mut parts) = hub.lend_parts(alloc, steps) else {
-            return Err(lacking.opened);
-        };
-        let answer = builder.open_or_create(alloc, &mut parts.table);
-        hub.settle(alloc, parts, answer, lacking)
+        open_or_create(alloc, self.builder(), None, hub, steps)
     }
 
     /// Opens the service if it has these attributes too, or creates it with the required pairs where none exists.
@@ -218,25 +159,14 @@ pub trait HubBuilder<P: Negotiated>: Sized {
         steps: Vec<StepList>,
     ) -> Result<PortFactory<P>, P::OpenOrCreateError>
         requires { hub_of self ≡ hub.old.table.id }
-        ensures { OpensInHub (detail FixedSize T.name T.size T.alignment) (detail FixedSize U.name U.size U.alignment)
-            ⊤ (λ was_new. P.open_or_create_error (lacking_either was_new))
-            (λ old answer new. Either SteppedSight old.table.id (service_hash_of P.pattern (name_of self)) (node_of self)
-            (λ given. P.verdict (P.with_attributes (requirement_of self) attributes) given)
-            (agreement (name_of self) (service_hash_of P.pattern (name_of self))
-            (P.settings (P.adjusted (P.asked (P.with_attributes (requirement_of self) attributes))))
-            (P.attributes (P.with_attributes (requirement_of self) attributes)).pairs)
-            (P.IsWithinLimits (P.adjusted (P.asked (P.with_attributes (requirement_of self) attributes))))
-            (P.IsHistoryTooLong (P.adjusted (P.asked (P.with_attributes (requirement_of self) attributes)))) P.open_or_create_error old
-            answer new) steps.items hub.old
+        ensures { let required = P.with_attributes (requirement_of self) attributes in
+            let config = P.adjusted (P.asked required) in EitherOfPattern
+            (detail FixedSize T.name T.size T.alignment) (detail FixedSize U.name U.size U.alignment) P.pattern (P.settings config)
+            (P.IsWithinLimits config) (P.IsHistoryTooLong config) (λ given. P.verdict required given) P.open_or_create_error
+            (node_of self) (name_of self) (P.attributes required).pairs steps.items hub.old
             (result_map_both (λ factory. (factory.service.membership, factory.owner)) (λ error. error) result) hub.new }
     {
-        let builder = self.builder();
-        let lacking = lacking_either::<P>();
-        let Ok(mut parts) = hub.lend_parts(alloc, steps) else {
-            return Err(lacking.opened);
-        };
-        let answer = builder.open_or_create_with_attributes(alloc, attributes, &mut parts.table);
-        hub.settle(alloc, parts, answer, lacking)
+        open_or_create(alloc, self.builder(), Some(attributes), hub, steps)
     }
 }
 
@@ -255,16 +185,5 @@ impl<P: Negotiated> HubBuilder<P> for ServiceBuilder<P> {
 
     fn holds<T: Copy, U: Copy, B: Drop, D: Drop>(&self, hub: &Hub<T, U, B, D>) -> bool {
         self.hub() == hub.id()
-    }
-}
-
-// The errors of a call that opens or creates, where no memory is found after its last access.
-fn lacking_either<P: Negotiated>() -> Lacking<P::OpenOrCreateError>
-    ensures opened { result.opened ≡ P.open_or_create_error (lacking_either false) }
-    ensures created { result.created ≡ P.open_or_create_error (lacking_either true) }
-{
-    Lacking {
-        opened: P::open_or_create_error(OpenOrCreateFailure::Open(OpenFailure::OutOfMemory)),
-        created: P::open_or_create_error(OpenOrCreateFailure::Create(CreateFailure::OutOfMemory)),
     }
 }

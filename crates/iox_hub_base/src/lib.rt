@@ -54,6 +54,7 @@ pub mod home;
 pub mod hub;
 pub mod laws;
 pub mod node;
+mod opening;
 pub mod ports;
 pub mod presence;
 pub mod presences;

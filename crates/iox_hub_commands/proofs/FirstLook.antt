@@ -37,6 +37,7 @@ use Rattle.iox_hub_base.specs.DescribeBase.declared.pattern.MessagingPattern.{Me
 use Rattle.iox_hub_base.specs.DescribeBase.declared.pattern.MessagingPattern.TheVariants as pattern
 use Rattle.iox_hub_base.specs.DescribeSettings.Agreement.{Agreement, AreWithinLimits}
 use Rattle.iox_hub_base.specs.Hubs.{hash_state}
+use Rattle.iox_hub_base.specs.OfPattern.{OpensJudged}
 use Rattle.iox_hub_base.specs.declared.hub.HashState.{HashState}
 use Rattle.iox_hub_base.specs.declared.hub.HashState.TheVariants as state
 use Rattle.iox_hub_base.specs.declared.hub.Hub.{Hub}
@@ -44,7 +45,7 @@ use Rattle.iox_hub_commands.specs.Asking.{IsHistoryTooLong, agreed_of, hash_of}
 use Rattle.iox_hub_commands.specs.Creating.{CreatesAgreed, CreatesAs, CreatesNumbered}
 use Rattle.iox_hub_commands.specs.Described.{settings_of}
 use Rattle.iox_hub_commands.specs.Either.{EitherAs, EitherJudged, EitherNumbered}
-use Rattle.iox_hub_commands.specs.Opening.{OpensAs, OpensJudged, OpensNumbered}
+use Rattle.iox_hub_commands.specs.Opening.{OpensAs, OpensNumbered}
 use Rattle.iox_hub_commands.specs.Refusing.{IsUncreated, create_refused, either_refused, open_absent, open_locked, either_locked}
 use Rattle.iox_hub_commands.specs.Refusing.{first_look, open_told, create_told, either_told}
 use Rattle.iox_hub_commands.specs.ServicesNumbering.{GetsNumber}

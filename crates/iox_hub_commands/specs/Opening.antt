@@ -8,17 +8,14 @@ use Rattle.iox_command.specs.declared.service.ServiceOptions.TheVariants as opti
 use Rattle.iox_command.specs.declared.step.StepBefore.{StepBefore}
 use Rattle.iox_hub_base.specs.DescribeBase.Attributes.{Required}
 use Rattle.iox_hub_base.specs.DescribeBase.Detail.{Detail}
-use Rattle.iox_hub_base.specs.DescribeBase.declared.hash.ServiceHash.{ServiceHash}
 use Rattle.iox_hub_base.specs.DescribeBase.declared.message_type.MessageTypeDetails.{MessageTypeDetails}
 use Rattle.iox_hub_base.specs.DescribeBase.declared.pattern.MessagingPattern.TheVariants as pattern
-use Rattle.iox_hub_base.specs.DescribeSettings.Agreement.{Agreement}
 use Rattle.iox_negotiate_table.specs.DescribeVerdict.EventClauses as event_clauses
 use Rattle.iox_negotiate_table.specs.DescribeVerdict.PublishSubscribeClauses as publish_subscribe_clauses
 use Rattle.iox_negotiate_table.specs.DescribeVerdict.RequestResponseClauses as request_response_clauses
 use Rattle.iox_negotiate_table.specs.DescribeVerdict.Verdict.{first_unmet}
-use Rattle.iox_hub_base.specs.Opening.{Made, OpensInHub}
+use Rattle.iox_hub_base.specs.OfPattern.{OpensJudged}
 use Rattle.iox_hub_base.specs.declared.hub.Hub.{Hub}
-use Rattle.iox_hub_base.specs.Negotiate.Negotiation.{Negotiates}
 use Rattle.iox_command.specs.NegotiateBase.EventErrors as event
 use Rattle.iox_command.specs.NegotiateBase.PublishSubscribeErrors as publish_subscribe
 use Rattle.iox_command.specs.NegotiateBase.RequestResponseErrors as request_response
@@ -27,24 +24,11 @@ use Rattle.iox_command.specs.NegotiateBase.declared.errors.publish_subscribe.Pub
     publish_subscribe_error
 use Rattle.iox_command.specs.NegotiateBase.declared.errors.request_response.RequestResponseOpenError.TheVariants as
     request_response_error
-use Rattle.iox_command.specs.NegotiateBase.Opening.{Opens}
-use Rattle.iox_command.specs.NegotiateBase.declared.failure.OpenFailure.{OpenFailure}
-use Rattle.iox_command.specs.NegotiateBase.declared.failure.OpenFailure.TheVariants.{OutOfMemory}
-use Rattle.iox_negotiate_table.specs.Stepped.{SteppedSight}
 use Rattle.iox_negotiate_table.specs.declared.step.ForeignStep.{ForeignStep}
 use Rattle.iox_hub_commands.specs.Asking.{hash_of, required_publish_subscribe, required_event, required_request_response}
 use Rattle.iox_hub_commands.specs.ServicesNumbering.{Prepares, GetsNumber, IsSkipped, IsRefusedWith}
 use Rattle.iox_hub_commands.specs.ServicesTables.{FactoryTable}
 use Rattle.iox_hub_commands.specs.declared.services.asked.ServiceAsked.{ServiceAsked}
-
--- a node opens the service of a hash, if it meets what is asked; a failure is told as this error
-abbrev pub OpensJudged : {T U B D V E : Type 0} → Detail → Detail → (OpenFailure V → E) → ServiceHash → ℕ
-    → (Agreement → Result (Unit {0}) V) → List (List ForeignStep) → Hub T U B D → Result Made E → Hub T U B D → Type 0
-OpensJudged payload user_header error hash node verdict lists old opened new =
-    OpensInHub payload user_header (Unit {0}) (λ was_new. error OutOfMemory)
-    (λ before came after. Negotiates SteppedSight before.table.id node error (λ made answer. Opens hash node verdict made answer) before
-    came after)
-    lists old opened new
 
 -- a service is opened if it is as these options ask and has these attributes, and its factory gets a number; a failure is told as
 -- the error of the pattern

@@ -5,10 +5,9 @@ ghost use Rattle.iox_command.specs.declared.refusal.Refusal.{Refusal};
 ghost use Rattle.iox_hub_base.specs.DescribeBase.Detail.{detail};
 ghost use Rattle.iox_hub_base.specs.DescribeBase.Hash.{service_hash_of};
 ghost use Rattle.iox_hub_base.specs.DescribeBase.declared.type_detail.TypeVariant.TheVariants.{FixedSize};
+ghost use Rattle.iox_hub_base.specs.OfPattern.{CreatesOfPattern, OpensJudged, EitherOfPattern};
 ghost use Rattle.iox_hub_commands.specs.Asked.{types_of};
-ghost use Rattle.iox_hub_commands.specs.Opening.{OpensJudged};
-ghost use Rattle.iox_hub_commands.specs.OpeningCalls.{ByCall, CreatesOfPattern, EitherOfPattern, OpensByCall};
-ghost use Rattle.iox_hub_commands.specs.OpeningCalls.{OpensUnlessLacking, lacking_of};
+ghost use Rattle.iox_hub_commands.specs.OpeningCalls.{ByCall, OpensByCall, OpensUnlessLacking, lacking_of};
 ghost use Rattle.iox_hub_commands.specs.ServicesNumbering.{GetsNumber, Numbers};
 ghost use Rattle.iox_hub_commands.specs.ServicesTables.{FactoryTable};
 

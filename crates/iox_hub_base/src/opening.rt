@@ -1,0 +1,177 @@
+//! A service is created or opened in a hub as a builder asks, with attributes beside those that it asks for or without.
+ghost use Rattle.std.specs.Prelude.{◌≡◌, Option, false, true, option_copied};
+ghost use Rattle.std.specs.Option.{option_map_or, unwrap_or};
+ghost use Rattle.std.specs.Result.{result_map_both};
+ghost use Rattle.iox_delivery_factories.specs.DescribeBase.Detail.{detail};
+ghost use Rattle.iox_delivery_factories.specs.DescribeBase.Hash.{service_hash_of};
+ghost use Rattle.iox_delivery_factories.specs.DescribeBase.declared.type_detail.TypeVariant.TheVariants.{FixedSize};
+ghost use Rattle.iox_delivery_factories.specs.DescribeSettings.Agreement.{agreement};
+ghost use Rattle.iox_negotiate.specs.Negotiation.{Negotiates, Creates, Either};
+ghost use Rattle.iox_negotiate_table.specs.NegotiateBase.Opening.{Opens};
+ghost use Rattle.iox_negotiate_table.specs.Stepped.{SteppedSight};
+ghost use Rattle.iox_hub_base.specs.OfPattern.{CreatesOfPattern, OpensJudged, EitherOfPattern};
+ghost use Rattle.iox_hub_base.specs.Opening.{lacking_either};
+
+use crate::entering::Lacking;
+use crate::factory::PortFactory;
+use crate::hub::Hub;
+use crate::untouched::lacking_create;
+use iox_describe::{AttributeSpecifier, AttributeVerifier, ZeroCopySend};
+use iox_negotiate as negotiated;
+use iox_negotiate::{Negotiated, ServiceBuilder};
+use iox_negotiate_base::{CreateFailure, OpenFailure, OpenOrCreateFailure};
+use iox_negotiate_table::{StepList, Stepped};
+use iox_queues_base::Words;
+use std::alloc::Global;
+
+/// Creates the service, with these attributes; where there are none, with those that are asked for.
+pub(crate) fn create<
+    P: Negotiated,
+    T: Words + ZeroCopySend,
+    U: Copy + ZeroCopySend,
+    B: Drop,
+    D: Drop,
+>(
+    alloc: Global,
+    builder: ServiceBuilder<P>,
+    attributes: Option<&AttributeSpecifier>,
+    hub: &mut Hub<T, U, B, D>,
+    steps: Vec<StepList>,
+) -> Result<PortFactory<P>, P::CreateError>
+    ensures { let config = P.adjusted (P.asked builder.requirement) in CreatesOfPattern
+        (detail FixedSize T.name T.size T.alignment) (detail FixedSize U.name U.size U.alignment) P.pattern (P.settings config)
+        (P.IsWithinLimits config) (P.IsHistoryTooLong config) P.create_error builder.node builder.name
+        (unwrap_or (option_copied attributes.entry) (P.attributes builder.requirement).pairs) steps.items hub.old
+        (result_map_both (λ factory. (factory.service.membership, factory.owner)) (λ error. error) result) hub.new }
+{
+    let Ok(mut parts) = hub.lend_parts(alloc, steps) else {
+        return Err(lacking_create(alloc, builder));
+    };
+    let answer = created(alloc, builder, attributes, &mut parts.table);
+    let lacking = Lacking::either_way(P::create_error(CreateFailure::OutOfMemory));
+    hub.settle(alloc, parts, answer, lacking)
+}
+
+// The same over the table that a hub lends.
+fn created<P: Negotiated>(
+    alloc: Global,
+    builder: ServiceBuilder<P>,
+    attributes: Option<&AttributeSpecifier>,
+    table: &mut Stepped,
+) -> Result<negotiated::PortFactory<P>, P::CreateError>
+    ensures { let config = P.adjusted (P.asked builder.requirement) in let hash = service_hash_of P.pattern builder.name in
+        Creates SteppedSight table.old.table.id hash builder.node (agreement builder.name hash (P.settings config)
+        (unwrap_or (option_copied attributes.entry) (P.attributes builder.requirement).pairs)) (P.IsWithinLimits config)
+        (P.IsHistoryTooLong config) P.create_error table.old
+        (result_map_both (λ factory. factory.membership) (λ error. error) result) table.new }
+{
+    match attributes {
+        Some(attributes) => builder.create_with_attributes(alloc, attributes, table),
+        None => builder.create(alloc, table),
+    }
+}
+
+/// Opens the service, if it has these attributes, too.
+pub(crate) fn open<
+    P: Negotiated,
+    T: Words + ZeroCopySend,
+    U: Copy + ZeroCopySend,
+    B: Drop,
+    D: Drop,
+>(
+    alloc: Global,
+    builder: ServiceBuilder<P>,
+    attributes: Option<AttributeVerifier>,
+    hub: &mut Hub<T, U, B, D>,
+    steps: Vec<StepList>,
+) -> Result<PortFactory<P>, P::OpenError>
+    ensures { let required = option_map_or (λ more. P.with_attributes builder.requirement more) attributes builder.requirement in
+        OpensJudged (detail FixedSize T.name T.size T.alignment) (detail FixedSize U.name U.size U.alignment) P.open_error
+        (service_hash_of P.pattern builder.name) builder.node (λ given. P.verdict required given) steps.items hub.old
+        (result_map_both (λ factory. (factory.service.membership, factory.owner)) (λ error. error) result) hub.new }
+{
+    let lacking = Lacking::either_way(P::open_error(OpenFailure::OutOfMemory));
+    let Ok(mut parts) = hub.lend_parts(alloc, steps) else {
+        return Err(lacking.opened);
+    };
+    let answer = opened(alloc, builder, attributes, &mut parts.table);
+    hub.settle(alloc, parts, answer, lacking)
+}
+
+// The same over the table that a hub lends.
+fn opened<P: Negotiated>(
+    alloc: Global,
+    builder: ServiceBuilder<P>,
+    attributes: Option<AttributeVerifier>,
+    table: &mut Stepped,
+) -> Result<negotiated::PortFactory<P>, P::OpenError>
+    ensures { let required = option_map_or (λ more. P.with_attributes builder.requirement more) attributes builder.requirement in
+        Negotiates SteppedSight table.old.table.id builder.node P.open_error
+        (λ made answer. Opens (service_hash_of P.pattern builder.name) builder.node (λ given. P.verdict required given) made answer)
+        table.old (result_map_both (λ factory. factory.membership) (λ error. error) result) table.new }
+{
+    match attributes {
+        Some(attributes) => builder.open_with_attributes(alloc, attributes, table),
+        None => builder.open(alloc, table),
+    }
+}
+
+/// Opens the service, if it has these attributes, too, or creates it with the required pairs.
+pub(crate) fn open_or_create<
+    P: Negotiated,
+    T: Words + ZeroCopySend,
+    U: Copy + ZeroCopySend,
+    B: Drop,
+    D: Drop,
+>(
+    alloc: Global,
+    builder: ServiceBuilder<P>,
+    attributes: Option<AttributeVerifier>,
+    hub: &mut Hub<T, U, B, D>,
+    steps: Vec<StepList>,
+) -> Result<PortFactory<P>, P::OpenOrCreateError>
+    ensures { let required = option_map_or (λ more. P.with_attributes builder.requirement more) attributes builder.requirement in
+        let config = P.adjusted (P.asked required) in EitherOfPattern
+        (detail FixedSize T.name T.size T.alignment) (detail FixedSize U.name U.size U.alignment) P.pattern (P.settings config)
+        (P.IsWithinLimits config) (P.IsHistoryTooLong config) (λ given. P.verdict required given) P.open_or_create_error
+        builder.node builder.name (P.attributes required).pairs steps.items hub.old
+        (result_map_both (λ factory. (factory.service.membership, factory.owner)) (λ error. error) result) hub.new }
+{
+    let lacking = lacking_either::<P>();
+    let Ok(mut parts) = hub.lend_parts(alloc, steps) else {
+        return Err(lacking.opened);
+    };
+    let answer = opened_or_created(alloc, builder, attributes, &mut parts.table);
+    hub.settle(alloc, parts, answer, lacking)
+}
+
+// The same over the table that a hub lends.
+fn opened_or_created<P: Negotiated>(
+    alloc: Global,
+    builder: ServiceBuilder<P>,
+    attributes: Option<AttributeVerifier>,
+    table: &mut Stepped,
+) -> Result<negotiated::PortFactory<P>, P::OpenOrCreateError>
+    ensures { let required = option_map_or (λ more. P.with_attributes builder.requirement more) attributes builder.requirement in
+        let config = P.adjusted (P.asked required) in let hash = service_hash_of P.pattern builder.name in
+        Either SteppedSight table.old.table.id hash builder.node (λ given. P.verdict required given)
+        (agreement builder.name hash (P.settings config) (P.attributes required).pairs) (P.IsWithinLimits config)
+        (P.IsHistoryTooLong config) P.open_or_create_error table.old
+        (result_map_both (λ factory. factory.membership) (λ error. error) result) table.new }
+{
+    match attributes {
+        Some(attributes) => builder.open_or_create_with_attributes(alloc, attributes, table),
+        None => builder.open_or_create(alloc, table),
+    }
+}
+
+// The errors of a call that opens or creates, where no memory is found after its last access.
+fn lacking_either<P: Negotiated>() -> Lacking<P::OpenOrCreateError>
+    ensures opened { result.opened ≡ P.open_or_create_error (lacking_either false) }
+    ensures created { result.created ≡ P.open_or_create_error (lacking_either true) }
+{
+    Lacking {
+        opened: P::open_or_create_error(OpenOrCreateFailure::Open(OpenFailure::OutOfMemory)),
+        created: P::open_or_create_error(OpenOrCreateFailure::Create(CreateFailure::OutOfMemory)),
+    }
+}
