@@ -22,7 +22,8 @@ pub enum Settings {
 }
 
 impl Settings {
-    ghost use Rattle.iox_describe_settings.specs.Agreement.{pattern_of, max_nodes_of, AreWithinLimits};
+    ghost use Rattle.iox_describe_settings.specs.Agreement.{adjusted_of, max_nodes_of, pattern_of};
+    ghost use Rattle.iox_describe_settings.specs.Agreement.{AreWithinLimits, HasNoRoomForHistory};
 
     /// The pattern that these are the settings of.
     pub fn pattern(&self) -> MessagingPattern
@@ -54,6 +55,28 @@ impl Settings {
             Settings::RequestResponse(config) => config.is_within_limits(),
             Settings::PublishSubscribe(config) => config.is_within_limits(),
             Settings::Event(config) => config.is_within_limits(),
+        }
+    }
+
+    /// The settings that `create` makes of these: a 0 that can't serve becomes 1.
+    pub fn adjusted(self) -> Self
+        ensures { result ≡ adjusted_of self }
+    {
+        match self {
+            Settings::RequestResponse(config) => Settings::RequestResponse(config.adjusted()),
+            Settings::PublishSubscribe(config) => Settings::PublishSubscribe(config.adjusted()),
+            Settings::Event(config) => Settings::Event(config.adjusted()),
+        }
+    }
+
+    /// Whether a full buffer would hold the publisher up and has no room for the history: such a service isn't
+    /// created. Always false of a pattern without a history.
+    pub fn is_history_too_long(&self) -> bool
+        ensures { IsTrue result ↔ HasNoRoomForHistory self.now }
+    {
+        match self {
+            Settings::PublishSubscribe(config) => config.is_history_too_long(),
+            _ => false,
         }
     }
 }

@@ -1,11 +1,15 @@
 -- The settings of each pattern, found among those of any pattern.
-use Rattle.std.specs.Prelude.{◌≡◌, Option, Some, None}
-use Rattle.std.proofs.Common.{ap}
+use Rattle.std.specs.Prelude.{◌≡◌, ◌≤◌, ◌<◌, ◌^◌, Option, Some, None}
+use Rattle.std.proofs.Common.{ap, arith}
 use Rattle.iox_describe_settings.specs.declared.static_config.Settings.{Settings}
 use Rattle.iox_describe_settings.specs.declared.static_config.Settings.TheVariants.{RequestResponse, PublishSubscribe, Event}
 use Rattle.iox_describe_settings.specs.declared.static_config.request_response.StaticConfig as request_response
 use Rattle.iox_describe_settings.specs.declared.static_config.publish_subscribe.StaticConfig as publish_subscribe
 use Rattle.iox_describe_settings.specs.declared.static_config.event.StaticConfig as event
+use Rattle.iox_describe_settings.specs.declared.static_config.request_response.Setting.TheVariants as request_response_setting
+use Rattle.iox_describe_settings.specs.declared.static_config.publish_subscribe.Setting.TheVariants as publish_subscribe_setting
+use Rattle.iox_describe_settings.specs.declared.static_config.event.Setting.TheVariants as event_setting
+use Rattle.iox_describe_settings.specs.Agreement.{max_nodes_of, AreWithinLimits}
 
 -- the settings of a publish-subscribe service
 abbrev pub publish_subscribe_of : Settings → Option publish_subscribe.StaticConfig
@@ -39,3 +43,9 @@ pub found_request_response : (s : Settings) (c : request_response.StaticConfig) 
 found_request_response (RequestResponse d) c h = ap RequestResponse (let k : c ≡ d = cc in k)
 found_request_response (PublishSubscribe d) c h = absurd cc
 found_request_response (Event d) c h = absurd cc
+
+-- within the limits there is a node, and there are fewer than 2^24
+pub has_nodes : (s : Settings) → AreWithinLimits s → (1 ≤ max_nodes_of s) × (max_nodes_of s < 2 ^ 24)
+has_nodes (RequestResponse c) h = h 7 request_response_setting.MaxNodes (omega arith)
+has_nodes (PublishSubscribe c) h = h 2 publish_subscribe_setting.MaxNodes (omega arith)
+has_nodes (Event c) h = h 3 event_setting.MaxNodes (omega arith)

@@ -1,24 +1,60 @@
 //! A messaging pattern, with all that making and opening a service needs of it.
-ghost use Rattle.std.specs.Prelude.{◌≡◌, ◌≤◌, ◌<◌, ◌^◌, ◌↔◌, List, [], Option, Result, Ok, Some, IsOk, IfOk, IsSome, IsTrue};
+ghost use Rattle.std.specs.Prelude.{◌≡◌, ◌≤◌, ◌<◌, ◌^◌, ◌↔◌, List, [], Option, Result, Ok, Some, IsOk, IfOk, IsSome, IsTrue, refl};
 ghost use Rattle.iox_describe_settings.specs.DescribeBase.declared.pattern.MessagingPattern.{MessagingPattern};
+ghost use Rattle.iox_describe_settings.specs.DescribeBase.declared.pattern.MessagingPattern.TheVariants as messaging_pattern;
 ghost use Rattle.iox_describe_settings.specs.DescribeBase.Attributes.{Required, required};
 ghost use Rattle.iox_describe_settings.specs.DescribeBase.Hash.{service_hash_of};
 ghost use Rattle.iox_describe_settings.specs.declared.static_config.Settings.{Settings};
+ghost use Rattle.iox_describe_settings.specs.declared.static_config.Settings.TheVariants as settings_of;
 ghost use Rattle.iox_describe_settings.specs.Agreement.{Agreement, agreement, max_nodes_of, pattern_of, AreWithinLimits};
+ghost use Rattle.iox_describe_verdict.specs.Patterns as patterns;
 
 use iox_describe_base::attribute::AttributeSpecifier;
 use iox_describe_base::name::ServiceName;
 use iox_describe_base::pattern::MessagingPattern;
 use iox_describe_base::verifier::AttributeVerifier;
 use iox_describe_settings::description::Description;
-use iox_describe_settings::static_config::Settings;
+use iox_describe_settings::static_config::{Settings, event, publish_subscribe, request_response};
 use std::alloc::{AllocError, Global};
 
-/// A messaging pattern, with what is asked of a service of it, by an opener or by who makes it.
-pub trait RequiredPattern {
+/// A messaging pattern, with what is agreed for a service of it.
+pub trait AgreedPattern {
     /// What the nodes of a service agree on.
     type StaticConfig: Copy;
 
+    // the pattern
+    ghost pattern: { MessagingPattern };
+
+    // what is agreed, as the settings of any pattern
+    ghost settings: { Self.StaticConfig → Settings };
+
+    // what is agreed, where the settings are of this pattern
+    ghost static_config: { Settings → Option Self.StaticConfig };
+
+    /// The pattern.
+    fn pattern() -> MessagingPattern
+        ensures { result ≡ pattern };
+
+    /// What is agreed, as the settings of any pattern.
+    fn settings(config: Self::StaticConfig) -> Settings
+        ensures { result ≡ settings config };
+
+    /// What is agreed, where the settings are of this pattern; else `None`.
+    fn static_config(given: &Settings) -> Option<Self::StaticConfig>
+        ensures { result ≡ static_config given.now };
+
+    // settings are of the pattern that they are made of
+    ghost settings_are_of_pattern: { (config : Self.StaticConfig) → pattern_of (settings config) ≡ pattern };
+
+    // what was agreed is found again
+    ghost found_again: { (config : Self.StaticConfig) → static_config (settings config) ≡ Some config };
+
+    // what is found is what was agreed
+    ghost found: { (s : Settings) (config : Self.StaticConfig) → static_config s ≡ Some config → settings config ≡ s };
+}
+
+/// A messaging pattern, with what is asked of a service of it, by an opener or by who makes it.
+pub trait RequiredPattern: AgreedPattern {
     /// What is asked of a service, by an opener or by who makes it.
     type Requirement: Drop;
 
@@ -74,21 +110,16 @@ pub trait RequiredPattern {
     // a service that meets a requirement meets every weaker one
     ghost weaker_is_met: { (weak strong : Self.Requirement) (a : Agreement) → IsWeaker weak strong → verdict strong a ≡ Ok tt
         → verdict weak a ≡ Ok tt };
+
+    // only a service of the pattern meets a requirement
+    ghost met_is_of_pattern: { (requirement : Self.Requirement) (a : Agreement) → verdict requirement a ≡ Ok tt
+        → IsSome (Self.static_config a.settings) };
 }
 
-/// A messaging pattern: what is agreed for a service of it, and what an opener may require.
+/// A messaging pattern, with what follows for its settings from what holds of those of any pattern.
 ///
 /// It is what a builder is written over, so that one builder serves all patterns.
 pub trait Pattern: RequiredPattern {
-    // the pattern
-    ghost pattern: { MessagingPattern };
-
-    // what is agreed, as the settings of any pattern
-    ghost settings: { Self.StaticConfig → Settings };
-
-    // what is agreed, where the settings are of this pattern
-    ghost static_config: { Settings → Option Self.StaticConfig };
-
     // the settings that a service is created with: each number at least the least that can serve
     ghost adjusted: { Self.StaticConfig → Self.StaticConfig };
 
@@ -98,53 +129,53 @@ pub trait Pattern: RequiredPattern {
     // a full buffer holds the publisher up, and has no room for the history
     ghost IsHistoryTooLong: { Self.StaticConfig → Type 0 };
 
-    /// The pattern.
-    fn pattern() -> MessagingPattern
-        ensures { result ≡ pattern };
-
-    /// What is agreed, as the settings of any pattern.
-    fn settings(config: Self::StaticConfig) -> Settings
-        ensures { result ≡ settings config };
-
-    /// What is agreed, where the settings are of this pattern; else `None`.
-    fn static_config(given: &Settings) -> Option<Self::StaticConfig>
-        ensures { result ≡ static_config given.now };
-
     /// The settings that a service is created with: a 0 that can't serve becomes 1.
     fn adjusted(config: Self::StaticConfig) -> Self::StaticConfig
         ensures { result ≡ adjusted config };
+
+    /// Whether the numbers are within the limits of a description, so that a service may be created with them.
+    fn is_within_limits(config: &Self::StaticConfig) -> bool
+        ensures { IsTrue result ↔ IsWithinLimits config.now };
 
     /// Whether a full buffer would hold the publisher up and has no room for the history: such a service isn't
     /// created. Always false of a pattern without a history.
     fn is_history_too_long(config: &Self::StaticConfig) -> bool
         ensures { IsTrue result ↔ IsHistoryTooLong config.now };
 
-    // settings are of the pattern that they are made of
-    ghost settings_are_of_pattern: { (config : Self.StaticConfig) → pattern_of (settings config) ≡ pattern };
-
-    // what was agreed is found again
-    ghost found_again: { (config : Self.StaticConfig) → static_config (settings config) ≡ Some config };
-
-    // what is found is what was agreed
-    ghost found: { (s : Settings) (config : Self.StaticConfig) → static_config s ≡ Some config → settings config ≡ s };
-
     // the limits are those of a description
-    ghost limits_are_those_of_descriptions: { (config : Self.StaticConfig) → IsWithinLimits config ↔ AreWithinLimits (settings config) };
+    ghost limits_are_those_of_descriptions: { (config : Self.StaticConfig) → IsWithinLimits config
+        ↔ AreWithinLimits (Self.settings config) };
 
     // within the limits there is a node, and there are fewer than 2^24
-    ghost has_nodes: { (config : Self.StaticConfig) → IsWithinLimits config → (1 ≤ max_nodes_of (settings config))
-        × (max_nodes_of (settings config) < 2 ^ 24) };
+    ghost has_nodes: { (config : Self.StaticConfig) → IsWithinLimits config → (1 ≤ max_nodes_of (Self.settings config))
+        × (max_nodes_of (Self.settings config) < 2 ^ 24) };
+}
 
-    // only a service of the pattern meets a requirement
-    ghost met_is_of_pattern: { (requirement : Self.Requirement) (a : Agreement) → Self.verdict requirement a ≡ Ok tt
-        → IsSome (static_config a.settings) };
+impl<P: RequiredPattern> Pattern for P {
+    ghost use Rattle.std.specs.Prelude.{unwrap_or};
+    ghost use Rattle.iox_describe_settings.specs.Agreement.{adjusted_of, HasNoRoomForHistory};
 
-    /// Whether the numbers are within the limits of a description, so that a service may be created with them.
-    final fn is_within_limits(config: &Self::StaticConfig) -> bool
-        ensures { IsTrue result ↔ IsWithinLimits config.now }
-    {
-        Self::settings(*config).are_within_limits()
+    ghost adjusted = { λ config. unwrap_or (P.static_config (adjusted_of (P.settings config))) config };
+
+    ghost IsWithinLimits = { λ config. AreWithinLimits (P.settings config) };
+
+    ghost IsHistoryTooLong = { λ config. HasNoRoomForHistory (P.settings config) };
+
+    fn adjusted(config: P::StaticConfig) -> P::StaticConfig {
+        P::static_config(&P::settings(config).adjusted()).unwrap_or(config)
     }
+
+    fn is_within_limits(config: &P::StaticConfig) -> bool {
+        P::settings(*config).are_within_limits()
+    }
+
+    fn is_history_too_long(config: &P::StaticConfig) -> bool {
+        P::settings(*config).is_history_too_long()
+    }
+
+    ghost limits_are_those_of_descriptions = { λ config. (λ h. h, λ h. h) };
+
+    ghost has_nodes = { λ config. patterns.has_nodes (P.settings config) };
 }
 
 /// The description of a service of the pattern, with the hash that belongs to the pattern and the name.
@@ -169,27 +200,14 @@ pub fn static_config_of<P: Pattern>(description: &Description) -> Option<P::Stat
 #[derive(Clone, Copy, Debug, PartialEq, Eq)]
 pub struct PublishSubscribe;
 
-impl Pattern for PublishSubscribe {
-    ghost use Rattle.std.specs.Prelude.{refl};
-    ghost use Rattle.std.proofs.Common.{arith};
-    ghost use Rattle.iox_describe_settings.specs.DescribeBase.declared.pattern.MessagingPattern.TheVariants as messaging_pattern;
-    ghost use Rattle.iox_describe_settings.specs.declared.static_config.publish_subscribe.Setting.TheVariants.{MaxNodes};
-    ghost use Rattle.iox_describe_settings.specs.declared.static_config.Settings.TheVariants as settings_of;
-    ghost use Rattle.iox_describe_settings.specs.PublishSubscribeSettings as config_of;
-    ghost use Rattle.iox_describe_verdict.specs.Patterns.{publish_subscribe_of, found_publish_subscribe};
-    ghost use Rattle.iox_describe_verdict.specs.PublishSubscribeLaws.{met_is_of_pattern};
+impl AgreedPattern for PublishSubscribe {
+    type StaticConfig = publish_subscribe::StaticConfig;
 
     ghost pattern = { messaging_pattern.PublishSubscribe };
 
     ghost settings = { settings_of.PublishSubscribe };
 
-    ghost static_config = { publish_subscribe_of };
-
-    ghost adjusted = { config_of.adjusted };
-
-    ghost IsWithinLimits = { config_of.IsWithinLimits };
-
-    ghost IsHistoryTooLong = { config_of.IsHistoryTooLong };
+    ghost static_config = { patterns.publish_subscribe_of };
 
     fn pattern() -> MessagingPattern {
         MessagingPattern::PublishSubscribe
@@ -206,52 +224,25 @@ impl Pattern for PublishSubscribe {
         }
     }
 
-    fn adjusted(config: Self::StaticConfig) -> Self::StaticConfig {
-        config.adjusted()
-    }
-
-    fn is_history_too_long(config: &Self::StaticConfig) -> bool {
-        config.is_history_too_long()
-    }
-
     ghost settings_are_of_pattern = { λ config. refl };
 
     ghost found_again = { λ config. refl };
 
-    ghost found = { found_publish_subscribe };
-
-    ghost limits_are_those_of_descriptions = { λ config. (λ h. h, λ h. h) };
-
-    ghost has_nodes = { λ config h. h 2 MaxNodes (Prim.omega arith) };
-
-    ghost met_is_of_pattern = { λ r a. met_is_of_pattern r a.attributes a.settings };
+    ghost found = { patterns.found_publish_subscribe };
 }
 
 /// Notifiers wake listeners.
 #[derive(Clone, Copy, Debug, PartialEq, Eq)]
 pub struct Event;
 
-impl Pattern for Event {
-    ghost use Rattle.std.specs.Prelude.{refl};
-    ghost use Rattle.std.proofs.Common.{arith};
-    ghost use Rattle.iox_describe_settings.specs.DescribeBase.declared.pattern.MessagingPattern.TheVariants as messaging_pattern;
-    ghost use Rattle.iox_describe_settings.specs.declared.static_config.event.Setting.TheVariants.{MaxNodes};
-    ghost use Rattle.iox_describe_settings.specs.declared.static_config.Settings.TheVariants as settings_of;
-    ghost use Rattle.iox_describe_settings.specs.EventSettings as config_of;
-    ghost use Rattle.iox_describe_verdict.specs.Patterns.{event_of, found_event};
-    ghost use Rattle.iox_describe_verdict.specs.EventLaws.{met_is_of_pattern};
+impl AgreedPattern for Event {
+    type StaticConfig = event::StaticConfig;
 
     ghost pattern = { messaging_pattern.Event };
 
     ghost settings = { settings_of.Event };
 
-    ghost static_config = { event_of };
-
-    ghost adjusted = { config_of.adjusted };
-
-    ghost IsWithinLimits = { config_of.IsWithinLimits };
-
-    ghost IsHistoryTooLong = { λ _. ⊥ };
+    ghost static_config = { patterns.event_of };
 
     fn pattern() -> MessagingPattern {
         MessagingPattern::Event
@@ -268,52 +259,25 @@ impl Pattern for Event {
         }
     }
 
-    fn adjusted(config: Self::StaticConfig) -> Self::StaticConfig {
-        config.adjusted()
-    }
-
-    fn is_history_too_long(_config: &Self::StaticConfig) -> bool {
-        false
-    }
-
     ghost settings_are_of_pattern = { λ config. refl };
 
     ghost found_again = { λ config. refl };
 
-    ghost found = { found_event };
-
-    ghost limits_are_those_of_descriptions = { λ config. (λ h. h, λ h. h) };
-
-    ghost has_nodes = { λ config h. h 3 MaxNodes (Prim.omega arith) };
-
-    ghost met_is_of_pattern = { λ r a. met_is_of_pattern r a.attributes a.settings };
+    ghost found = { patterns.found_event };
 }
 
 /// Clients send requests, and servers answer them.
 #[derive(Clone, Copy, Debug, PartialEq, Eq)]
 pub struct RequestResponse;
 
-impl Pattern for RequestResponse {
-    ghost use Rattle.std.specs.Prelude.{refl};
-    ghost use Rattle.std.proofs.Common.{arith};
-    ghost use Rattle.iox_describe_settings.specs.DescribeBase.declared.pattern.MessagingPattern.TheVariants as messaging_pattern;
-    ghost use Rattle.iox_describe_settings.specs.declared.static_config.request_response.Setting.TheVariants.{MaxNodes};
-    ghost use Rattle.iox_describe_settings.specs.declared.static_config.Settings.TheVariants as settings_of;
-    ghost use Rattle.iox_describe_settings.specs.RequestResponseSettings as config_of;
-    ghost use Rattle.iox_describe_verdict.specs.Patterns.{request_response_of, found_request_response};
-    ghost use Rattle.iox_describe_verdict.specs.RequestResponseLaws.{met_is_of_pattern};
+impl AgreedPattern for RequestResponse {
+    type StaticConfig = request_response::StaticConfig;
 
     ghost pattern = { messaging_pattern.RequestResponse };
 
     ghost settings = { settings_of.RequestResponse };
 
-    ghost static_config = { request_response_of };
-
-    ghost adjusted = { config_of.adjusted };
-
-    ghost IsWithinLimits = { config_of.IsWithinLimits };
-
-    ghost IsHistoryTooLong = { λ _. ⊥ };
+    ghost static_config = { patterns.request_response_of };
 
     fn pattern() -> MessagingPattern {
         MessagingPattern::RequestResponse
@@ -330,23 +294,9 @@ impl Pattern for RequestResponse {
         }
     }
 
-    fn adjusted(config: Self::StaticConfig) -> Self::StaticConfig {
-        config.adjusted()
-    }
-
-    fn is_history_too_long(_config: &Self::StaticConfig) -> bool {
-        false
-    }
-
     ghost settings_are_of_pattern = { λ config. refl };
 
     ghost found_again = { λ config. refl };
 
-    ghost found = { found_request_response };
-
-    ghost limits_are_those_of_descriptions = { λ config. (λ h. h, λ h. h) };
-
-    ghost has_nodes = { λ config h. h 7 MaxNodes (Prim.omega arith) };
-
-    ghost met_is_of_pattern = { λ r a. met_is_of_pattern r a.attributes a.settings };
+    ghost found = { patterns.found_request_response };
 }

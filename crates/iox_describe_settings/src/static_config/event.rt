@@ -92,11 +92,7 @@ pub enum Setting {
 impl PatternSetting for Setting {
     ghost use Rattle.std.specs.Prelude.{refl};
     ghost use Rattle.iox_describe_settings.specs.EventSettings.{all, changed, key, rule, value};
-    ghost use Rattle.iox_describe_settings.specs.declared.static_config.event.Setting.TheVariants.{Deadline, EventIdMaxValue};
-    ghost use Rattle.iox_describe_settings.specs.declared.static_config.event.Setting.TheVariants.{MaxListeners, MaxNodes, MaxNotifiers};
-    ghost use Rattle.iox_describe_settings.specs.declared.static_config.event.Setting.TheVariants.{NotifierCreatedEvent};
-    ghost use Rattle.iox_describe_settings.specs.declared.static_config.event.Setting.TheVariants.{NotifierDeadEvent};
-    ghost use Rattle.iox_describe_settings.specs.declared.static_config.event.Setting.TheVariants.{NotifierDroppedEvent};
+    ghost use Rattle.iox_describe_settings.specs.declared.static_config.event.Setting.TheVariants as setting;
 
     type Config = StaticConfig;
 
@@ -187,7 +183,7 @@ impl PatternSetting for Setting {
     ghost in_order = { refl };
 
     ghost of_kind = { elim
-        [ Deadline ↦ λ c. tt | EventIdMaxValue ↦ λ c. tt | MaxListeners ↦ λ c. tt | MaxNodes ↦ λ c. tt | MaxNotifiers ↦ λ c. tt | NotifierCreatedEvent ↦ λ c. tt | NotifierDeadEvent ↦ λ c. tt | NotifierDroppedEvent ↦ λ c. tt ] };
+        [ setting.Deadline ↦ λ c. tt | setting.EventIdMaxValue ↦ λ c. tt | setting.MaxListeners ↦ λ c. tt | setting.MaxNodes ↦ λ c. tt | setting.MaxNotifiers ↦ λ c. tt | setting.NotifierCreatedEvent ↦ λ c. tt | setting.NotifierDeadEvent ↦ λ c. tt | setting.NotifierDroppedEvent ↦ λ c. tt ] };
 
     ghost is_whole = { λ target config. refl };
 }

@@ -130,14 +130,7 @@ impl Setting {
 impl PatternSetting for Setting {
     ghost use Rattle.std.specs.Prelude.{refl};
     ghost use Rattle.iox_describe_settings.specs.PublishSubscribeSettings.{all, changed, key, rule, value};
-    ghost use Rattle.iox_describe_settings.specs.declared.static_config.publish_subscribe.Setting.TheVariants.{EnableSafeOverflow};
-    ghost use Rattle.iox_describe_settings.specs.declared.static_config.publish_subscribe.Setting.TheVariants.{HistorySize, MaxNodes};
-    ghost use Rattle.iox_describe_settings.specs.declared.static_config.publish_subscribe.Setting.TheVariants.{MaxPublishers};
-    ghost use Rattle.iox_describe_settings.specs.declared.static_config.publish_subscribe.Setting.TheVariants.{MaxSubscribers};
-    ghost use Rattle.iox_describe_settings.specs.declared.static_config.publish_subscribe.Setting.TheVariants.{SequenceNumbers};
-    ghost use Rattle.iox_describe_settings.specs.declared.static_config.publish_subscribe.Setting.TheVariants.{SubscriberMaxBorrowedSamples};
-    ghost use Rattle.iox_describe_settings.specs.declared.static_config.publish_subscribe.Setting.TheVariants.{SubscriberMaxBufferSize};
-    ghost use Rattle.iox_describe_settings.specs.declared.static_config.publish_subscribe.Setting.TheVariants.{Types};
+    ghost use Rattle.iox_describe_settings.specs.declared.static_config.publish_subscribe.Setting.TheVariants as setting;
 
     type Config = StaticConfig;
 
@@ -239,7 +232,7 @@ impl PatternSetting for Setting {
     ghost in_order = { refl };
 
     ghost of_kind = { elim
-        [ EnableSafeOverflow ↦ λ c. tt | HistorySize ↦ λ c. tt | MaxNodes ↦ λ c. tt | MaxPublishers ↦ λ c. tt | MaxSubscribers ↦ λ c. tt | SequenceNumbers ↦ λ c. tt | SubscriberMaxBorrowedSamples ↦ λ c. tt | SubscriberMaxBufferSize ↦ λ c. tt | Types ↦ λ c. tt ] };
+        [ setting.EnableSafeOverflow ↦ λ c. tt | setting.HistorySize ↦ λ c. tt | setting.MaxNodes ↦ λ c. tt | setting.MaxPublishers ↦ λ c. tt | setting.MaxSubscribers ↦ λ c. tt | setting.SequenceNumbers ↦ λ c. tt | setting.SubscriberMaxBorrowedSamples ↦ λ c. tt | setting.SubscriberMaxBufferSize ↦ λ c. tt | setting.Types ↦ λ c. tt ] };
 
     ghost is_whole = { λ target config. refl };
 }

@@ -113,17 +113,7 @@ pub enum Setting {
 impl PatternSetting for Setting {
     ghost use Rattle.std.specs.Prelude.{refl};
     ghost use Rattle.iox_describe_settings.specs.RequestResponseSettings.{all, changed, key, rule, value};
-    ghost use Rattle.iox_describe_settings.specs.declared.static_config.request_response.Setting.TheVariants.{EnableFireAndForgetRequests};
-    ghost use Rattle.iox_describe_settings.specs.declared.static_config.request_response.Setting.TheVariants.{EnableSafeOverflowForRequests};
-    ghost use Rattle.iox_describe_settings.specs.declared.static_config.request_response.Setting.TheVariants.{EnableSafeOverflowForResponses};
-    ghost use Rattle.iox_describe_settings.specs.declared.static_config.request_response.Setting.TheVariants.{MaxActiveRequestsPerClient};
-    ghost use Rattle.iox_describe_settings.specs.declared.static_config.request_response.Setting.TheVariants.{MaxBorrowedResponsesPerPendingResponse};
-    ghost use Rattle.iox_describe_settings.specs.declared.static_config.request_response.Setting.TheVariants.{MaxClients};
-    ghost use Rattle.iox_describe_settings.specs.declared.static_config.request_response.Setting.TheVariants.{MaxLoanedRequests};
-    ghost use Rattle.iox_describe_settings.specs.declared.static_config.request_response.Setting.TheVariants.{MaxNodes};
-    ghost use Rattle.iox_describe_settings.specs.declared.static_config.request_response.Setting.TheVariants.{MaxResponseBufferSize};
-    ghost use Rattle.iox_describe_settings.specs.declared.static_config.request_response.Setting.TheVariants.{MaxServers, RequestTypes};
-    ghost use Rattle.iox_describe_settings.specs.declared.static_config.request_response.Setting.TheVariants.{ResponseTypes};
+    ghost use Rattle.iox_describe_settings.specs.declared.static_config.request_response.Setting.TheVariants as setting;
 
     type Config = StaticConfig;
 
@@ -244,7 +234,7 @@ impl PatternSetting for Setting {
     ghost in_order = { refl };
 
     ghost of_kind = { elim
-        [ EnableFireAndForgetRequests ↦ λ c. tt | EnableSafeOverflowForRequests ↦ λ c. tt | EnableSafeOverflowForResponses ↦ λ c. tt | MaxActiveRequestsPerClient ↦ λ c. tt | MaxBorrowedResponsesPerPendingResponse ↦ λ c. tt | MaxClients ↦ λ c. tt | MaxLoanedRequests ↦ λ c. tt | MaxNodes ↦ λ c. tt | MaxResponseBufferSize ↦ λ c. tt | MaxServers ↦ λ c. tt | RequestTypes ↦ λ c. tt | ResponseTypes ↦ λ c. tt ] };
+        [ setting.EnableFireAndForgetRequests ↦ λ c. tt | setting.EnableSafeOverflowForRequests ↦ λ c. tt | setting.EnableSafeOverflowForResponses ↦ λ c. tt | setting.MaxActiveRequestsPerClient ↦ λ c. tt | setting.MaxBorrowedResponsesPerPendingResponse ↦ λ c. tt | setting.MaxClients ↦ λ c. tt | setting.MaxLoanedRequests ↦ λ c. tt | setting.MaxNodes ↦ λ c. tt | setting.MaxResponseBufferSize ↦ λ c. tt | setting.MaxServers ↦ λ c. tt | setting.RequestTypes ↦ λ c. tt | setting.ResponseTypes ↦ λ c. tt ] };
 
     ghost is_whole = { λ target config. refl };
 }

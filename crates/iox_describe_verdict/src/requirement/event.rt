@@ -3,13 +3,13 @@ ghost use Rattle.std.specs.Prelude.{◌≡◌};
 
 use crate::pattern::{Event, RequiredPattern};
 use crate::requirement::{RequiredSetting, asked, first_unmet};
-use iox_describe_base::attribute::AttributeSpecifier;
 use iox_describe_base::verifier::AttributeVerifier;
 use iox_describe_settings::description::Description;
 use iox_describe_settings::setting::SettingValue;
 use iox_describe_settings::static_config::Settings;
 use iox_describe_settings::static_config::event::{Setting, StaticConfig};
 use std::alloc::{AllocError, Global};
+use std::fmt;
 use thiserror::Error;
 
 /// Why an event service can't be opened as required: the first clause that is not met. The variants
@@ -17,35 +17,32 @@ use thiserror::Error;
 #[derive(Clone, Copy, Debug, PartialEq, Eq, PartialOrd, Ord, Error)]
 pub enum ClauseError {
     /// The service has another messaging pattern.
-    #[error("ClauseError::IncompatibleMessagingPattern")]
     IncompatibleMessagingPattern,
     /// A required attribute or key is missing.
-    #[error("ClauseError::IncompatibleAttributes")]
     IncompatibleAttributes,
     /// The option `deadline` differs.
-    #[error("ClauseError::IncompatibleDeadline")]
     IncompatibleDeadline,
     /// The service has fewer notifiers than asked.
-    #[error("ClauseError::DoesNotSupportRequestedAmountOfNotifiers")]
     DoesNotSupportRequestedAmountOfNotifiers,
     /// The service has fewer listeners than asked.
-    #[error("ClauseError::DoesNotSupportRequestedAmountOfListeners")]
     DoesNotSupportRequestedAmountOfListeners,
     /// The greatest event id is below the one asked.
-    #[error("ClauseError::DoesNotSupportRequestedMaxEventId")]
     DoesNotSupportRequestedMaxEventId,
     /// The option `notifier_created_event` differs.
-    #[error("ClauseError::IncompatibleNotifierCreatedEvent")]
     IncompatibleNotifierCreatedEvent,
     /// The option `notifier_dropped_event` differs.
-    #[error("ClauseError::IncompatibleNotifierDroppedEvent")]
     IncompatibleNotifierDroppedEvent,
     /// The option `notifier_dead_event` differs.
-    #[error("ClauseError::IncompatibleNotifierDeadEvent")]
     IncompatibleNotifierDeadEvent,
     /// The service has fewer nodes than asked.
-    #[error("ClauseError::DoesNotSupportRequestedAmountOfNodes")]
     DoesNotSupportRequestedAmountOfNodes,
+}
+
+/// It displays as the type's name, `::` and the variant.
+impl fmt::Display for ClauseError {
+    fn fmt<W: fmt::Write>(&self, f: &mut fmt::Formatter<W>) -> fmt::Result {
+        write!(f, "ClauseError::{self:?}")
+    }
 }
 
 /// What an opener requires of an event service. A setting that is `None` was not named, and is not tested.
@@ -72,8 +69,7 @@ pub struct Requirement {
 }
 
 impl Requirement {
-    ghost use Rattle.iox_describe_verdict.specs.Verdict.{first_unmet};
-    ghost use Rattle.iox_describe_verdict.specs.EventClauses.{clauses_on, unnamed};
+    ghost use Rattle.iox_describe_verdict.specs.EventClauses.{unnamed};
 
     /// A requirement that names no setting.
     pub fn new(attributes: AttributeVerifier) -> Self
@@ -91,29 +87,12 @@ impl Requirement {
             max_nodes: None,
         }
     }
-
-    /// The verdict on a service of this pattern.
-    fn judge(
-        &self,
-        attributes: &AttributeSpecifier,
-        given: &StaticConfig,
-    ) -> Result<(), ClauseError>
-        ensures { result ≡ first_unmet (clauses_on self.now attributes.now given.now) }
-    {
-        let attributes = (
-            self.attributes.is_met_by(attributes),
-            ClauseError::IncompatibleAttributes,
-        );
-        first_unmet::<Setting>(attributes, self, given)
-    }
 }
 
 impl RequiredPattern for Event {
     ghost use Rattle.iox_describe_verdict.specs.Verdict.{first_unmet};
     ghost use Rattle.iox_describe_verdict.specs.EventClauses.{asked, asked_fields, clauses, IsWeaker};
-    ghost use Rattle.iox_describe_verdict.specs.EventLaws.{weaker};
-
-    type StaticConfig = StaticConfig;
+    ghost use Rattle.iox_describe_verdict.specs.EventLaws.{met_is_of_pattern, weaker};
 
     type Requirement = Requirement;
 
@@ -147,8 +126,13 @@ impl RequiredPattern for Event {
 
     #[tactic(auto, unfolding(crate::specs::Verdict::unmet_clause))]
     fn verdict(requirement: &Requirement, description: &Description) -> Result<(), ClauseError> {
+        let has_attributes = requirement.attributes.is_met_by(description.attributes());
         match description.settings() {
-            Settings::Event(given) => requirement.judge(description.attributes(), given),
+            Settings::Event(given) => first_unmet::<Setting>(
+                (has_attributes, ClauseError::IncompatibleAttributes),
+                requirement,
+                given,
+            ),
             _ => Err(ClauseError::IncompatibleMessagingPattern),
         }
     }
@@ -168,15 +152,13 @@ impl RequiredPattern for Event {
     }
 
     ghost weaker_is_met = { λ weak strong a. weaker weak strong a.attributes a.settings };
+
+    ghost met_is_of_pattern = { λ r a. met_is_of_pattern r a.attributes a.settings };
 }
 
 impl RequiredSetting for Setting {
     ghost use Rattle.iox_describe_settings.specs.EventSettings.{rule};
-    ghost use Rattle.iox_describe_settings.specs.declared.static_config.event.Setting.TheVariants.{Deadline, EventIdMaxValue};
-    ghost use Rattle.iox_describe_settings.specs.declared.static_config.event.Setting.TheVariants.{MaxListeners, MaxNodes, MaxNotifiers};
-    ghost use Rattle.iox_describe_settings.specs.declared.static_config.event.Setting.TheVariants.{NotifierCreatedEvent};
-    ghost use Rattle.iox_describe_settings.specs.declared.static_config.event.Setting.TheVariants.{NotifierDeadEvent};
-    ghost use Rattle.iox_describe_settings.specs.declared.static_config.event.Setting.TheVariants.{NotifierDroppedEvent};
+    ghost use Rattle.iox_describe_settings.specs.declared.static_config.event.Setting.TheVariants as setting;
     ghost use Rattle.iox_describe_verdict.specs.Verdict.{number_is_of_kind, optional_number_is_of_kind};
     ghost use Rattle.iox_describe_verdict.specs.EventClauses.{error_of, named};
 
@@ -221,5 +203,5 @@ impl RequiredSetting for Setting {
     }
 
     ghost named_is_of_kind = { elim
-        [ Deadline ↦ λ r. optional_number_is_of_kind (rule Deadline) tt r.deadline | EventIdMaxValue ↦ λ r. number_is_of_kind (rule EventIdMaxValue) tt r.event_id_max_value | MaxListeners ↦ λ r. number_is_of_kind (rule MaxListeners) tt r.max_listeners | MaxNodes ↦ λ r. number_is_of_kind (rule MaxNodes) tt r.max_nodes | MaxNotifiers ↦ λ r. number_is_of_kind (rule MaxNotifiers) tt r.max_notifiers | NotifierCreatedEvent ↦ λ r. optional_number_is_of_kind (rule NotifierCreatedEvent) tt r.notifier_created_event | NotifierDeadEvent ↦ λ r. optional_number_is_of_kind (rule NotifierDeadEvent) tt r.notifier_dead_event | NotifierDroppedEvent ↦ λ r. optional_number_is_of_kind (rule NotifierDroppedEvent) tt r.notifier_dropped_event ] };
+        [ setting.Deadline ↦ λ r. optional_number_is_of_kind (rule setting.Deadline) tt r.deadline | setting.EventIdMaxValue ↦ λ r. number_is_of_kind (rule setting.EventIdMaxValue) tt r.event_id_max_value | setting.MaxListeners ↦ λ r. number_is_of_kind (rule setting.MaxListeners) tt r.max_listeners | setting.MaxNodes ↦ λ r. number_is_of_kind (rule setting.MaxNodes) tt r.max_nodes | setting.MaxNotifiers ↦ λ r. number_is_of_kind (rule setting.MaxNotifiers) tt r.max_notifiers | setting.NotifierCreatedEvent ↦ λ r. optional_number_is_of_kind (rule setting.NotifierCreatedEvent) tt r.notifier_created_event | setting.NotifierDeadEvent ↦ λ r. optional_number_is_of_kind (rule setting.NotifierDeadEvent) tt r.notifier_dead_event | setting.NotifierDroppedEvent ↦ λ r. optional_number_is_of_kind (rule setting.NotifierDroppedEvent) tt r.notifier_dropped_event ] };
 }

@@ -3,7 +3,6 @@ ghost use Rattle.std.specs.Prelude.{◌≡◌};
 
 use crate::pattern::{PublishSubscribe, RequiredPattern};
 use crate::requirement::{RequiredSetting, asked, first_unmet};
-use iox_describe_base::attribute::AttributeSpecifier;
 use iox_describe_base::message_type::MessageTypeDetails;
 use iox_describe_base::verifier::AttributeVerifier;
 use iox_describe_settings::description::Description;
@@ -11,6 +10,7 @@ use iox_describe_settings::setting::SettingValue;
 use iox_describe_settings::static_config::Settings;
 use iox_describe_settings::static_config::publish_subscribe::{Setting, StaticConfig};
 use std::alloc::{AllocError, Global};
+use std::fmt;
 use thiserror::Error;
 
 /// Why a publish-subscribe service can't be opened as required: the first clause that is not met. The variants
@@ -18,38 +18,34 @@ use thiserror::Error;
 #[derive(Clone, Copy, Debug, PartialEq, Eq, PartialOrd, Ord, Error)]
 pub enum ClauseError {
     /// The service has another messaging pattern.
-    #[error("ClauseError::IncompatibleMessagingPattern")]
     IncompatibleMessagingPattern,
     /// The types are not compatible.
-    #[error("ClauseError::IncompatibleTypes")]
     IncompatibleTypes,
     /// A required attribute or key is missing.
-    #[error("ClauseError::IncompatibleAttributes")]
     IncompatibleAttributes,
     /// The switch `enable_safe_overflow` differs.
-    #[error("ClauseError::IncompatibleOverflowBehavior")]
     IncompatibleOverflowBehavior,
     /// The switch `sequence_numbers` differs.
-    #[error("ClauseError::IncompatibleSequenceNumbers")]
     IncompatibleSequenceNumbers,
     /// The service has fewer publishers than asked.
-    #[error("ClauseError::DoesNotSupportRequestedAmountOfPublishers")]
     DoesNotSupportRequestedAmountOfPublishers,
     /// The service has fewer subscribers than asked.
-    #[error("ClauseError::DoesNotSupportRequestedAmountOfSubscribers")]
     DoesNotSupportRequestedAmountOfSubscribers,
     /// The service has fewer room in a buffer than asked.
-    #[error("ClauseError::DoesNotSupportRequestedMinBufferSize")]
     DoesNotSupportRequestedMinBufferSize,
     /// The service has fewer history than asked.
-    #[error("ClauseError::DoesNotSupportRequestedMinHistorySize")]
     DoesNotSupportRequestedMinHistorySize,
     /// The service has fewer borrowed samples than asked.
-    #[error("ClauseError::DoesNotSupportRequestedMinSubscriberBorrowedSamples")]
     DoesNotSupportRequestedMinSubscriberBorrowedSamples,
     /// The service has fewer nodes than asked.
-    #[error("ClauseError::DoesNotSupportRequestedAmountOfNodes")]
     DoesNotSupportRequestedAmountOfNodes,
+}
+
+/// It displays as the type's name, `::` and the variant.
+impl fmt::Display for ClauseError {
+    fn fmt<W: fmt::Write>(&self, f: &mut fmt::Formatter<W>) -> fmt::Result {
+        write!(f, "ClauseError::{self:?}")
+    }
 }
 
 /// What an opener requires of a publish-subscribe service. A setting that is `None` was not named, and is not tested.
@@ -78,8 +74,7 @@ pub struct Requirement {
 }
 
 impl Requirement {
-    ghost use Rattle.iox_describe_verdict.specs.Verdict.{first_unmet};
-    ghost use Rattle.iox_describe_verdict.specs.PublishSubscribeClauses.{clauses_on, unnamed};
+    ghost use Rattle.iox_describe_verdict.specs.PublishSubscribeClauses.{unnamed};
 
     /// A requirement that names no setting.
     pub fn new(types: MessageTypeDetails, attributes: AttributeVerifier) -> Self
@@ -98,29 +93,12 @@ impl Requirement {
             max_nodes: None,
         }
     }
-
-    /// The verdict on a service of this pattern.
-    fn judge(
-        &self,
-        attributes: &AttributeSpecifier,
-        given: &StaticConfig,
-    ) -> Result<(), ClauseError>
-        ensures { result ≡ first_unmet (clauses_on self.now attributes.now given.now) }
-    {
-        let attributes = (
-            self.attributes.is_met_by(attributes),
-            ClauseError::IncompatibleAttributes,
-        );
-        first_unmet::<Setting>(attributes, self, given)
-    }
 }
 
 impl RequiredPattern for PublishSubscribe {
     ghost use Rattle.iox_describe_verdict.specs.Verdict.{first_unmet};
     ghost use Rattle.iox_describe_verdict.specs.PublishSubscribeClauses.{asked, asked_fields, clauses, IsWeaker};
-    ghost use Rattle.iox_describe_verdict.specs.PublishSubscribeLaws.{weaker};
-
-    type StaticConfig = StaticConfig;
+    ghost use Rattle.iox_describe_verdict.specs.PublishSubscribeLaws.{met_is_of_pattern, weaker};
 
     type Requirement = Requirement;
 
@@ -154,8 +132,13 @@ impl RequiredPattern for PublishSubscribe {
 
     #[tactic(auto, unfolding(crate::specs::Verdict::unmet_clause))]
     fn verdict(requirement: &Requirement, description: &Description) -> Result<(), ClauseError> {
+        let has_attributes = requirement.attributes.is_met_by(description.attributes());
         match description.settings() {
-            Settings::PublishSubscribe(given) => requirement.judge(description.attributes(), given),
+            Settings::PublishSubscribe(given) => first_unmet::<Setting>(
+                (has_attributes, ClauseError::IncompatibleAttributes),
+                requirement,
+                given,
+            ),
             _ => Err(ClauseError::IncompatibleMessagingPattern),
         }
     }
@@ -176,18 +159,13 @@ impl RequiredPattern for PublishSubscribe {
     }
 
     ghost weaker_is_met = { λ weak strong a. weaker weak strong a.attributes a.settings };
+
+    ghost met_is_of_pattern = { λ r a. met_is_of_pattern r a.attributes a.settings };
 }
 
 impl RequiredSetting for Setting {
     ghost use Rattle.iox_describe_settings.specs.PublishSubscribeSettings.{rule};
-    ghost use Rattle.iox_describe_settings.specs.declared.static_config.publish_subscribe.Setting.TheVariants.{EnableSafeOverflow};
-    ghost use Rattle.iox_describe_settings.specs.declared.static_config.publish_subscribe.Setting.TheVariants.{HistorySize, MaxNodes};
-    ghost use Rattle.iox_describe_settings.specs.declared.static_config.publish_subscribe.Setting.TheVariants.{MaxPublishers};
-    ghost use Rattle.iox_describe_settings.specs.declared.static_config.publish_subscribe.Setting.TheVariants.{MaxSubscribers};
-    ghost use Rattle.iox_describe_settings.specs.declared.static_config.publish_subscribe.Setting.TheVariants.{SequenceNumbers};
-    ghost use Rattle.iox_describe_settings.specs.declared.static_config.publish_subscribe.Setting.TheVariants.{SubscriberMaxBorrowedSamples};
-    ghost use Rattle.iox_describe_settings.specs.declared.static_config.publish_subscribe.Setting.TheVariants.{SubscriberMaxBufferSize};
-    ghost use Rattle.iox_describe_settings.specs.declared.static_config.publish_subscribe.Setting.TheVariants.{Types};
+    ghost use Rattle.iox_describe_settings.specs.declared.static_config.publish_subscribe.Setting.TheVariants as setting;
     ghost use Rattle.iox_describe_verdict.specs.Verdict.{number_is_of_kind, switch_is_of_kind};
     ghost use Rattle.iox_describe_verdict.specs.PublishSubscribeClauses.{error_of, named};
 
@@ -235,5 +213,5 @@ impl RequiredSetting for Setting {
     }
 
     ghost named_is_of_kind = { elim
-        [ EnableSafeOverflow ↦ λ r. switch_is_of_kind (rule EnableSafeOverflow) tt r.enable_safe_overflow | HistorySize ↦ λ r. number_is_of_kind (rule HistorySize) tt r.history_size | MaxNodes ↦ λ r. number_is_of_kind (rule MaxNodes) tt r.max_nodes | MaxPublishers ↦ λ r. number_is_of_kind (rule MaxPublishers) tt r.max_publishers | MaxSubscribers ↦ λ r. number_is_of_kind (rule MaxSubscribers) tt r.max_subscribers | SequenceNumbers ↦ λ r. switch_is_of_kind (rule SequenceNumbers) tt r.sequence_numbers | SubscriberMaxBorrowedSamples ↦ λ r. number_is_of_kind (rule SubscriberMaxBorrowedSamples) tt r.subscriber_max_borrowed_samples | SubscriberMaxBufferSize ↦ λ r. number_is_of_kind (rule SubscriberMaxBufferSize) tt r.subscriber_max_buffer_size | Types ↦ λ r. tt ] };
+        [ setting.EnableSafeOverflow ↦ λ r. switch_is_of_kind (rule setting.EnableSafeOverflow) tt r.enable_safe_overflow | setting.HistorySize ↦ λ r. number_is_of_kind (rule setting.HistorySize) tt r.history_size | setting.MaxNodes ↦ λ r. number_is_of_kind (rule setting.MaxNodes) tt r.max_nodes | setting.MaxPublishers ↦ λ r. number_is_of_kind (rule setting.MaxPublishers) tt r.max_publishers | setting.MaxSubscribers ↦ λ r. number_is_of_kind (rule setting.MaxSubscribers) tt r.max_subscribers | setting.SequenceNumbers ↦ λ r. switch_is_of_kind (rule setting.SequenceNumbers) tt r.sequence_numbers | setting.SubscriberMaxBorrowedSamples ↦ λ r. number_is_of_kind (rule setting.SubscriberMaxBorrowedSamples) tt r.subscriber_max_borrowed_samples | setting.SubscriberMaxBufferSize ↦ λ r. number_is_of_kind (rule setting.SubscriberMaxBufferSize) tt r.subscriber_max_buffer_size | setting.Types ↦ λ r. tt ] };
 }

@@ -3,7 +3,6 @@ ghost use Rattle.std.specs.Prelude.{◌≡◌};
 
 use crate::pattern::{RequestResponse, RequiredPattern};
 use crate::requirement::{RequiredSetting, asked, first_unmet};
-use iox_describe_base::attribute::AttributeSpecifier;
 use iox_describe_base::message_type::MessageTypeDetails;
 use iox_describe_base::verifier::AttributeVerifier;
 use iox_describe_settings::description::Description;
@@ -11,6 +10,7 @@ use iox_describe_settings::setting::SettingValue;
 use iox_describe_settings::static_config::Settings;
 use iox_describe_settings::static_config::request_response::{Setting, StaticConfig};
 use std::alloc::{AllocError, Global};
+use std::fmt;
 use thiserror::Error;
 
 /// Why a request-response service can't be opened as required: the first clause that is not met. The variants
@@ -18,47 +18,40 @@ use thiserror::Error;
 #[derive(Clone, Copy, Debug, PartialEq, Eq, PartialOrd, Ord, Error)]
 pub enum ClauseError {
     /// The service has another messaging pattern.
-    #[error("ClauseError::IncompatibleMessagingPattern")]
     IncompatibleMessagingPattern,
     /// The types are not compatible.
-    #[error("ClauseError::IncompatibleRequestType")]
     IncompatibleRequestType,
     /// The types are not compatible.
-    #[error("ClauseError::IncompatibleResponseType")]
     IncompatibleResponseType,
     /// A required attribute or key is missing.
-    #[error("ClauseError::IncompatibleAttributes")]
     IncompatibleAttributes,
     /// The switch `enable_safe_overflow_for_requests` differs.
-    #[error("ClauseError::IncompatibleOverflowBehaviorForRequests")]
     IncompatibleOverflowBehaviorForRequests,
     /// The switch `enable_safe_overflow_for_responses` differs.
-    #[error("ClauseError::IncompatibleOverflowBehaviorForResponses")]
     IncompatibleOverflowBehaviorForResponses,
     /// The switch `enable_fire_and_forget_requests` differs.
-    #[error("ClauseError::IncompatibleBehaviorForFireAndForgetRequests")]
     IncompatibleBehaviorForFireAndForgetRequests,
     /// The service has fewer loaned requests than asked.
-    #[error("ClauseError::DoesNotSupportRequestedAmountOfClientRequestLoans")]
     DoesNotSupportRequestedAmountOfClientRequestLoans,
     /// The service has fewer active requests than asked.
-    #[error("ClauseError::DoesNotSupportRequestedAmountOfActiveRequestsPerClient")]
     DoesNotSupportRequestedAmountOfActiveRequestsPerClient,
     /// The service has fewer room for responses than asked.
-    #[error("ClauseError::DoesNotSupportRequestedResponseBufferSize")]
     DoesNotSupportRequestedResponseBufferSize,
     /// The service has fewer servers than asked.
-    #[error("ClauseError::DoesNotSupportRequestedAmountOfServers")]
     DoesNotSupportRequestedAmountOfServers,
     /// The service has fewer clients than asked.
-    #[error("ClauseError::DoesNotSupportRequestedAmountOfClients")]
     DoesNotSupportRequestedAmountOfClients,
     /// The service has fewer borrowed responses than asked.
-    #[error("ClauseError::DoesNotSupportRequestedAmountOfBorrowedResponsesPerPendingResponse")]
     DoesNotSupportRequestedAmountOfBorrowedResponsesPerPendingResponse,
     /// The service has fewer nodes than asked.
-    #[error("ClauseError::DoesNotSupportRequestedAmountOfNodes")]
     DoesNotSupportRequestedAmountOfNodes,
+}
+
+/// It displays as the type's name, `::` and the variant.
+impl fmt::Display for ClauseError {
+    fn fmt<W: fmt::Write>(&self, f: &mut fmt::Formatter<W>) -> fmt::Result {
+        write!(f, "ClauseError::{self:?}")
+    }
 }
 
 /// What an opener requires of a request-response service. A setting that is `None` was not named, and is not tested.
@@ -93,8 +86,7 @@ pub struct Requirement {
 }
 
 impl Requirement {
-    ghost use Rattle.iox_describe_verdict.specs.Verdict.{first_unmet};
-    ghost use Rattle.iox_describe_verdict.specs.RequestResponseClauses.{clauses_on, unnamed};
+    ghost use Rattle.iox_describe_verdict.specs.RequestResponseClauses.{unnamed};
 
     /// A requirement that names no setting.
     pub fn new(
@@ -120,29 +112,12 @@ impl Requirement {
             max_nodes: None,
         }
     }
-
-    /// The verdict on a service of this pattern.
-    fn judge(
-        &self,
-        attributes: &AttributeSpecifier,
-        given: &StaticConfig,
-    ) -> Result<(), ClauseError>
-        ensures { result ≡ first_unmet (clauses_on self.now attributes.now given.now) }
-    {
-        let attributes = (
-            self.attributes.is_met_by(attributes),
-            ClauseError::IncompatibleAttributes,
-        );
-        first_unmet::<Setting>(attributes, self, given)
-    }
 }
 
 impl RequiredPattern for RequestResponse {
     ghost use Rattle.iox_describe_verdict.specs.Verdict.{first_unmet};
     ghost use Rattle.iox_describe_verdict.specs.RequestResponseClauses.{asked, asked_fields, clauses, IsWeaker};
-    ghost use Rattle.iox_describe_verdict.specs.RequestResponseLaws.{weaker};
-
-    type StaticConfig = StaticConfig;
+    ghost use Rattle.iox_describe_verdict.specs.RequestResponseLaws.{met_is_of_pattern, weaker};
 
     type Requirement = Requirement;
 
@@ -179,8 +154,13 @@ impl RequiredPattern for RequestResponse {
 
     #[tactic(auto, unfolding(crate::specs::Verdict::unmet_clause))]
     fn verdict(requirement: &Requirement, description: &Description) -> Result<(), ClauseError> {
+        let has_attributes = requirement.attributes.is_met_by(description.attributes());
         match description.settings() {
-            Settings::RequestResponse(given) => requirement.judge(description.attributes(), given),
+            Settings::RequestResponse(given) => first_unmet::<Setting>(
+                (has_attributes, ClauseError::IncompatibleAttributes),
+                requirement,
+                given,
+            ),
             _ => Err(ClauseError::IncompatibleMessagingPattern),
         }
     }
@@ -204,21 +184,13 @@ impl RequiredPattern for RequestResponse {
     }
 
     ghost weaker_is_met = { λ weak strong a. weaker weak strong a.attributes a.settings };
+
+    ghost met_is_of_pattern = { λ r a. met_is_of_pattern r a.attributes a.settings };
 }
 
 impl RequiredSetting for Setting {
     ghost use Rattle.iox_describe_settings.specs.RequestResponseSettings.{rule};
-    ghost use Rattle.iox_describe_settings.specs.declared.static_config.request_response.Setting.TheVariants.{EnableFireAndForgetRequests};
-    ghost use Rattle.iox_describe_settings.specs.declared.static_config.request_response.Setting.TheVariants.{EnableSafeOverflowForRequests};
-    ghost use Rattle.iox_describe_settings.specs.declared.static_config.request_response.Setting.TheVariants.{EnableSafeOverflowForResponses};
-    ghost use Rattle.iox_describe_settings.specs.declared.static_config.request_response.Setting.TheVariants.{MaxActiveRequestsPerClient};
-    ghost use Rattle.iox_describe_settings.specs.declared.static_config.request_response.Setting.TheVariants.{MaxBorrowedResponsesPerPendingResponse};
-    ghost use Rattle.iox_describe_settings.specs.declared.static_config.request_response.Setting.TheVariants.{MaxClients};
-    ghost use Rattle.iox_describe_settings.specs.declared.static_config.request_response.Setting.TheVariants.{MaxLoanedRequests};
-    ghost use Rattle.iox_describe_settings.specs.declared.static_config.request_response.Setting.TheVariants.{MaxNodes};
-    ghost use Rattle.iox_describe_settings.specs.declared.static_config.request_response.Setting.TheVariants.{MaxResponseBufferSize};
-    ghost use Rattle.iox_describe_settings.specs.declared.static_config.request_response.Setting.TheVariants.{MaxServers, RequestTypes};
-    ghost use Rattle.iox_describe_settings.specs.declared.static_config.request_response.Setting.TheVariants.{ResponseTypes};
+    ghost use Rattle.iox_describe_settings.specs.declared.static_config.request_response.Setting.TheVariants as setting;
     ghost use Rattle.iox_describe_verdict.specs.Verdict.{number_is_of_kind, switch_is_of_kind};
     ghost use Rattle.iox_describe_verdict.specs.RequestResponseClauses.{error_of, named};
 
@@ -284,5 +256,5 @@ impl RequiredSetting for Setting {
     }
 
     ghost named_is_of_kind = { elim
-        [ EnableFireAndForgetRequests ↦ λ r. switch_is_of_kind (rule EnableFireAndForgetRequests) tt r.enable_fire_and_forget_requests | EnableSafeOverflowForRequests ↦ λ r. switch_is_of_kind (rule EnableSafeOverflowForRequests) tt r.enable_safe_overflow_for_requests | EnableSafeOverflowForResponses ↦ λ r. switch_is_of_kind (rule EnableSafeOverflowForResponses) tt r.enable_safe_overflow_for_responses | MaxActiveRequestsPerClient ↦ λ r. number_is_of_kind (rule MaxActiveRequestsPerClient) tt r.max_active_requests_per_client | MaxBorrowedResponsesPerPendingResponse ↦ λ r. number_is_of_kind (rule MaxBorrowedResponsesPerPendingResponse) tt r.max_borrowed_responses_per_pending_response | MaxClients ↦ λ r. number_is_of_kind (rule MaxClients) tt r.max_clients | MaxLoanedRequests ↦ λ r. number_is_of_kind (rule MaxLoanedRequests) tt r.max_loaned_requests | MaxNodes ↦ λ r. number_is_of_kind (rule MaxNodes) tt r.max_nodes | MaxResponseBufferSize ↦ λ r. number_is_of_kind (rule MaxResponseBufferSize) tt r.max_response_buffer_size | MaxServers ↦ λ r. number_is_of_kind (rule MaxServers) tt r.max_servers | RequestTypes ↦ λ r. tt | ResponseTypes ↦ λ r. tt ] };
+        [ setting.EnableFireAndForgetRequests ↦ λ r. switch_is_of_kind (rule setting.EnableFireAndForgetRequests) tt r.enable_fire_and_forget_requests | setting.EnableSafeOverflowForRequests ↦ λ r. switch_is_of_kind (rule setting.EnableSafeOverflowForRequests) tt r.enable_safe_overflow_for_requests | setting.EnableSafeOverflowForResponses ↦ λ r. switch_is_of_kind (rule setting.EnableSafeOverflowForResponses) tt r.enable_safe_overflow_for_responses | setting.MaxActiveRequestsPerClient ↦ λ r. number_is_of_kind (rule setting.MaxActiveRequestsPerClient) tt r.max_active_requests_per_client | setting.MaxBorrowedResponsesPerPendingResponse ↦ λ r. number_is_of_kind (rule setting.MaxBorrowedResponsesPerPendingResponse) tt r.max_borrowed_responses_per_pending_response | setting.MaxClients ↦ λ r. number_is_of_kind (rule setting.MaxClients) tt r.max_clients | setting.MaxLoanedRequests ↦ λ r. number_is_of_kind (rule setting.MaxLoanedRequests) tt r.max_loaned_requests | setting.MaxNodes ↦ λ r. number_is_of_kind (rule setting.MaxNodes) tt r.max_nodes | setting.MaxResponseBufferSize ↦ λ r. number_is_of_kind (rule setting.MaxResponseBufferSize) tt r.max_response_buffer_size | setting.MaxServers ↦ λ r. number_is_of_kind (rule setting.MaxServers) tt r.max_servers | setting.RequestTypes ↦ λ r. tt | setting.ResponseTypes ↦ λ r. tt ] };
 }

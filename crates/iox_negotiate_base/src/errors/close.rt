@@ -1,5 +1,5 @@
 //! Why a factory isn't closed.
-ghost use Rattle.std.specs.Prelude.{◌≡◌};
+ghost use Rattle.std.specs.Prelude.{◌≡◌, Some};
 ghost use Rattle.iox_negotiate_base.specs.CloseText.{close_text};
 
 use std::fmt;
@@ -33,8 +33,6 @@ impl CloseError {
 }
 
 impl fmt::Display for CloseError {
-    ghost use Rattle.std.specs.Prelude.{Some};
-
     ghost output = { λ error. Some (close_text error) };
 
     fn fmt<W: fmt::Write>(&self, f: &mut fmt::Formatter<W>) -> fmt::Result {

@@ -1,5 +1,5 @@
 //! Why an event service is neither opened nor created.
-ghost use Rattle.std.specs.Prelude.{◌≡◌};
+ghost use Rattle.std.specs.Prelude.{◌≡◌, Some};
 ghost use Rattle.iox_negotiate_base.specs.EventTexts.{open_text, create_text, open_or_create_text};
 ghost use Rattle.iox_negotiate_base.specs.EventErrors.{clause_error, open_error, create_error, open_or_create_error};
 ghost use Rattle.iox_negotiate_base.specs.declared.errors.event.EventOpenOrCreateError.TheVariants as either;
@@ -79,8 +79,6 @@ impl EventOpenError {
 }
 
 impl fmt::Display for EventOpenError {
-    ghost use Rattle.std.specs.Prelude.{Some};
-
     ghost output = { λ error. Some (open_text error) };
 
     fn fmt<W: fmt::Write>(&self, f: &mut fmt::Formatter<W>) -> fmt::Result {
@@ -119,8 +117,6 @@ impl EventCreateError {
 }
 
 impl fmt::Display for EventCreateError {
-    ghost use Rattle.std.specs.Prelude.{Some};
-
     ghost output = { λ error. Some (create_text error) };
 
     fn fmt<W: fmt::Write>(&self, f: &mut fmt::Formatter<W>) -> fmt::Result {
@@ -157,8 +153,6 @@ impl EventOpenOrCreateError {
 }
 
 impl fmt::Display for EventOpenOrCreateError {
-    ghost use Rattle.std.specs.Prelude.{Some};
-
     ghost output = { λ error. Some (open_or_create_text error) };
 
     fn fmt<W: fmt::Write>(&self, f: &mut fmt::Formatter<W>) -> fmt::Result {

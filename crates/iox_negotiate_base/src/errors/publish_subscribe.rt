@@ -1,5 +1,5 @@
 //! Why a publish-subscribe service is neither opened nor created.
-ghost use Rattle.std.specs.Prelude.{◌≡◌};
+ghost use Rattle.std.specs.Prelude.{◌≡◌, Some};
 ghost use Rattle.iox_negotiate_base.specs.PublishSubscribeTexts.{open_text, create_text, open_or_create_text};
 ghost use Rattle.iox_negotiate_base.specs.PublishSubscribeErrors.{clause_error, open_error, create_error, open_or_create_error};
 ghost use Rattle.iox_negotiate_base.specs.declared.errors.publish_subscribe.PublishSubscribeOpenOrCreateError.TheVariants as either;
@@ -82,8 +82,6 @@ impl PublishSubscribeOpenError {
 }
 
 impl fmt::Display for PublishSubscribeOpenError {
-    ghost use Rattle.std.specs.Prelude.{Some};
-
     ghost output = { λ error. Some (open_text error) };
 
     fn fmt<W: fmt::Write>(&self, f: &mut fmt::Formatter<W>) -> fmt::Result {
@@ -124,8 +122,6 @@ impl PublishSubscribeCreateError {
 }
 
 impl fmt::Display for PublishSubscribeCreateError {
-    ghost use Rattle.std.specs.Prelude.{Some};
-
     ghost output = { λ error. Some (create_text error) };
 
     fn fmt<W: fmt::Write>(&self, f: &mut fmt::Formatter<W>) -> fmt::Result {
@@ -164,8 +160,6 @@ impl PublishSubscribeOpenOrCreateError {
 }
 
 impl fmt::Display for PublishSubscribeOpenOrCreateError {
-    ghost use Rattle.std.specs.Prelude.{Some};
-
     ghost output = { λ error. Some (open_or_create_text error) };
 
     fn fmt<W: fmt::Write>(&self, f: &mut fmt::Formatter<W>) -> fmt::Result {

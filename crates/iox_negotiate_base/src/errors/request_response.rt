@@ -1,5 +1,5 @@
 //! Why a request-response service is neither opened nor created.
-ghost use Rattle.std.specs.Prelude.{◌≡◌};
+ghost use Rattle.std.specs.Prelude.{◌≡◌, Some};
 ghost use Rattle.iox_negotiate_base.specs.RequestResponseTexts.{open_text, create_text, open_or_create_text};
 ghost use Rattle.iox_negotiate_base.specs.RequestResponseErrors.{clause_error, open_error, create_error, open_or_create_error};
 ghost use Rattle.iox_negotiate_base.specs.declared.errors.request_response.RequestResponseOpenOrCreateError.TheVariants as either;
@@ -92,8 +92,6 @@ impl RequestResponseOpenError {
 }
 
 impl fmt::Display for RequestResponseOpenError {
-    ghost use Rattle.std.specs.Prelude.{Some};
-
     ghost output = { λ error. Some (open_text error) };
 
     fn fmt<W: fmt::Write>(&self, f: &mut fmt::Formatter<W>) -> fmt::Result {
@@ -132,8 +130,6 @@ impl RequestResponseCreateError {
 }
 
 impl fmt::Display for RequestResponseCreateError {
-    ghost use Rattle.std.specs.Prelude.{Some};
-
     ghost output = { λ error. Some (create_text error) };
 
     fn fmt<W: fmt::Write>(&self, f: &mut fmt::Formatter<W>) -> fmt::Result {
@@ -171,8 +167,6 @@ impl RequestResponseOpenOrCreateError {
 }
 
 impl fmt::Display for RequestResponseOpenOrCreateError {
-    ghost use Rattle.std.specs.Prelude.{Some};
-
     ghost output = { λ error. Some (open_or_create_text error) };
 
     fn fmt<W: fmt::Write>(&self, f: &mut fmt::Formatter<W>) -> fmt::Result {

@@ -7,9 +7,10 @@ pub returns : goal.returns
 returns g c =
     let p = g.P.Pattern in
     let asks = g.P.RequiredPattern in
+    let agrees = g.P.AgreedPattern in
     let s = c.args.self in
     either-of _ _ asks.verdict _ _ _ _ _ _
-    (λ r. agreement s.name (service_hash_of p.pattern s.name) (p.settings (p.adjusted (asks.asked r))) (asks.attributes r).pairs)
+    (λ r. agreement s.name (service_hash_of agrees.pattern s.name) (agrees.settings (p.adjusted (asks.asked r))) (asks.attributes r).pairs)
     (λ r. p.IsWithinLimits (p.adjusted (asks.asked r)))
     (λ r. p.IsHistoryTooLong (p.adjusted (asks.asked r)))
     _ _ c.with_attributes.ensures c.opened_or_created.ensures

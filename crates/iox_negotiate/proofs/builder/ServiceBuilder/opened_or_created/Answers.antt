@@ -9,18 +9,19 @@ pub returns : goal.returns
 returns g c =
     let p = g.P.Pattern in
     let asks = g.P.RequiredPattern in
+    let agrees = g.P.AgreedPattern in
     let s = c.args.self.now in
     let a = c.new-asked.result in
     record {
       refusal = a.refusal;
       refused = c.new-asked.ensures.refusal;
       within = λ none. subst (λ pairs. IsWithinLimits
-          (agreement s.name (service_hash_of p.pattern s.name) (p.settings (p.adjusted (asks.asked s.requirement))) pairs))
+          (agreement s.name (service_hash_of agrees.pattern s.name) (agrees.settings (p.adjusted (asks.asked s.requirement))) pairs))
           (search rules) (c.new-asked.ensures.within none);
       negotiated =
           either-as _ _ asks.verdict _ _ _ _ _ _ _ _ _ _ _
-          (agreement a.name (service_hash_of p.pattern a.name) (p.settings a.config) a.attributes.now)
-          (agreement s.name (service_hash_of p.pattern s.name) (p.settings (p.adjusted (asks.asked s.requirement)))
+          (agreement a.name (service_hash_of agrees.pattern a.name) (agrees.settings a.config) a.attributes.now)
+          (agreement s.name (service_hash_of agrees.pattern s.name) (agrees.settings (p.adjusted (asks.asked s.requirement)))
           (asks.attributes s.requirement).pairs)
           c.new-asked.ensures.hash c.new-asked.ensures.node c.new-asked.ensures.requirement (search rules)
           c.open_or_create.ensures;
