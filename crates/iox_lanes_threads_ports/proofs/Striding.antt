@@ -100,18 +100,7 @@ module _ {L C : Type 0} {kind : LaneKind L C} (ahead : GoesAhead L C kind) where
       (kind.after answer (kind.called call lane)) (kind.next call) answer (kind.party (kind.called call lane)) run on.0 on.1
       (subst (λ (a : SharedAccess). me' ≡ single (stepped (port_of me) a answer (kind.party (kind.called call lane)))) (sym e) is)
 
-  -- a port that may stride may also where its call begins
-  pub stride_begun : (words seat : TableId) (me : Me ℕ View) (sizes : TableSizes) (lane : L) (call : C) (cells : ℕ)
-      → kind.standing lane ≡ call → MayStride kind words seat me sizes lane cells
-      → MayStride kind words seat me sizes (kind.called call lane) cells
-  stride_begun words seat me sizes lane call cells is may = record {
-    table = may.table;
-    own = may.own;
-    stands = (strode_begun me lane call is may.own.0 may.stands).stands;
-    cells = may.cells;
-  }
-
-  -- and behind one more step
+  -- a port that may stride may behind one more step
   pub stride_next : (words seat seat' : TableId) (me me' : Me ℕ View) (sizes : TableSizes) (lane next : L) (cells : ℕ)
       → MayStride kind words seat me sizes lane cells → seat' ≡ seat → StridesOn kind me lane me' next
       → MayStride kind words seat' me' sizes next cells

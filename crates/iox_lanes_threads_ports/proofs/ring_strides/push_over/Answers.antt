@@ -1,23 +1,16 @@
-use Rattle.std.proofs.Common.{refl, sym, ap, subst, ◌∙◌}
+use Rattle.std.proofs.Common.{refl, sym, subst}
 use Rattle.iox_lanes_machine.specs.QueuesSteps.declared.rings.overflowing.push.Push.TheVariants as overflowing_push
-use Rattle.iox_lanes_threads_rule.specs.Acts.{port_of}
-use Rattle.iox_lanes_threads_ports.specs.Strides.{StrodeBy}
-use Rattle.iox_lanes_threads_ports.proofs.Striding.{strode_begun}
+use Rattle.iox_lanes_threads_ports.specs.Strides.{StridesOn}
+use Rattle.iox_lanes_threads_ports.proofs.RingStriding.{strode_four}
 use Rattle.iox_lanes_threads_ports.proofs.ring_strides.push_over.Goals as goal
 
 pub returns-clause-strode : goal.returns-clause-strode
 returns-clause-strode g c =
-    let p = port_of c.args.seat.now.me in
-    let lane = c.args.lane.now in
-    let run0 = strode_begun c.goes_ahead.ensures c.args.seat.now.me lane
-    (g.C.RingCall.stage c.args.call (overflowing_push.Begun c.args.limit c.args.value)) c.requires.call c.requires.may.own.0
-    c.requires.may.stands in
-    let run1 = subst (λ n. StrodeBy g.L.Ahead.kind p lane 1 c.load_at-write.new.seat.me
-    (g.L.Ahead.kind.called (g.C.RingCall.stage c.args.call
-    (overflowing_push.SawWrite c.args.limit c.args.value c.load_at-write.result n)) lane)) (sym c.saturating_add-next.ensures)
-    (c.load_at-write.ensures.goes_on refl p lane 0 run0) in
-    let run2 = c.load_at-read.ensures.goes_on refl p lane 1 run1 in
-    let run3 = c.store_at.ensures.goes_on tt refl p lane 2 run2 in
-    subst (StrodeBy g.L.Ahead.kind p lane 4 c.store_at-2.new.seat.me)
-    (sym (c.go_on_from.ensures ∙ ap (λ stage. g.L.Ahead.kind.after 0 (g.L.Ahead.kind.called stage lane)) c.stage.ensures))
-    (c.store_at-2.ensures.strode p lane 3 run3)
+    strode_four c.goes_ahead.ensures c.requires.call c.requires.may
+    (subst (λ n. StridesOn g.L.Ahead.kind c.args.seat.now.me
+    (g.L.Ahead.kind.called (g.C.RingCall.stage c.args.call (overflowing_push.Begun c.args.limit c.args.value)) c.args.lane.now)
+    c.load_at-write.new.seat.me (g.L.Ahead.kind.called (g.C.RingCall.stage c.args.call
+    (overflowing_push.SawWrite c.args.limit c.args.value c.load_at-write.result n)) c.args.lane.now)) (sym c.saturating_add-next.ensures)
+    (c.load_at-write.ensures.goes_on refl))
+    (c.load_at-read.ensures.goes_on refl) (c.store_at.ensures.goes_on tt refl) c.store_at-2.ensures.strode c.stage.ensures
+    c.go_on_from.ensures
