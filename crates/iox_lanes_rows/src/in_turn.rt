@@ -18,18 +18,18 @@ const SIZES: LaneSizes = LaneSizes {
     payload_words: 100,
 };
 
-// Whether these words are lent, written and sent to the subscriber, and no other slot is lent before that.
-fn sends(lanes: &mut LanesInTurn, payload: Vec<u64>, user_header: Vec<u64>) -> bool {
+// Whether a slot is lent, written and sent to the subscriber, and no other one is lent before that.
+fn sends(alloc: Global, lanes: &mut LanesInTurn) -> Result<bool, AllocError> {
     let Some(Ok(loan)) = lanes.loan(0) else {
-        return false;
+        return Ok(false);
     };
-    if !lanes.write(&loan, payload, user_header) {
-        return false;
+    if !lanes.write_values(alloc, &loan, &[7u64; 100], &5u64)? {
+        return Ok(false);
     }
     let Some(Err(LoanError::ExceedsMaxLoans)) = lanes.loan(0) else {
-        return false;
+        return Ok(false);
     };
-    lanes.send(&loan) == Some(Ok(1))
+    Ok(lanes.send(&loan) == Some(Ok(1)))
 }
 
 // Whether a hundred words are received, read and released.
@@ -45,9 +45,7 @@ fn takes(alloc: Global, lanes: &mut LanesInTurn) -> bool {
 
 // Whether a message goes.
 fn both(alloc: Global, lanes: &mut LanesInTurn) -> Result<bool, AllocError> {
-    let payload = vec![in alloc; 7u64; 100]?;
-    let user_header = vec![in alloc; 5u64; 1]?;
-    Ok(sends(lanes, payload, user_header) && takes(alloc, lanes))
+    Ok(sends(alloc, lanes)? && takes(alloc, lanes))
 }
 
 // Whether it does on new lanes.

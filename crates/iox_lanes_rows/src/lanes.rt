@@ -1,6 +1,6 @@
 //! What the ports of lanes send and receive, by whole calls. Messages have numbers.
-use crate::stepping::{step, whole};
-use crate::worlds::Told;
+use crate::stepping::{step, whole, whole_counted};
+use crate::worlds::{Pace, Told};
 use iox_lanes::{
     Answer, Call, LoanAnswer, Move, Party, Receipt, RecordedLanes, SendAnswer, Stepped,
     WithSequence,
@@ -50,6 +50,59 @@ pub(crate) fn send(
     };
     let write = Call::write(alloc, loan, &value, &USER_HEADER)?;
     Ok(send_loan(lanes, party, loan, write))
+}
+
+// The answer of a call that has no more than so many steps.
+fn within(lanes: &mut RecordedLanes, party: Party, call: Call, most: u64) -> Option<Answer> {
+    let (answer, steps) = whole_counted(lanes, party, call)?;
+    if steps <= most { Some(answer) } else { None }
+}
+
+/// Whether a value that the publisher at a place sends gets a slot and goes out, each within so many steps.
+pub(crate) fn paces(
+    alloc: Global,
+    lanes: &mut RecordedLanes,
+    place: usize,
+    value: u64,
+    pace: Pace,
+) -> Result<bool, AllocError> {
+    let party = Party::Publisher(place);
+    let lent = within(lanes, party, Call::LoanUninit, pace.loan);
+    let Some(Answer::Lent(LoanAnswer::Slot(loan))) = lent else {
+        return Ok(false);
+    };
+    let write = Call::write(alloc, loan, &value, &USER_HEADER)?;
+    let written = whole(lanes, party, write).is_some();
+    Ok(written && within(lanes, party, Call::Send { loan }, pace.send).is_some())
+}
+
+/// Whether the subscriber at a place receives a message, and keeps it.
+pub(crate) fn borrows(lanes: &mut RecordedLanes, place: usize) -> bool {
+    let received = whole(lanes, Party::Subscriber(place), Call::Receive);
+    matches!(received, Some(Answer::Received(Receipt::Taken { .. })))
+}
+
+// The message that is kept under a number.
+fn kept(lanes: &RecordedLanes, number: usize) -> Option<(u64, u64)> {
+    Some(numbered(lanes.message(number)?.values()?))
+}
+
+/// Whether this message is kept under a number.
+pub(crate) fn knows(lanes: &RecordedLanes, number: usize, wanted: (u64, u64)) -> bool {
+    kept(lanes, number) == Some(wanted)
+}
+
+/// Whether an entry of a connection's order puts or takes the message of this number, or else none.
+pub(crate) fn orders(
+    lanes: &RecordedLanes,
+    connection: u64,
+    at: usize,
+    wanted: Option<usize>,
+) -> bool {
+    match lanes.order_at(connection, at) {
+        Some(entry) => entry.number == wanted,
+        None => false,
+    }
 }
 
 /// Whether the publisher at a place lends a slot.

@@ -13,6 +13,7 @@
 //! - `domain`: a domain, by the calls of its ports.
 //! - `lanes`: what its lanes send and receive.
 //! - `threads`: what its ports do in threads.
+//! - `ending`: that they don't end where one is missing or is another board's.
 //! - `worlds`: what is done to each of these, step by step.
 //! - `refusals`: each reason why a domain can't become lanes.
 //! - `returns`: what lanes find, and what they and threads leave.
@@ -25,6 +26,8 @@ mod answers;
 mod counted;
 #[cfg(test)]
 mod domain;
+#[cfg(test)]
+mod ending;
 #[cfg(test)]
 mod in_turn;
 #[cfg(test)]

@@ -49,11 +49,23 @@ fn is_kept(lanes: &RecordedLanes, number: u64) -> bool {
     }
 }
 
+// Whether the connection's order has the message of a number as it is put, and as it is taken.
+fn is_placed(lanes: &RecordedLanes, number: u64) -> bool {
+    let put = (number as usize).saturating_mul(2);
+    match lanes.order_at(0, put.saturating_add(1)) {
+        Some(taken) => {
+            taken.number == Some(number as usize) && lanes.number(0, put) == taken.number
+        }
+        None => false,
+    }
+}
+
 // Whether the message of a number is sent in the first slot or the second, by turns, and read and kept.
 fn keeps(alloc: Global, lanes: &mut RecordedLanes, number: u64) -> Result<bool, AllocError> {
     let slot = number % 2;
     let write = Call::write(alloc, slot, &number, &5u8)?;
-    Ok(sends(lanes, slot, write) && takes(lanes, slot) && is_kept(lanes, number))
+    let goes = sends(lanes, slot, write) && takes(lanes, slot);
+    Ok(goes && is_kept(lanes, number) && is_placed(lanes, number))
 }
 
 // Whether so many are.

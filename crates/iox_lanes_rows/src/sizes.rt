@@ -1,6 +1,6 @@
 //! Domains of few and of many messages and ports become lanes, go on in threads, and become domains again, with ample memory.
 use crate::domain::{Plan, Service};
-use crate::worlds::{Step, go};
+use crate::worlds::{Pace, Step, go};
 use iox_describe_base::TypeVariant;
 use std::alloc::{AllocError, Global};
 use std::process::Abort;
@@ -42,6 +42,40 @@ fn all_have_messages<R: Abort + Wait>(rt: &R, alloc: Global) -> Result<(), Alloc
 #[test]
 fn domains_of_all_sizes_become_lanes_and_domains_again(rt: HostRuntime) -> Result<(), AllocError> {
     all_have_messages(&rt, rt.alloc())
+}
+
+// A loan and a send to so many subscribers, at each of which one message may wait and one be borrowed, with 2 words of user header and
+// number.
+fn pace_of(count: u64) -> Pace {
+    Pace {
+        loan: count.saturating_mul(16).saturating_add(2),
+        send: count.saturating_mul(20).saturating_add(9),
+    }
+}
+
+// Whether a publisher's loans and sends to as many subscribers keep their pace.
+fn has_pace(rt: &impl Wait, alloc: Global, count: u64) -> Result<bool, AllocError> {
+    let steps = [
+        Step::Crowd(count),
+        Step::Opens(None),
+        Step::Paces(0, 1, pace_of(count)),
+        Step::Borrows(0),
+        Step::Paces(0, 2, pace_of(count)),
+        Step::Paces(0, 3, pace_of(count)),
+    ];
+    Ok(go(rt, alloc, &service(count, 1, 0), &steps)? == steps.len())
+}
+
+fn all_have_pace<R: Abort + Wait>(rt: &R, alloc: Global) -> Result<(), AllocError> {
+    for count in &[1, 2, 7, 64] {
+        assert!(rt; has_pace(rt, alloc, *count)?, "{count}");
+    }
+    Ok(())
+}
+
+#[test]
+fn loans_and_sends_to_many_keep_their_pace(rt: HostRuntime) -> Result<(), AllocError> {
+    all_have_pace(&rt, rt.alloc())
 }
 
 // Whether so many publishers and as many subscribers go by lanes, in threads, and by lanes once more.

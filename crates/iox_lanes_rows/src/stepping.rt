@@ -20,7 +20,7 @@ pub(crate) fn step(lanes: &mut RecordedLanes, party: Party, entry: &Move) -> Ste
 
 /// The call that ended last.
 pub(crate) fn last_call(lanes: &RecordedLanes) -> Option<FinishedCall> {
-    lanes.lanes().finished().last().copied()
+    lanes.finished().last().copied()
 }
 
 /// The words of all reads.
@@ -30,7 +30,7 @@ pub(crate) fn words_read(lanes: &RecordedLanes) -> &[u64] {
 
 /// The order of a connection.
 pub(crate) fn order(lanes: &RecordedLanes, connection: u64) -> &[Placed] {
-    lanes.lanes().order(connection)
+    lanes.order(connection)
 }
 
 // Makes a step, and once more where it found no memory, by which nothing has changed.
@@ -41,20 +41,29 @@ fn step_again(lanes: &mut RecordedLanes, party: Party, entry: &Move) -> Stepped 
     }
 }
 
-// Goes on inside a call up to its end, and gives its answer.
-fn rest(lanes: &mut RecordedLanes, party: Party) -> Option<Answer> {
-    for _ in 0..1000 {
+// Goes on inside a call up to its end, and gives its answer and how many steps it has, its begin among them.
+fn rest(lanes: &mut RecordedLanes, party: Party) -> Option<(Answer, u64)> {
+    for steps in 2..1000 {
         if step_again(lanes, party, &Move::GoOn) == Stepped::Finished {
-            return Some(last_call(lanes)?.answer);
+            return Some((last_call(lanes)?.answer, steps));
         }
     }
     None
 }
 
-/// Makes a whole call, and gives its answer.
-pub(crate) fn whole(lanes: &mut RecordedLanes, party: Party, call: Call) -> Option<Answer> {
+/// Makes a whole call, and gives its answer and how many steps it has.
+pub(crate) fn whole_counted(
+    lanes: &mut RecordedLanes,
+    party: Party,
+    call: Call,
+) -> Option<(Answer, u64)> {
     match step_again(lanes, party, &Move::Begin(call)) {
         Stepped::Went => rest(lanes, party),
         _ => None,
     }
+}
+
+/// Makes a whole call, and gives its answer.
+pub(crate) fn whole(lanes: &mut RecordedLanes, party: Party, call: Call) -> Option<Answer> {
+    Some(whole_counted(lanes, party, call)?.0)
 }

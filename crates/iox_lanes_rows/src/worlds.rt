@@ -1,6 +1,6 @@
 //! A domain, the lanes that it becomes, their ports in threads, and the domain again: what is done to each.
 use crate::domain::{self, Numbers, Plan, Service, make};
-use crate::{lanes, threads};
+use crate::{ending, lanes, threads};
 use iox_domain_ports::Taken;
 use iox_lanes::threads::{DomainThreads, OpenError, end, open_threads};
 use iox_lanes::{DomainLanes, IntoDomainError, IntoLanesError, Refused, StillLanes, into_lanes};
@@ -19,6 +19,13 @@ pub(crate) enum Told {
     Fails,
     /// Something else.
     Otherwise,
+}
+
+/// How many steps a loan may have, and a send.
+#[derive(Clone, Copy)]
+pub(crate) struct Pace {
+    pub(crate) loan: u64,
+    pub(crate) send: u64,
 }
 
 /// What is done, and what comes of it. Ports go by their places.
@@ -50,6 +57,14 @@ pub(crate) enum Step {
     Nothing(usize),
     /// A publisher lends a slot by lanes, and keeps it.
     Lends(usize),
+    /// A publisher sends a value by lanes. Its loan gets a slot within so many steps, and its send has no more than so many.
+    Paces(usize, u64, Pace),
+    /// A subscriber receives a message by lanes, and keeps the sample.
+    Borrows(usize),
+    /// The lanes keep a message under this number, of this sequence number and this value.
+    Knows(usize, u64, u64),
+    /// The order of a connection has at a place the message of this number, or none.
+    Orders(u64, usize, Option<usize>),
     /// A subscriber begins to receive by lanes, and doesn't go on.
     Begins(usize),
     /// The domain becomes lanes, or doesn't for this reason.
@@ -58,8 +73,14 @@ pub(crate) enum Step {
     Returns(Option<IntoDomainError>),
     /// They go on in threads, or don't for this reason.
     Starts(Option<OpenError>),
+    /// They go on in threads, which end together at once and leave a domain.
+    Passes,
     /// So many publishers, and as many subscribers, are in threads.
     Ports(usize),
+    /// The threads don't end without their last publisher.
+    Lacks,
+    /// The threads don't end with another board's publisher in place of their last.
+    Mistakes,
     /// The threads end, and leave a domain.
     Ends,
 }
@@ -191,12 +212,33 @@ fn starts(alloc: Global, world: &mut World, wanted: Option<OpenError>) -> Result
     }
 }
 
+// Whether the lanes go on in threads that end together.
+fn passes(alloc: Global, world: &mut World) -> Result<bool, AllocError> {
+    if let Some(lanes) = world.lanes.take() {
+        world.domain = ending::together(alloc, lanes)?;
+    }
+    Ok(world.domain.is_some())
+}
+
 // Whether the threads leave a domain.
 fn ends(world: &mut World) -> bool {
     if let Some(threads) = world.threads.take() {
         world.domain = ended(threads);
     }
     world.domain.is_some()
+}
+
+// Whether the threads don't end where one port isn't there or isn't theirs, and come back.
+fn stay(alloc: Global, world: &mut World, is_missing: bool) -> Result<bool, AllocError> {
+    let Some(threads) = world.threads.take() else {
+        return Ok(false);
+    };
+    world.threads = if is_missing {
+        ending::without_one(threads)?
+    } else {
+        ending::with_another(alloc, threads)?
+    };
+    Ok(world.threads.is_some())
 }
 
 // Whether so many ports of each kind are in threads.
@@ -242,14 +284,24 @@ fn gets(
 }
 
 // Whether a step goes so of those of lanes.
-fn goes_in_lanes(world: &mut World, step: &Step) -> bool {
+fn goes_in_lanes(alloc: Global, world: &mut World, step: &Step) -> Result<bool, AllocError> {
     let Some(opened) = &mut world.lanes else {
-        return false;
+        return Ok(false);
     };
     match *step {
-        Step::Lends(place) => lanes::lends(&mut opened.lanes, place),
-        Step::Begins(place) => lanes::begins(&mut opened.lanes, place),
-        _ => false,
+        Step::Lends(place) => Ok(lanes::lends(&mut opened.lanes, place)),
+        Step::Paces(place, value, pace) => {
+            lanes::paces(alloc, &mut opened.lanes, place, value, pace)
+        }
+        Step::Borrows(place) => Ok(lanes::borrows(&mut opened.lanes, place)),
+        Step::Knows(number, sequence, value) => {
+            Ok(lanes::knows(&opened.lanes, number, (sequence, value)))
+        }
+        Step::Orders(connection, at, number) => {
+            Ok(lanes::orders(&opened.lanes, connection, at, number))
+        }
+        Step::Begins(place) => Ok(lanes::begins(&mut opened.lanes, place)),
+        _ => Ok(false),
     }
 }
 
@@ -284,7 +336,12 @@ fn goes_on(
             gets(rt, alloc, world, place, Some((sequence, value)))
         }
         Step::Nothing(place) => gets(rt, alloc, world, place, None),
-        Step::Lends(_) | Step::Begins(_) => Ok(goes_in_lanes(world, step)),
+        Step::Lends(_)
+        | Step::Paces(_, _, _)
+        | Step::Borrows(_)
+        | Step::Knows(_, _, _)
+        | Step::Orders(_, _, _)
+        | Step::Begins(_) => goes_in_lanes(alloc, world, step),
         _ => goes_in_domain(alloc, world, step),
     }
 }
@@ -296,6 +353,9 @@ fn goes(rt: &impl Wait, alloc: Global, world: &mut World, step: &Step) -> Result
         Step::Returns(reason) => Ok(returns(world, reason)),
         Step::Starts(reason) => starts(alloc, world, reason),
         Step::Ports(count) => Ok(has_ports(world, count)),
+        Step::Passes => passes(alloc, world),
+        Step::Lacks => stay(alloc, world, true),
+        Step::Mistakes => stay(alloc, world, false),
         Step::Ends => Ok(ends(world)),
         _ => goes_on(rt, alloc, world, step),
     }
