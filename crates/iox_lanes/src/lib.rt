@@ -10,8 +10,8 @@
 //! - [`laws`]: what holds of lanes and of the domain beside them.
 //!
 //! Named again is what a program on lanes needs: [`Lanes`], [`RecordedLanes`], [`Message`], [`Party`], [`Call`], [`Move`], what a step
-//! answers ([`Stepped`]) and a send ([`Delivery`]), what stands in an order ([`Placed`], [`PlacedMessage`], [`Act`]), [`Positions`], [`Words`],
-//! [`FewWords`], [`values_in`], [`WithSequence`], and for threads [`open_threads`], [`LanePublisher`], [`LaneSubscriber`].
+//! answers ([`Stepped`]) and a send ([`Delivery`]), what stands in an order ([`Placed`], [`PlacedMessage`], [`Act`]), [`Positions`],
+//! [`Words`], [`FewWords`], [`values_in`], [`WithSequence`], and for threads [`open_threads`], [`LanePublisher`], [`LaneSubscriber`].
 //!
 //! First calls:
 //!
