@@ -116,19 +116,19 @@ impl<T: Words + ZeroCopySend, U: Copy + ZeroCopySend, B: Drop, D: Drop> Hub<T, U
     pub(crate) fn settle<P: Pattern, E: Copy>(
         &mut self,
         alloc: Global,
-        parts: OpeningParts<T, U, B, D>,
+        table: Stepped,
+        room: ServiceRoom<T, U, B, D>,
         answer: Result<negotiated::PortFactory<P>, E>,
         errors: Lacking<E>,
     ) -> Result<PortFactory<P>, E>
-        requires { IfOk answer (λ service. service.membership.storage ≡ parts.table.table.id) }
+        requires { IfOk answer (λ service. service.membership.storage ≡ table.table.id) }
         ensures { (lacking : Bool → E) → lacking false ≡ errors.opened → lacking true ≡ errors.created
             → Settles (detail FixedSize T.name T.size T.alignment) (detail FixedSize U.name U.size U.alignment) lacking
             (result_map_both (λ service. service.membership) (λ error. error) answer)
-            (record self.old { table = parts.table.table; factory_counts = parts.room.counts; services = parts.room.services })
+            (record self.old { table = table.table; factory_counts = room.counts; services = room.services })
             (result_map_both (λ factory. (factory.service.membership, factory.owner)) (λ error. error) result) self.new }
     {
-        let room = parts.room;
-        self.table = parts.table.into_table();
+        self.table = table.into_table();
         match answer {
             Ok(service) => match self.enter(alloc, service, room) {
                 Ok(factory) => Ok(factory),

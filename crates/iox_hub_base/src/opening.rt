@@ -1,5 +1,5 @@
 //! A service is created or opened in a hub as a builder asks, with attributes beside those that it asks for or without.
-ghost use Rattle.std.specs.Prelude.{◌≡◌, Option, false, true, option_copied};
+ghost use Rattle.std.specs.Prelude.{◌≡◌, IfOk, Option, false, true, option_copied};
 ghost use Rattle.std.specs.Option.{option_map_or, unwrap_or};
 ghost use Rattle.std.specs.Result.{result_map_both};
 ghost use Rattle.iox_delivery_factories.specs.DescribeBase.Detail.{detail};
@@ -44,12 +44,14 @@ pub(crate) fn create<
         (unwrap_or (option_copied attributes.entry) (P.attributes builder.requirement).pairs) steps.items hub.old
         (result_map_both (λ factory. (factory.service.membership, factory.owner)) (λ error. error) result) hub.new }
 {
-    let Ok(mut parts) = hub.lend_parts(alloc, steps) else {
+    let Ok(parts) = hub.lend_parts(alloc, steps) else {
         return Err(lacking_create(alloc, builder));
     };
-    let answer = created(alloc, builder, attributes, &mut parts.table);
+    let mut table = parts.table;
+    let room = parts.room;
+    let answer = created(alloc, builder, attributes, &mut table);
     let lacking = Lacking::either_way(P::create_error(CreateFailure::OutOfMemory));
-    hub.settle(alloc, parts, answer, lacking)
+    hub.settle(alloc, table, room, answer, lacking)
 }
 
 // The same over the table that a hub lends.
@@ -59,7 +61,8 @@ fn created<P: Negotiated>(
     attributes: Option<&AttributeSpecifier>,
     table: &mut Stepped,
 ) -> Result<negotiated::PortFactory<P>, P::CreateError>
-    ensures { let config = P.adjusted (P.asked builder.requirement) in let hash = service_hash_of P.pattern builder.name in
+    ensures of_table { IfOk result (λ service. service.membership.storage ≡ table.new.table.id) }
+    ensures creates { let config = P.adjusted (P.asked builder.requirement) in let hash = service_hash_of P.pattern builder.name in
         Creates SteppedSight table.old.table.id hash builder.node (agreement builder.name hash (P.settings config)
         (unwrap_or (option_copied attributes.entry) (P.attributes builder.requirement).pairs)) (P.IsWithinLimits config)
         (P.IsHistoryTooLong config) P.create_error table.old
@@ -91,11 +94,13 @@ pub(crate) fn open<
         (result_map_both (λ factory. (factory.service.membership, factory.owner)) (λ error. error) result) hub.new }
 {
     let lacking = Lacking::either_way(P::open_error(OpenFailure::OutOfMemory));
-    let Ok(mut parts) = hub.lend_parts(alloc, steps) else {
+    let Ok(parts) = hub.lend_parts(alloc, steps) else {
         return Err(lacking.opened);
     };
-    let answer = opened(alloc, builder, attributes, &mut parts.table);
-    hub.settle(alloc, parts, answer, lacking)
+    let mut table = parts.table;
+    let room = parts.room;
+    let answer = opened(alloc, builder, attributes, &mut table);
+    hub.settle(alloc, table, room, answer, lacking)
 }
 
 // The same over the table that a hub lends.
@@ -105,7 +110,8 @@ fn opened<P: Negotiated>(
     attributes: Option<AttributeVerifier>,
     table: &mut Stepped,
 ) -> Result<negotiated::PortFactory<P>, P::OpenError>
-    ensures { let required = option_map_or (λ more. P.with_attributes builder.requirement more) attributes builder.requirement in
+    ensures of_table { IfOk result (λ service. service.membership.storage ≡ table.new.table.id) }
+    ensures opens { let required = option_map_or (λ more. P.with_attributes builder.requirement more) attributes builder.requirement in
         Negotiates SteppedSight table.old.table.id builder.node P.open_error
         (λ made answer. Opens (service_hash_of P.pattern builder.name) builder.node (λ given. P.verdict required given) made answer)
         table.old (result_map_both (λ factory. factory.membership) (λ error. error) result) table.new }
@@ -138,11 +144,13 @@ pub(crate) fn open_or_create<
         (result_map_both (λ factory. (factory.service.membership, factory.owner)) (λ error. error) result) hub.new }
 {
     let lacking = lacking_either::<P>();
-    let Ok(mut parts) = hub.lend_parts(alloc, steps) else {
+    let Ok(parts) = hub.lend_parts(alloc, steps) else {
         return Err(lacking.opened);
     };
-    let answer = opened_or_created(alloc, builder, attributes, &mut parts.table);
-    hub.settle(alloc, parts, answer, lacking)
+    let mut table = parts.table;
+    let room = parts.room;
+    let answer = opened_or_created(alloc, builder, attributes, &mut table);
+    hub.settle(alloc, table, room, answer, lacking)
 }
 
 // The same over the table that a hub lends.
@@ -152,7 +160,8 @@ fn opened_or_created<P: Negotiated>(
     attributes: Option<AttributeVerifier>,
     table: &mut Stepped,
 ) -> Result<negotiated::PortFactory<P>, P::OpenOrCreateError>
-    ensures { let required = option_map_or (λ more. P.with_attributes builder.requirement more) attributes builder.requirement in
+    ensures of_table { IfOk result (λ service. service.membership.storage ≡ table.new.table.id) }
+    ensures either { let required = option_map_or (λ more. P.with_attributes builder.requirement more) attributes builder.requirement in
         let config = P.adjusted (P.asked required) in let hash = service_hash_of P.pattern builder.name in
         Either SteppedSight table.old.table.id hash builder.node (λ given. P.verdict required given)
         (agreement builder.name hash (P.settings config) (P.attributes required).pairs) (P.IsWithinLimits config)

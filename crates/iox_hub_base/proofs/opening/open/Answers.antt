@@ -1,11 +1,7 @@
 use Rattle.std.proofs.Common.{Err, inr, ap, sym, ◌∙◌}
 use Rattle.iox_negotiate_table.specs.NegotiateBase.declared.failure.OpenFailure.TheVariants as unopened
-use Rattle.iox_hub_base.proofs.Negotiated.{if-of-the-table}
 use Rattle.iox_hub_base.proofs.Settled.{opens-in-hub}
 use Rattle.iox_hub_base.proofs.opening.open.Goals as goal
-
-pub settle-requires : goal.settle-requires
-settle-requires g c = if-of-the-table _ _ _ _ _ c.opened-answer.result _ c.opened-answer.ensures
 
 pub returns-in_default : goal.returns-in_default
 returns-in_default g c =
@@ -14,7 +10,7 @@ returns-in_default g c =
 pub returns : goal.returns
 returns g c =
     opens-in-hub _ _ (Unit {0}) (λ was_new. g.P.Negotiated.open_error unopened.OutOfMemory) _ c.args.steps.items
-    c.args.hub.now c.lend_parts.new.self _ _ _ _ _ _ _ c.in-Ok.ensures.table c.in-Ok.ensures.rest c.opened-answer.ensures
+    c.args.hub.now c.lend_parts.new.self _ _ _ _ _ _ _ c.in-Ok.ensures.table c.in-Ok.ensures.rest c.opened-answer.ensures.opens
     (c.settle.ensures (λ was_new. g.P.Negotiated.open_error unopened.OutOfMemory)
     (sym (ap (λ errors. errors.opened) c.either_way-lacking.ensures ∙ c.open_error.ensures))
     (sym (ap (λ errors. errors.created) c.either_way-lacking.ensures ∙ c.open_error.ensures)))
