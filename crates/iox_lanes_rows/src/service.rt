@@ -56,18 +56,17 @@ pub(crate) fn sent_eight(port: &mut LanePublisher, value: u64) -> Option<SendAns
     let LoanAnswer::Slot(loan) = port.loan_uninit()? else {
         return None;
     };
-    if port.write_values(loan, &[value; 8], &()) {
+    if port.write(loan, &[value; 8], &[]) {
         port.send(loan)
     } else {
         None
     }
 }
 
-// The word that a read gave eight times over.
-fn eight(port: &LaneSubscriber) -> Option<u64> {
-    let values = port.values::<[u64; 8], ()>()?.1;
-    let value = values[0];
-    if values == [value; 8] {
+// The word that a payload has eight times over, behind the three of a header.
+fn eight(words: &[u64]) -> Option<u64> {
+    let value = *words.get(3)?;
+    if words.get(3..) == Some(&[value; 8]) {
         Some(value)
     } else {
         None
@@ -79,7 +78,7 @@ pub(crate) fn read_eight(port: &mut LaneSubscriber, slot: u64) -> Option<u64> {
     if !port.read(slot) {
         return None;
     }
-    let value = eight(port);
+    let value = eight(port.words());
     match port.release(slot) {
         Some(true) => value,
         _ => None,
