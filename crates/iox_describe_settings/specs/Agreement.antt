@@ -40,12 +40,6 @@ AreWithinLimits (RequestResponse c) = request_response.IsWithinLimits c
 AreWithinLimits (PublishSubscribe c) = publish_subscribe.IsWithinLimits c
 AreWithinLimits (Event c) = event.IsWithinLimits c
 
--- the settings that a service is created with: a number that can't serve becomes the least that can
-abbrev pub adjusted_of : Settings → Settings
-adjusted_of (RequestResponse c) = RequestResponse (request_response.adjusted c)
-adjusted_of (PublishSubscribe c) = PublishSubscribe (publish_subscribe.adjusted c)
-adjusted_of (Event c) = Event (event.adjusted c)
-
 -- a full buffer holds the publisher up, and has no room for the history: of publish-subscribe alone
 abbrev pub HasNoRoomForHistory : Settings → Type 0
 HasNoRoomForHistory (RequestResponse c) = ⊥

@@ -22,7 +22,7 @@ pub enum Settings {
 }
 
 impl Settings {
-    ghost use Rattle.iox_describe_settings.specs.Agreement.{adjusted_of, max_nodes_of, pattern_of};
+    ghost use Rattle.iox_describe_settings.specs.Agreement.{max_nodes_of, pattern_of};
     ghost use Rattle.iox_describe_settings.specs.Agreement.{AreWithinLimits, HasNoRoomForHistory};
 
     /// The pattern that these are the settings of.
@@ -55,17 +55,6 @@ impl Settings {
             Settings::RequestResponse(config) => config.is_within_limits(),
             Settings::PublishSubscribe(config) => config.is_within_limits(),
             Settings::Event(config) => config.is_within_limits(),
-        }
-    }
-
-    /// The settings that `create` makes of these: a 0 that can't serve becomes 1.
-    pub fn adjusted(self) -> Self
-        ensures { result ≡ adjusted_of self }
-    {
-        match self {
-            Settings::RequestResponse(config) => Settings::RequestResponse(config.adjusted()),
-            Settings::PublishSubscribe(config) => Settings::PublishSubscribe(config.adjusted()),
-            Settings::Event(config) => Settings::Event(config.adjusted()),
         }
     }
 

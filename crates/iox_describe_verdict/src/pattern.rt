@@ -7,6 +7,7 @@ ghost use Rattle.iox_describe_settings.specs.DescribeBase.Hash.{service_hash_of}
 ghost use Rattle.iox_describe_settings.specs.declared.static_config.Settings.{Settings};
 ghost use Rattle.iox_describe_settings.specs.declared.static_config.Settings.TheVariants as settings_of;
 ghost use Rattle.iox_describe_settings.specs.Agreement.{Agreement, agreement, max_nodes_of, pattern_of, AreWithinLimits};
+ghost use Rattle.iox_describe_settings.specs.Agreement.{HasNoRoomForHistory};
 ghost use Rattle.iox_describe_verdict.specs.Patterns as patterns;
 
 use iox_describe_base::attribute::AttributeSpecifier;
@@ -116,7 +117,7 @@ pub trait RequiredPattern: AgreedPattern {
         → IsSome (Self.static_config a.settings) };
 }
 
-/// A messaging pattern, with what follows for its settings from what holds of those of any pattern.
+/// A messaging pattern: what is agreed for a service of it, and what an opener may require.
 ///
 /// It is what a builder is written over, so that one builder serves all patterns.
 pub trait Pattern: RequiredPattern {
@@ -133,49 +134,32 @@ pub trait Pattern: RequiredPattern {
     fn adjusted(config: Self::StaticConfig) -> Self::StaticConfig
         ensures { result ≡ adjusted config };
 
-    /// Whether the numbers are within the limits of a description, so that a service may be created with them.
-    fn is_within_limits(config: &Self::StaticConfig) -> bool
-        ensures { IsTrue result ↔ IsWithinLimits config.now };
-
-    /// Whether a full buffer would hold the publisher up and has no room for the history: such a service isn't
-    /// created. Always false of a pattern without a history.
-    fn is_history_too_long(config: &Self::StaticConfig) -> bool
-        ensures { IsTrue result ↔ IsHistoryTooLong config.now };
-
     // the limits are those of a description
     ghost limits_are_those_of_descriptions: { (config : Self.StaticConfig) → IsWithinLimits config
         ↔ AreWithinLimits (Self.settings config) };
 
+    // so it is of the history
+    ghost history_is_that_of_descriptions: { (config : Self.StaticConfig) → IsHistoryTooLong config
+        ↔ HasNoRoomForHistory (Self.settings config) };
+
     // within the limits there is a node, and there are fewer than 2^24
     ghost has_nodes: { (config : Self.StaticConfig) → IsWithinLimits config → (1 ≤ max_nodes_of (Self.settings config))
         × (max_nodes_of (Self.settings config) < 2 ^ 24) };
-}
 
-impl<P: RequiredPattern> Pattern for P {
-    ghost use Rattle.std.specs.Prelude.{unwrap_or};
-    ghost use Rattle.iox_describe_settings.specs.Agreement.{adjusted_of, HasNoRoomForHistory};
-
-    ghost adjusted = { λ config. unwrap_or (P.static_config (adjusted_of (P.settings config))) config };
-
-    ghost IsWithinLimits = { λ config. AreWithinLimits (P.settings config) };
-
-    ghost IsHistoryTooLong = { λ config. HasNoRoomForHistory (P.settings config) };
-
-    fn adjusted(config: P::StaticConfig) -> P::StaticConfig {
-        P::static_config(&P::settings(config).adjusted()).unwrap_or(config)
+    /// Whether the numbers are within the limits of a description, so that a service may be created with them.
+    final fn is_within_limits(config: &Self::StaticConfig) -> bool
+        ensures { IsTrue result ↔ IsWithinLimits config.now }
+    {
+        Self::settings(*config).are_within_limits()
     }
 
-    fn is_within_limits(config: &P::StaticConfig) -> bool {
-        P::settings(*config).are_within_limits()
+    /// Whether a full buffer would hold the publisher up and has no room for the history: such a service isn't
+    /// created. Always false of a pattern without a history.
+    final fn is_history_too_long(config: &Self::StaticConfig) -> bool
+        ensures { IsTrue result ↔ IsHistoryTooLong config.now }
+    {
+        Self::settings(*config).is_history_too_long()
     }
-
-    fn is_history_too_long(config: &P::StaticConfig) -> bool {
-        P::settings(*config).is_history_too_long()
-    }
-
-    ghost limits_are_those_of_descriptions = { λ config. (λ h. h, λ h. h) };
-
-    ghost has_nodes = { λ config. patterns.has_nodes (P.settings config) };
 }
 
 /// The description of a service of the pattern, with the hash that belongs to the pattern and the name.
@@ -231,6 +215,26 @@ impl AgreedPattern for PublishSubscribe {
     ghost found = { patterns.found_publish_subscribe };
 }
 
+impl Pattern for PublishSubscribe {
+    ghost use Rattle.iox_describe_settings.specs.PublishSubscribeSettings as config_of;
+
+    ghost adjusted = { config_of.adjusted };
+
+    ghost IsWithinLimits = { config_of.IsWithinLimits };
+
+    ghost IsHistoryTooLong = { config_of.IsHistoryTooLong };
+
+    fn adjusted(config: Self::StaticConfig) -> Self::StaticConfig {
+        config.adjusted()
+    }
+
+    ghost limits_are_those_of_descriptions = { λ config. (λ h. h, λ h. h) };
+
+    ghost history_is_that_of_descriptions = { λ config. (λ h. h, λ h. h) };
+
+    ghost has_nodes = { λ config. patterns.has_nodes (settings_of.PublishSubscribe config) };
+}
+
 /// Notifiers wake listeners.
 #[derive(Clone, Copy, Debug, PartialEq, Eq)]
 pub struct Event;
@@ -266,6 +270,26 @@ impl AgreedPattern for Event {
     ghost found = { patterns.found_event };
 }
 
+impl Pattern for Event {
+    ghost use Rattle.iox_describe_settings.specs.EventSettings as config_of;
+
+    ghost adjusted = { config_of.adjusted };
+
+    ghost IsWithinLimits = { config_of.IsWithinLimits };
+
+    ghost IsHistoryTooLong = { λ _. ⊥ };
+
+    fn adjusted(config: Self::StaticConfig) -> Self::StaticConfig {
+        config.adjusted()
+    }
+
+    ghost limits_are_those_of_descriptions = { λ config. (λ h. h, λ h. h) };
+
+    ghost history_is_that_of_descriptions = { λ config. (λ h. h, λ h. h) };
+
+    ghost has_nodes = { λ config. patterns.has_nodes (settings_of.Event config) };
+}
+
 /// Clients send requests, and servers answer them.
 #[derive(Clone, Copy, Debug, PartialEq, Eq)]
 pub struct RequestResponse;
@@ -299,4 +323,24 @@ impl AgreedPattern for RequestResponse {
     ghost found_again = { λ config. refl };
 
     ghost found = { patterns.found_request_response };
+}
+
+impl Pattern for RequestResponse {
+    ghost use Rattle.iox_describe_settings.specs.RequestResponseSettings as config_of;
+
+    ghost adjusted = { config_of.adjusted };
+
+    ghost IsWithinLimits = { config_of.IsWithinLimits };
+
+    ghost IsHistoryTooLong = { λ _. ⊥ };
+
+    fn adjusted(config: Self::StaticConfig) -> Self::StaticConfig {
+        config.adjusted()
+    }
+
+    ghost limits_are_those_of_descriptions = { λ config. (λ h. h, λ h. h) };
+
+    ghost history_is_that_of_descriptions = { λ config. (λ h. h, λ h. h) };
+
+    ghost has_nodes = { λ config. patterns.has_nodes (settings_of.RequestResponse config) };
 }
