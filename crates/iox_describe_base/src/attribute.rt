@@ -65,9 +65,16 @@ impl From<AllocError> for AttributeError {
 /// Contracts see it as the list of its pairs.
 ///
 /// Ported from `iceoryx2::service::attribute::AttributeSpecifier`.
-#[derive(Debug, Drop)]
+#[derive(Debug)]
 pub struct AttributeSpecifier {
     pairs: Few<Attribute>,
+}
+
+/// Said here once, so that no crate above proves it anew.
+impl Drop for AttributeSpecifier {
+    fn drop(self) {
+        let AttributeSpecifier { pairs: _ } = self;
+    }
 }
 
 impl Model for AttributeSpecifier {

@@ -13,10 +13,17 @@ use std::marker::Model;
 /// Contracts see it as the record `Required` of the two lists.
 ///
 /// Ported from `iceoryx2::service::attribute::AttributeVerifier`.
-#[derive(Debug, Drop)]
+#[derive(Debug)]
 pub struct AttributeVerifier {
     pairs: AttributeSpecifier,
     keys: Few<AttributeKey>,
+}
+
+/// Said here once, so that no crate above proves it anew.
+impl Drop for AttributeVerifier {
+    fn drop(self) {
+        let AttributeVerifier { pairs: _, keys: _ } = self;
+    }
 }
 
 impl Model for AttributeVerifier {

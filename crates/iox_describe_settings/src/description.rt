@@ -38,12 +38,24 @@ impl Version {
 /// Contracts see it as the record `Agreement` of these four.
 ///
 /// Ported from `iceoryx2::service::static_config::StaticConfig`.
-#[derive(Debug, Drop)]
+#[derive(Debug)]
 pub struct Description {
     name: ServiceName,
     service_hash: ServiceHash,
     settings: Settings,
     attributes: AttributeSpecifier,
+}
+
+/// Said here once, so that no crate above proves it anew.
+impl Drop for Description {
+    fn drop(self) {
+        let Description {
+            name: _,
+            service_hash: _,
+            settings: _,
+            attributes: _,
+        } = self;
+    }
 }
 
 impl Model for Description {

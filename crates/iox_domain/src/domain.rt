@@ -20,7 +20,6 @@ use std::alloc::{AllocError, Global};
 ///
 /// It is one owned value, and a home: each call of a port is handed it. Who decides is a type of its own for publishers and for
 /// subscribers, so that a domain has no `dyn` in it unless these have. Ported from what the ports of an `iceoryx2` service share.
-#[derive(Drop)]
 pub struct Domain<T, U, B = Handlers, D = DegradationHandler> {
     /// Which domain it is.
     pub id: DomainId,
@@ -28,6 +27,27 @@ pub struct Domain<T, U, B = Handlers, D = DegradationHandler> {
     pub agreed: StaticConfig,
     /// Its ports, and who decides for them: all that the calls of ports change.
     pub state: DomainState<T, U, B, D>,
+}
+
+/// Said here once, so that no crate above proves it anew.
+impl<T: Drop, U: Drop, B: Drop, D: Drop> Drop for Domain<T, U, B, D> {
+    fn drop(self) {
+        let Domain {
+            id: _,
+            agreed: _,
+            state: _,
+        } = self;
+    }
+}
+
+impl<T, U, B, D> Domain<T, U, B, D> {
+    // Its fields.
+    pub(crate) fn into_fields(self) -> (DomainId, StaticConfig, DomainState<T, U, B, D>)
+        ensures { result ≡ (self.id, self.agreed, self.state) }
+    {
+        let Domain { id, agreed, state } = self;
+        (id, agreed, state)
+    }
 }
 
 impl<T: Words + ZeroCopySend, U: Copy + ZeroCopySend, B: Drop, D: Drop> Domain<T, U, B, D> {

@@ -68,7 +68,7 @@ impl<T, U, B, D> Domain<T, U, B, D> {
     pub fn into_parts(self) -> DomainParts<T, U, B, D>
         ensures { result ≡ parts_of self }
     {
-        let Domain { id, agreed, state } = self;
+        let (id, agreed, state) = self.into_fields();
         let DomainState {
             ports,
             publisher_handlers,

@@ -55,7 +55,6 @@ pub enum HashState {
 ///
 /// `T` is the element of messages, `U` their user header; `B` decides for publishers, `D` for subscribers. Stands for what the nodes of
 /// `iceoryx2` share on a machine.
-#[derive(Drop)]
 pub struct Hub<T, U, B = Handlers, D = DegradationHandler> {
     pub(crate) expired_connection_buffer: u32,
     // How many nodes were made, and how many factories.
@@ -65,6 +64,20 @@ pub struct Hub<T, U, B = Handlers, D = DegradationHandler> {
     // How many factories of a service are open, by the service's number.
     pub(crate) factory_counts: Counts,
     pub(crate) services: Services<T, U, B, D>,
+}
+
+/// Said here once, so that no crate above proves it anew.
+impl<T: Drop, U: Drop, B: Drop, D: Drop> Drop for Hub<T, U, B, D> {
+    fn drop(self) {
+        let Hub {
+            expired_connection_buffer: _,
+            nodes: _,
+            factories: _,
+            table: _,
+            factory_counts: _,
+            services: _,
+        } = self;
+    }
 }
 
 impl<T: Copy, U: Copy, B: Drop, D: Drop> Hub<T, U, B, D> {

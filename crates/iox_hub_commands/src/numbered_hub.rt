@@ -15,7 +15,6 @@ use std::alloc::Global;
 /// ends.
 ///
 /// `T` is the element of messages, `U` their user header; `B` decides for publishers, `D` for subscribers. This port's own.
-#[derive(Drop)]
 pub struct NumberedHub<T, U, B = FixedHandlers, D = FixedDegradation> {
     /// The hub.
     pub hub: Hub<T, U, B, D>,
@@ -25,6 +24,18 @@ pub struct NumberedHub<T, U, B = FixedHandlers, D = FixedDegradation> {
     pub made: Made,
     /// How many numbers are pledged to ports.
     pub pledged: Pledged,
+}
+
+/// Said here once, so that no crate above proves it anew.
+impl<T: Drop, U: Drop, B: Drop, D: Drop> Drop for NumberedHub<T, U, B, D> {
+    fn drop(self) {
+        let NumberedHub {
+            hub: _,
+            factories: _,
+            made: _,
+            pledged: _,
+        } = self;
+    }
 }
 
 impl<T: Copy, U: Copy, B: Drop, D: Drop> NumberedHub<T, U, B, D> {

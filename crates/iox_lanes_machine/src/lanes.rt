@@ -14,9 +14,15 @@ use std::marker::Model;
 /// order that the caller wants, and any of them may stop anywhere.
 ///
 /// A port's own data stand still but at its own steps, and each step touches at most one shared word. This port's own.
-#[derive(Drop)]
 pub struct Lanes {
     pub(crate) state: State,
+}
+
+/// Said here once, so that no crate above proves it anew.
+impl Drop for Lanes {
+    fn drop(self) {
+        let Lanes { state: _ } = self;
+    }
 }
 
 impl Model for Lanes {
@@ -30,6 +36,18 @@ impl Model for Lanes {
     ghost view = { λ l. world_of l.state };
 
     ghost invariant = { λ l. IsKept (world_of l.state) };
+}
+
+impl Lanes {
+    ghost use Rattle.iox_lanes_machine.specs.State.{world_of};
+
+    // What they are made of.
+    pub(crate) fn into_state(self) -> State
+        ensures { world_of result ≡ self }
+    {
+        let Lanes { state } = self;
+        state
+    }
 }
 
 impl Lanes {

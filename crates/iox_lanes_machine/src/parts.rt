@@ -60,12 +60,11 @@ impl Lanes {
     pub fn into_ports(self) -> (Vec<PublisherLane>, Vec<SubscriberLane>)
         ensures { (result.0.items ≡ self.publishers) × (result.1.items ≡ self.subscribers) }
     {
-        let Lanes { state } = self;
         let State {
             publishers,
             subscribers,
             ..
-        } = state;
+        } = self.into_state();
         (publishers, subscribers)
     }
 }

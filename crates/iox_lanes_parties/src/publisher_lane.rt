@@ -19,7 +19,6 @@ use std::marker::Model;
 
 /// A publisher, the header and user header that each of its slots will be sent with, whether its sends fail at a full mailbox, the
 /// number that it gave last, if messages have numbers, and the call that it began last.
-#[derive(Drop)]
 pub struct PublisherLane {
     port: LanePublisher,
     fails: bool,
@@ -27,6 +26,20 @@ pub struct PublisherLane {
     last: Option<u64>,
     call: CallName,
     first: u64,
+}
+
+/// Said here once, so that no crate above proves it anew.
+impl Drop for PublisherLane {
+    fn drop(self) {
+        let PublisherLane {
+            port: _,
+            fails: _,
+            heads: _,
+            last: _,
+            call: _,
+            first: _,
+        } = self;
+    }
 }
 
 impl Model for PublisherLane {

@@ -14,11 +14,21 @@ use iox_lanes_base::words::SharedAccess;
 use std::marker::Model;
 
 /// A subscriber, and the call that it began last.
-#[derive(Drop)]
 pub struct SubscriberLane {
     port: LaneSubscriber,
     call: CallName,
     first: u64,
+}
+
+/// Said here once, so that no crate above proves it anew.
+impl Drop for SubscriberLane {
+    fn drop(self) {
+        let SubscriberLane {
+            port: _,
+            call: _,
+            first: _,
+        } = self;
+    }
 }
 
 impl Model for SubscriberLane {

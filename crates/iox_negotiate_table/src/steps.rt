@@ -13,9 +13,15 @@ use std::alloc::AllocError;
 use std::marker::Model;
 
 /// Foreign steps that are done one after the other. Contracts see their list.
-#[derive(Drop)]
 pub struct StepList {
     steps: Vec<ForeignStep>,
+}
+
+/// Said here once, so that no crate above proves it anew.
+impl Drop for StepList {
+    fn drop(self) {
+        let StepList { steps: _ } = self;
+    }
 }
 
 impl Model for StepList {

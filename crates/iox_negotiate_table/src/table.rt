@@ -17,13 +17,25 @@ use std::marker::Model;
 /// All services: descriptions and locks under their hash, segments under hash and number.
 ///
 /// Ported from the services of `iceoryx2::service`, as one value.
-#[derive(Drop)]
 pub struct Table {
     pub(crate) alloc: Global,
     pub(crate) id: u64,
     pub(crate) next: u64,
     pub(crate) entries: BTreeMap<[u8; 20], Entry>,
     pub(crate) segments: BTreeMap<([u8; 20], u64), Segment>,
+}
+
+/// Said here once, so that no crate above proves it anew.
+impl Drop for Table {
+    fn drop(self) {
+        let Table {
+            alloc: _,
+            id: _,
+            next: _,
+            entries: _,
+            segments: _,
+        } = self;
+    }
 }
 
 impl Model for Table {
