@@ -24,7 +24,7 @@ use Rattle.iox_hub_machine.specs.Standing.{PortsStandFor, lent_slot, held_sample
 use Rattle.iox_hub_machine.proofs.Housed.{some_here, some_ports, stands_here}
 use Rattle.iox_hub_machine.proofs.Numbered.{goes_so, is_its_own, no_loan, no_sample}
 use Rattle.iox_hub_machine.proofs.Parting.{is_parted, order_has}
-use Rattle.iox_hub_machine.proofs.Placed.{is_placed}
+use Rattle.iox_hub_machine.proofs.Placed.{IsPlaced, is_placed}
 use Rattle.iox_machine.specs.Choices.{Choices}
 use Rattle.iox_machine.specs.Service.{Service}
 use Rattle.iox_machine.specs.State.{State}
@@ -109,17 +109,21 @@ module _ {T U B D : Type 0} where
       (reader_degrades : D → DegradationCause → DegradationInfo → DegradationAction → Type 0) (naming : ℕ → Naming)
       (order : List (ℕ × ServicePorts T U)) (old : NumberedHub T U B D) (state : State T)
       (stands : PortsStandFor choices degrades decides reader_degrades naming order old state) where
-    -- the ports of a domain stand for some service of the machine
-    pub some_service : (id : DomainId) (ports : ServicePorts T U) → hub_ports id old.hub ≡ Some ports
-        → (service : Service T) × StandsFor (naming id.service) (those_of id.service (lent_in old.made))
-        (those_of id.service (held_in old.made)) old.hub.expired_connection_buffer ports service
-    some_service id ports found =
+    -- the service of the machine that a domain is
+    pub some_place : (id : DomainId) (ports : ServicePorts T U) → hub_ports id old.hub ≡ Some ports
+        → IsPlaced naming (lent_in old.made) (held_in old.made) old.hub.expired_connection_buffer (id.service, ports) state.services
+    some_place id ports found =
         let (domain, is, same) = some_ports (domain_at id old.hub.services) ports found in
         let parts = is_parted id.service ports order
         (order_has order old.hub.services.domains stands.here stands.same id.service domain (stands_here id ports old.hub domain is)
         ∙ ap (λ (it : ServicePorts T U). Some it) same) in
-        let placed = is_placed naming (lent_in old.made) (held_in old.made) old.hub.expired_connection_buffer parts.before parts.behind
+        is_placed naming (lent_in old.made) (held_in old.made) old.hub.expired_connection_buffer parts.before parts.behind
         (id.service, ports) state.services
         (subst (λ (domains : List (ℕ × ServicePorts T U)). DomainsStandFor naming (lent_in old.made) (held_in old.made)
-        old.hub.expired_connection_buffer domains state.services) parts.now stands.domains) in
-        (placed.service, placed.stands)
+        old.hub.expired_connection_buffer domains state.services) parts.now stands.domains)
+
+    -- the ports of a domain stand for some service of the machine
+    pub some_service : (id : DomainId) (ports : ServicePorts T U) → hub_ports id old.hub ≡ Some ports
+        → (service : Service T) × StandsFor (naming id.service) (those_of id.service (lent_in old.made))
+        (those_of id.service (held_in old.made)) old.hub.expired_connection_buffer ports service
+    some_service id ports found = let placed = some_place id ports found in (placed.service, placed.stands)

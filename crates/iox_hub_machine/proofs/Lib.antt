@@ -106,3 +106,4 @@ pub mod TypedReading
 mod CreatedBeside
 pub mod TypedOpening
 pub mod TypedRuns
+pub mod TypedHeaders

@@ -34,14 +34,15 @@ use Rattle.iox_hub_commands.specs.ServicesTables.{FactoryTable}
 use Rattle.iox_hub_commands.specs.declared.numbered_hub.NumberedHub.{NumberedHub}
 use Rattle.iox_hub_commands.specs.declared.services.factories.Factories.{Factories}
 use Rattle.iox_hub_machine.proofs.PortsRest.{port_leaves}
-use Rattle.iox_hub_machine.proofs.Resting.{shown}
+use Rattle.iox_hub_machine.proofs.Resting.{Rests, shown}
 use Rattle.iox_hub_machine.specs.Laws.{IsSimulatedFrom, answered_with}
 use Rattle.iox_hub_machine.specs.ServiceLaws.{IsFollowed}
 use Rattle.iox_hub_machine.specs.Services.{AreServedInTurn, HubStandsFor, IsServedBy, factories_as, services_in}
+use Rattle.iox_hub_machine.specs.Standing.{PortsStandFor}
 use Rattle.iox_machine.specs.Choices.{Choices}
 use Rattle.iox_machine.proofs.Ported.{IsBeside, is_of_ports, ports-move}
 use Rattle.iox_machine.specs.Service.{Service}
-use Rattle.iox_machine.specs.State.{State, replaced}
+use Rattle.iox_machine.specs.State.{Made, State, counted, replaced}
 use Rattle.iox_negotiate.specs.Histories.{IsReached}
 use Rattle.iox_negotiate_machine.specs.Standing.{PhaseStands}
 use Rattle.iox_negotiate_table.specs.Contents.{Contents}
@@ -50,14 +51,14 @@ use Rattle.iox_negotiate_table.specs.Contents.{Contents}
 
 module _ {T : Type 0} where
   -- Services have the names and settings that they had.
-  abbrev AreNamedAlike : List (Service T) → List (Service T) → Type 0
+  abbrev pub AreNamedAlike : List (Service T) → List (Service T) → Type 0
   AreNamedAlike [] [] = Unit {0}
   AreNamedAlike [] (after ∷ afters) = ⊥
   AreNamedAlike (service ∷ services) [] = ⊥
   AreNamedAlike (service ∷ services) (after ∷ afters) =
       (after.name ≡ service.name) × (after.settings ≡ service.settings) × AreNamedAlike services afters
 
-  alike_themselves : (services : List (Service T)) → AreNamedAlike services services
+  pub alike_themselves : (services : List (Service T)) → AreNamedAlike services services
   alike_themselves [] = tt
   alike_themselves (service ∷ services) = (refl, refl, alike_themselves services)
 
@@ -147,6 +148,61 @@ module _ {T U B D : Type 0} where
 
 -- ---- the hub
 
+module _ {T U B D : Type 0} (choices : Choices T) (degrades : B → DegradationCause → DegradationInfo → DegradationAction → Type 0)
+    (decides : B → BackpressureInfo → BackpressureDecision → Type 0)
+    (reader_degrades : D → DegradationCause → DegradationInfo → DegradationAction → Type 0) where
+  -- a hub of which all but the domains stayed stands, where their ports do
+  pub rested : (names : List (List ℕ)) (taken : MessagingPattern → List ℕ → List ℕ) (naming naming_then : ℕ → Naming)
+      (order order_then : List (ℕ × ServicePorts T U)) (old new : NumberedHub T U B D) (state : State T) (made : Made)
+      (services : List (Service T))
+      → HubStandsFor choices degrades decides reader_degrades names taken naming order old state
+      → Rests old.hub new.hub → new.factories ≡ old.factories → made.nodes ≡ state.made.nodes → made.factories ≡ state.made.factories
+      → keys_of order_then ≡ keys_of order → AreNamedAlike state.services services
+      → PortsStandFor choices degrades decides reader_degrades naming_then order_then new
+      (record state { made = made; services = services })
+      → HubStandsFor choices degrades decides reader_degrades names taken naming_then order_then new
+      (record state { made = made; services = services })
+  rested names taken naming naming_then order order_then old new state made services stands rests same_factories nodes factories keys
+      alike ports =
+      let rest = rests.rest in
+      let still = rests.services in
+      let same_table : new.hub.table ≡ old.hub.table = ap (λ (it : Hub T U B D). it.table) rest in
+      let same_made : new.factories.made ≡ old.factories.made = ap (λ (it : Factories). it.made) same_factories in record {
+        nodes = ap (λ (it : Hub T U B D). it.nodes) rest ∙ stands.nodes ∙ sym nodes;
+        table = record {
+          reached = subst IsReached (sym same_table) stands.table.reached;
+          phases = λ pattern name among. subst (λ (table : Contents). PhaseStands pattern name table (taken pattern name)
+              (state.phases pattern name)) (sym same_table) (stands.table.phases pattern name among);
+        };
+        id = ap (λ (it : Hub T U B D). it.services.hub) rest ∙ stands.id ∙ sym (ap (λ (table : Contents). table.id) same_table);
+        factories = record {
+          numbers = ap (λ (table : FactoryTable). table.next) same_made ∙ stands.factories.numbers ∙ ap (λ (n : ℕ). n + 1) (sym factories);
+          owners = ap (λ (it : Hub T U B D). it.factories) rest ∙ stands.factories.owners ∙ sym factories;
+          same = stands.factories.same ∙ ap factories_as (sym same_made);
+          each = λ number made_there found.
+              let it = stands.factories.each number made_there
+              (ap (λ (table : FactoryTable). value_at table number) (sym same_made) ∙ found) in
+              record {
+                asked = it.asked;
+                owner = it.owner;
+                storage = it.storage ∙ sym (ap (λ (table : Contents). table.id) same_table);
+                serves = it.serves;
+              };
+          seats = stands.factories.seats;
+          counts = λ service. ap (λ (hub : Hub T U B D). factories_of service hub.factory_counts) rest
+              ∙ stands.factories.counts service ∙ ap (λ (table : FactoryTable). how_often service (services_in table)) (sym same_made);
+          opened = λ number made_there found pattern.
+              sym (some_shown (presence_of (service_of made_there) new.hub.services.domains))
+              ∙ ap is_some (still (service_of made_there)) ∙ some_shown (presence_of (service_of made_there) old.hub.services.domains)
+              ∙ stands.factories.opened number made_there
+              (ap (λ (table : FactoryTable). value_at table number) (sym same_made) ∙ found) pattern;
+        };
+        served = in_turn new.factories.made old.hub.services new.hub.services still order order_then state.services services keys alike
+            (subst (λ (table : FactoryTable). AreServedInTurn table old.hub.services order state.services) (sym same_made)
+            stands.served);
+        ports = ports;
+      }
+
 module _ {T U B D : Type 0} (payload user_header : Detail) (types : MessageTypeDetails) (choices : Choices T)
     (is_default_header : U → Type 0) (fixed : BackpressureStrategy → Option BackpressureAction → DegradationAction → B)
     (degrades : B → DegradationCause → DegradationInfo → DegradationAction → Type 0)
@@ -167,52 +223,15 @@ module _ {T U B D : Type 0} (payload user_header : Detail) (types : MessageTypeD
       state answer stands.ports step in
       let leaves = port_leaves payload user_header types choices is_default_header fixed degrades decides fixed_reader reader_degrades
       old new answer asked is step in
-      let rest = leaves.hub.rest in
-      let still = leaves.hub.services in
-      let same_table : new.hub.table ≡ old.hub.table = ap (λ (it : Hub T U B D). it.table) rest in
-      let same_made : new.factories.made ≡ old.factories.made = ap (λ (it : Factories). it.made) leaves.factories in
       let after : State T = answered_with answer services state in record {
         taken = taken;
         naming = naming_then;
         order = order_then;
         after = after;
         step = did;
-        stands = record {
-          nodes = ap (λ (it : Hub T U B D). it.nodes) rest ∙ stands.nodes ∙ sym (leaves.told.nodes state.made);
-          table = record {
-            reached = subst IsReached (sym same_table) stands.table.reached;
-            phases = λ pattern name among. subst (λ (table : Contents). PhaseStands pattern name table (taken pattern name)
-                (state.phases pattern name)) (sym same_table) (stands.table.phases pattern name among);
-          };
-          id = ap (λ (it : Hub T U B D). it.services.hub) rest ∙ stands.id ∙ sym (ap (λ (table : Contents). table.id) same_table);
-          factories = record {
-            numbers = ap (λ (table : FactoryTable). table.next) same_made ∙ stands.factories.numbers
-                ∙ ap (λ (n : ℕ). n + 1) (sym (leaves.told.factories state.made));
-            owners = ap (λ (it : Hub T U B D). it.factories) rest ∙ stands.factories.owners ∙ sym (leaves.told.factories state.made);
-            same = stands.factories.same ∙ ap factories_as (sym same_made);
-            each = λ number made found.
-                let it = stands.factories.each number made
-                (ap (λ (table : FactoryTable). value_at table number) (sym same_made) ∙ found) in
-                record {
-                  asked = it.asked;
-                  owner = it.owner;
-                  storage = it.storage ∙ sym (ap (λ (table : Contents). table.id) same_table);
-                  serves = it.serves;
-                };
-            seats = stands.factories.seats;
-            counts = λ service. ap (λ (hub : Hub T U B D). factories_of service hub.factory_counts) rest
-                ∙ stands.factories.counts service ∙ ap (λ (table : FactoryTable). how_often service (services_in table)) (sym same_made);
-            opened = λ number made found pattern.
-                sym (some_shown (presence_of (service_of made) new.hub.services.domains))
-                ∙ ap is_some (still (service_of made)) ∙ some_shown (presence_of (service_of made) old.hub.services.domains)
-                ∙ stands.factories.opened number made
-                (ap (λ (table : FactoryTable). value_at table number) (sym same_made) ∙ found) pattern;
-          };
-          served = in_turn new.factories.made old.hub.services new.hub.services still order order_then state.services services keys
-              (beside_alike asked state answer services
-              (ports-move types choices old.hub.expired_connection_buffer asked state answer after is did))
-              (subst (λ (table : FactoryTable). AreServedInTurn table old.hub.services order state.services) (sym same_made)
-              stands.served);
-          ports = ports;
-        };
+        stands = rested choices degrades decides reader_degrades names taken naming naming_then order order_then old new state
+            (counted answer state.made) services stands leaves.hub leaves.factories (leaves.told.nodes state.made)
+            (leaves.told.factories state.made) keys
+            (beside_alike asked state answer services
+            (ports-move types choices old.hub.expired_connection_buffer asked state answer after is did)) ports;
       }

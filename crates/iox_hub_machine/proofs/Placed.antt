@@ -1,10 +1,12 @@
 -- The service of a machine that the ports of one domain among others are.
 use Rattle.std.proofs.Common.{◌≡◌, ◌≤◌, ◌<◌, ℕ, Bool, false, cond, List, [], ◌∷◌, ◌++◌, Option, None, Some, refl, sym, ap, ◌∙◌, arith}
+use Rattle.std.proofs.Common.{true≢false}
 use Rattle.std.proofs.Math.Logic.{⊎_elim}
 use Rattle.std.proofs.lemmas.Bool.Decides.{eqb_tells}
 use Rattle.std.specs.Map.{keys_of}
 use Rattle.std.specs.Option.{option_or, option_map_or}
 use Rattle.std.specs.Prelude.{◌==◌, if◌then◌else◌}
+use Rattle.iox_command.specs.declared.command.Command.TheVariants as command
 use Rattle.iox_delivery.specs.Holding.{publisher_stands, subscriber_stands, stands_there}
 use Rattle.iox_domain.specs.DomainPorts.Publishers.{port_of}
 use Rattle.iox_domain.specs.DomainPorts.declared.attached.Taken.{Taken}
@@ -15,12 +17,13 @@ use Rattle.iox_domain.specs.Subscribers.{subscriber_of}
 use Rattle.iox_domain.specs.Tries.{how_often}
 use Rattle.iox_domain.specs.declared.ports.service_ports.ServicePorts.{ServicePorts}
 use Rattle.iox_domain_machine.specs.Naming.{Naming}
-use Rattle.iox_domain_machine.specs.Services.{those_of, AreNamedApart, StandInTurn, DomainsStandFor}
+use Rattle.iox_domain_machine.specs.Services.{those_of, AreNamedApart, ComesOnce, StandInTurn, DomainsStandFor}
 use Rattle.iox_domain_machine.specs.Standing.{StandsFor}
 use Rattle.iox_domain_machine.specs.Tables.{LentSlot}
-use Rattle.iox_domain_machine.proofs.Services.{parted}
+use Rattle.iox_domain_machine.proofs.Services.{has_none, parted}
 use Rattle.iox_hub_machine.specs.Ports.{among}
 use Rattle.iox_hub_machine.proofs.Amidst.{is_none, among_one}
+use Rattle.iox_machine.specs.Message.{Sample}
 use Rattle.iox_machine.specs.Service.{Service, Publisher, Subscriber}
 use Rattle.iox_machine.specs.Table.{at}
 
@@ -80,7 +83,22 @@ module _ {T U : Type 0} (names : ℕ → Naming) (lent : List (ℕ × (ℕ × Le
         omega (arith, none, ap (tick domain) (sym same), ticks_itself domain)))
         ∙ no_subscriber apart domains services (omega (arith, none)) rest
 
-  -- The service of a domain: whoever has a name of the domain is there.
+    -- what of a domain goes by a number is no other's
+    pub no_sample : AreNamedApart (λ one. (names one).publisher) → AreNamedApart (λ one. (names one).subscriber) → ComesOnce lent
+        → ComesOnce held → (taken : Taken) → at number held ≡ Some (domain, taken) → (domains : List (ℕ × ServicePorts T U))
+        (services : List (Service T)) → how_often domain (keys_of domains) ≡ 0 → StandInTurn names lent held buffer domains services
+        → among (λ service. service.samples) number services ≡ None
+    no_sample publishers subscribers loans samples taken goes [] services none stands =
+        ap (among (λ service. service.samples) number) stands
+    no_sample publishers subscribers loans samples taken goes (one ∷ domains) [] none stands = absurd stands
+    no_sample publishers subscribers loans samples taken goes (one ∷ domains) (service ∷ services) none (it, rest) =
+        ap (λ (o : Option (Sample T)). option_or o (among (λ service. service.samples) number services))
+        (is_none (at number service.samples)
+        (λ is. true≢false (sym is ∙ has_none names lent held buffer domain publishers subscribers loans samples one service
+        (λ same. omega (arith, none, ap (tick domain) same, ticks_itself domain)) it [] (command.Sequence number) (taken, goes))))
+        ∙ no_sample publishers subscribers loans samples taken goes domains services (omega (arith, none)) rest
+
+  -- The service of a domain: whoever has a name of the domain is there, and what goes by a number of it.
   pub record IsPlaced (domain : ℕ × ServicePorts T U) (services : List (Service T)) : Type 0 where
     pub service : Service T
     pub stands : StandsFor (names domain.0) (those_of domain.0 lent) (those_of domain.0 held) buffer domain.1 service
@@ -88,6 +106,8 @@ module _ {T U : Type 0} (names : ℕ → Naming) (lent : List (ℕ × (ℕ × Le
         ≡ at ((names domain.0).publisher number) service.publishers
     pub subscribers : (number : ℕ) → among (λ service. service.subscribers) ((names domain.0).subscriber number) services
         ≡ at ((names domain.0).subscriber number) service.subscribers
+    pub samples : (number : ℕ) (taken : Taken) → at number held ≡ Some (domain.0, taken)
+        → among (λ service. service.samples) number services ≡ at number service.samples
 
   pub is_placed : (before behind : List (ℕ × ServicePorts T U)) (domain : ℕ × ServicePorts T U) (services : List (Service T))
       → DomainsStandFor names lent held buffer (before ++ domain ∷ behind) services → IsPlaced domain services
@@ -105,6 +125,10 @@ module _ {T U : Type 0} (names : ℕ → Naming) (lent : List (ℕ × (ℕ × Le
             ∙ among_one (λ service. service.subscribers) ((names domain.0).subscriber number) first service last
             (no_subscriber domain.0 number all.subscribers before first alone.0 stand_before)
             (no_subscriber domain.0 number all.subscribers behind last alone.1 stand_behind);
+        samples = λ number taken goes. ap (among (λ service. service.samples) number) are
+            ∙ among_one (λ service. service.samples) number first service last
+            (no_sample domain.0 number all.publishers all.subscribers all.loans all.samples taken goes before first alone.0 stand_before)
+            (no_sample domain.0 number all.publishers all.subscribers all.loans all.samples taken goes behind last alone.1 stand_behind);
       }
 
 -- ---- who stands

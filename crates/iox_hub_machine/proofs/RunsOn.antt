@@ -75,7 +75,7 @@ use Rattle.iox_negotiate.proofs.Maps.{Distinct, Rising, insert-rising, remove-ri
 -- ---- rising numbers
 
 module _ {X : Type 0} where
-  to_rising : (entries : List (ℕ × X)) → AreRising entries → Rising nat_cmp entries
+  pub to_rising : (entries : List (ℕ × X)) → AreRising entries → Rising nat_cmp entries
   to_rising [] rising = tt
   to_rising (entry ∷ entries) rising = (
     weaker (λ later. entry.0 < later.0) (λ later. nat_cmp entry.0 later.0 ≡ Less)
@@ -83,7 +83,7 @@ module _ {X : Type 0} where
     to_rising entries rising.1,
   )
 
-  from_rising : (entries : List (ℕ × X)) → Rising nat_cmp entries → AreRising entries
+  pub from_rising : (entries : List (ℕ × X)) → Rising nat_cmp entries → AreRising entries
   from_rising [] rising = tt
   from_rising (entry ∷ entries) rising = (
     weaker (λ later. nat_cmp entry.0 later.0 ≡ Less) (λ later. entry.0 < later.0)
@@ -150,7 +150,7 @@ module _ {T U B D : Type 0} where
   fine_at (Here domain) = tt
   fine_at (Out agreed) = tt
 
-  all_fine : (domains : List (ℕ × Presence T U B D)) → AreFine port_measure domains
+  pub all_fine : (domains : List (ℕ × Presence T U B D)) → AreFine port_measure domains
   all_fine domains = λ k d within. fine_at _
 
   balanced : (brings : ℕ) (old new : NumberedHub T U B D) → brings ≤ 6

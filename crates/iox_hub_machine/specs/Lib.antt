@@ -22,3 +22,4 @@ pub mod TypedServices
 pub mod TypedReading
 pub mod TypedOpening
 pub mod TypedRuns
+pub mod TypedHeaders

@@ -8,6 +8,8 @@ ghost use Rattle.iox_hub_base.specs.DescribeBase.Detail.{detail};
 ghost use Rattle.iox_hub_base.specs.DescribeBase.declared.type_detail.TypeVariant.{TypeVariant};
 ghost use Rattle.iox_hub_base.specs.DescribeBase.declared.type_detail.TypeVariant.TheVariants.{FixedSize};
 ghost use Rattle.iox_domain.specs.Fitting.{asked_types};
+ghost use Rattle.iox_hub_machine.specs.TypedHeaders.{HeaderIsStep, HeaderNamesPublisher, UserHeadersKeepStanding};
+ghost use Rattle.iox_hub_machine.specs.TypedHeaders.{UserHeadersNeedNoCommand};
 ghost use Rattle.iox_hub_machine.specs.TypedOpening.{CreateIsStep, ForeignIsStep, OpenIsStep, OpenOrCreateIsStep};
 ghost use Rattle.iox_hub_machine.specs.TypedPublishing.{ChangeIsStep, DropIsStep, GiveUpIsStep, LoanIsStep, LoanOfOneIsStep};
 ghost use Rattle.iox_hub_machine.specs.TypedPublishing.{LoanUninitIsStep, PublisherLeaveIsStep, PublisherUpdateIsStep, RetryIsStep};
@@ -273,6 +275,46 @@ pub fn typed_samples_are_read_by_steps<
         (λ handler. D.degrades handler) }
     ensures releases { (variant : TypeVariant)
         → ReleaseIsStep K (detail FixedSize T.name T.size T.alignment) (detail FixedSize U.name U.size U.alignment)
+        (asked_types variant (detail FixedSize T.name T.size T.alignment) (detail FixedSize U.name U.size U.alignment))
+        T.is_default U.is_default B.fixed (λ handlers. B.degrades handlers) (λ handlers. B.decides handlers) D.fixed
+        (λ handler. D.degrades handler) }
+{}
+
+/// The user header of a loan is written: `user_header_write`, and `user_header_mut` as the reference ends. The machine has none, so the hub
+/// stands for the state for which it stood, and what a program called is the run of the machine that it was.
+pub fn typed_user_headers_keep_standing<
+    T: ZeroCopySend + Default,
+    U: ZeroCopySend + Default,
+    B: PublisherHandlers,
+    D: SubscriberHandler,
+>()
+    ensures stands { (variant : TypeVariant)
+        → UserHeadersKeepStanding (detail FixedSize T.name T.size T.alignment) (detail FixedSize U.name U.size U.alignment)
+        (asked_types variant (detail FixedSize T.name T.size T.alignment) (detail FixedSize U.name U.size U.alignment))
+        T.is_default U.is_default B.fixed (λ handlers. B.degrades handlers) (λ handlers. B.decides handlers) D.fixed
+        (λ handler. D.degrades handler) }
+    ensures called { (variant : TypeVariant)
+        → UserHeadersNeedNoCommand (detail FixedSize T.name T.size T.alignment) (detail FixedSize U.name U.size U.alignment)
+        (asked_types variant (detail FixedSize T.name T.size T.alignment) (detail FixedSize U.name U.size U.alignment))
+        T.is_default U.is_default B.fixed (λ handlers. B.degrades handlers) (λ handlers. B.decides handlers) D.fixed
+        (λ handler. D.degrades handler) }
+{}
+
+/// The header of a sample is read: `header`. The sequence number that it tells is what the machine answers of the sample. The publisher of
+/// which it tells the id is that of the machine's sample.
+pub fn typed_headers_are_read_by_steps<
+    T: ZeroCopySend + Default,
+    U: ZeroCopySend + Default,
+    B: PublisherHandlers,
+    D: SubscriberHandler,
+>()
+    ensures reads { (variant : TypeVariant)
+        → HeaderIsStep (detail FixedSize T.name T.size T.alignment) (detail FixedSize U.name U.size U.alignment)
+        (asked_types variant (detail FixedSize T.name T.size T.alignment) (detail FixedSize U.name U.size U.alignment))
+        T.is_default U.is_default B.fixed (λ handlers. B.degrades handlers) (λ handlers. B.decides handlers) D.fixed
+        (λ handler. D.degrades handler) }
+    ensures names { (variant : TypeVariant)
+        → HeaderNamesPublisher (detail FixedSize T.name T.size T.alignment) (detail FixedSize U.name U.size U.alignment)
         (asked_types variant (detail FixedSize T.name T.size T.alignment) (detail FixedSize U.name U.size U.alignment))
         T.is_default U.is_default B.fixed (λ handlers. B.degrades handlers) (λ handlers. B.decides handlers) D.fixed
         (λ handler. D.degrades handler) }

@@ -1,0 +1,87 @@
+-- What calls on headers and user headers are in the machine.
+use Rattle.std.specs.Prelude.{ℕ, ◌≡◌, ◌⊎◌, List, Option, Some}
+use Rattle.iox_command.specs.DomainValues.declared.backpressure.BackpressureAction.{BackpressureAction}
+use Rattle.iox_command.specs.DomainValues.declared.backpressure.BackpressureDecision.{BackpressureDecision}
+use Rattle.iox_command.specs.DomainValues.declared.backpressure.BackpressureInfo.{BackpressureInfo}
+use Rattle.iox_command.specs.DomainValues.declared.backpressure_strategy.BackpressureStrategy.{BackpressureStrategy}
+use Rattle.iox_command.specs.DomainValues.declared.degradation.DegradationAction.{DegradationAction}
+use Rattle.iox_command.specs.DomainValues.declared.degradation.DegradationCause.{DegradationCause}
+use Rattle.iox_command.specs.DomainValues.declared.degradation.DegradationInfo.{DegradationInfo}
+use Rattle.iox_command.specs.NegotiateBase.DescribeBase.Detail.{Detail}
+use Rattle.iox_command.specs.NegotiateBase.DescribeBase.declared.message_type.MessageTypeDetails.{MessageTypeDetails}
+use Rattle.iox_command.specs.declared.command.Command.{Command}
+use Rattle.iox_command.specs.declared.command.Command.TheVariants as command
+use Rattle.iox_command.specs.declared.reply.Reply.{Reply}
+use Rattle.iox_command.specs.declared.reply.Reply.TheVariants as reply
+use Rattle.iox_container.specs.NumberTable.{value_at}
+use Rattle.iox_delivery.specs.Publishing.{WritesUserHeader, loan_changed}
+use Rattle.iox_delivery.specs.Subscribing.{header_found}
+use Rattle.iox_delivery.specs.declared.port_id.PortId.{PortId}
+use Rattle.iox_domain.specs.DescribeBase.declared.header.Header.{Header}
+use Rattle.iox_domain.specs.DomainPorts.Messages.{write_user_header}
+use Rattle.iox_hub_base.specs.AsHome.{hub_ports, with_hub_ports}
+use Rattle.iox_hub_base.specs.declared.hub.Hub.{Hub}
+use Rattle.iox_hub_commands.specs.Tables.{port_under}
+use Rattle.iox_hub_commands.specs.declared.numbered_hub.NumberedHub.{NumberedHub}
+use Rattle.iox_hub_commands.specs.declared.ports.made.MadeSample.{MadeSample}
+use Rattle.iox_hub_machine.specs.Ports.{among}
+use Rattle.iox_hub_machine.specs.Ran.{StandsAfter}
+use Rattle.iox_hub_machine.specs.TypedRuns.{HasCalled}
+use Rattle.iox_hub_machine.specs.TypedSteps.{IsStepBy, hub_after_call}
+use Rattle.iox_machine.specs.Choices.{as_named}
+use Rattle.iox_machine.specs.Message.{Sample}
+use Rattle.iox_machine.specs.State.{State}
+
+-- The two details are those of values and user headers, the types those of the messages; then what is a default value, and a default user
+-- header; who decides by fixed actions, and what anybody who decides may answer.
+module _ {T U B D : Type 0} (payload user_header : Detail) (types : MessageTypeDetails) (is_default : T → Type 0)
+    (is_default_header : U → Type 0)
+    (fixed : BackpressureStrategy → Option BackpressureAction → DegradationAction → B)
+    (degrades : B → DegradationCause → DegradationInfo → DegradationAction → Type 0)
+    (decides : B → BackpressureInfo → BackpressureDecision → Type 0)
+    (fixed_reader : DegradationAction → D)
+    (reader_degrades : D → DegradationCause → DegradationInfo → DegradationAction → Type 0) where
+  -- The user header of a loan is written; or it was last behind the reference that `user_header_mut` gave, when that ended.
+  abbrev pub ChangesUserHeader : PortId → ℕ → U → Hub T U B D → Hub T U B D → Type 0
+  ChangesUserHeader lender slot written old new =
+      WritesUserHeader hub_ports with_hub_ports lender slot written old new
+      ⊎ (new ≡ loan_changed hub_ports with_hub_ports lender slot (write_user_header written) old)
+
+  -- Where a user header is written the hub stands for the state for which it stood, with what its program holds.
+  abbrev pub UserHeadersKeepStanding : Type 0
+  UserHeadersKeepStanding = (slot : ℕ) (lender : PortId) (written : U) (old : NumberedHub T U B D) (hub : Hub T U B D)
+      (names : List (List ℕ)) (most : ℕ) (state : State T)
+      → ChangesUserHeader lender slot written old.hub hub
+      → StandsAfter types (as_named is_default) degrades decides reader_degrades names most old state
+      → StandsAfter types (as_named is_default) degrades decides reader_degrades names most (hub_after_call old old.made hub) state
+
+  -- So what a program called of a new hub is the run of the machine that it was: it needs no command.
+  abbrev pub UserHeadersNeedNoCommand : Type 0
+  UserHeadersNeedNoCommand = (slot : ℕ) (lender : PortId) (written : U) (old : NumberedHub T U B D) (hub : Hub T U B D)
+      (names : List (List ℕ)) (asked : List (Command T)) (answers : List (Reply T))
+      → ChangesUserHeader lender slot written old.hub hub
+      → HasCalled payload user_header types is_default is_default_header fixed degrades decides fixed_reader reader_degrades names asked
+      answers old
+      → HasCalled payload user_header types is_default is_default_header fixed degrades decides fixed_reader reader_degrades names asked
+      answers (hub_after_call old old.made hub)
+
+  -- The header of a sample that goes by a number tells the sequence number of the machine's sample. Where a publisher of the sample's domain
+  -- goes by a number, and the header tells its id, that is the publisher of the machine's sample.
+  abbrev pub HeaderNamesPublisher : Type 0
+  HeaderNamesPublisher = (names : List (List ℕ)) (most : ℕ) (hub : NumberedHub T U B D) (state : State T) (number : ℕ) (made : MadeSample)
+      (header : Header)
+      → StandsAfter types (as_named is_default) degrades decides reader_degrades names most hub state
+      → value_at hub.made.samples number ≡ Some made
+      → header_found made.taken (hub_ports made.port.domain hub.hub) ≡ Some header
+      → (sample : Sample T) × (among (λ service. service.samples) number state.services ≡ Some sample)
+      × (header.sequence ≡ sample.message.sequence)
+      × ((publisher : ℕ) (port : PortId) → port_under (value_at hub.made.publishers publisher) ≡ Some port
+      → port.domain.service ≡ made.port.domain.service → port.number ≡ header.publisher_id → sample.publisher ≡ publisher)
+
+  -- The header of a sample is read: the sequence number that it tells is what the machine answers of the sample. Nothing changes.
+  abbrev pub HeaderIsStep : Type 0
+  HeaderIsStep = (number : ℕ) (made : MadeSample) (old : NumberedHub T U B D) (header : Header)
+      → value_at old.made.samples number ≡ Some made
+      → header_found made.taken (hub_ports made.port.domain old.hub) ≡ Some header
+      → IsStepBy payload user_header types is_default is_default_header fixed degrades decides fixed_reader reader_degrades
+      (command.Sequence number) old (reply.Sequence header.sequence) old
