@@ -92,7 +92,8 @@ module _ {T U : Type 0} (slot : ℕ) (user_header : U) where
           still_loans
 
       header_stands_if : (b : Bool)
-          → StandsFor names lent held buffer (record ports { publishers = with_port number ports.publishers (changed_if b slot change port) })
+          → StandsFor names lent held buffer
+          (record ports { publishers = with_port number ports.publishers (changed_if b slot change port) })
           service
       header_stands_if true = header_stands
       header_stands_if false =

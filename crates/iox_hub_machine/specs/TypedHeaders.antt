@@ -65,8 +65,8 @@ module _ {T U B D : Type 0} (payload user_header : Detail) (types : MessageTypeD
       → HasCalled payload user_header types is_default is_default_header fixed degrades decides fixed_reader reader_degrades names asked
       answers (hub_after_call old old.made hub)
 
-  -- The header of a sample that goes by a number tells the sequence number of the machine's sample. Where a publisher of the sample's domain
-  -- goes by a number, and the header tells its id, that is the publisher of the machine's sample.
+  -- The header of a sample that goes by a number tells the sequence number of the machine's sample. Where a publisher of the sample's
+  -- domain goes by a number, and the header tells its id, that is the publisher of the machine's sample.
   abbrev pub HeaderNamesPublisher : Type 0
   HeaderNamesPublisher = (names : List (List ℕ)) (most : ℕ) (hub : NumberedHub T U B D) (state : State T) (number : ℕ) (made : MadeSample)
       (header : Header)

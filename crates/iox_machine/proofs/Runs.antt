@@ -215,7 +215,8 @@ module _ {T : Type 0} where
         (Some publisher, is, (message, found, first, same, told, came)) = (
           publisher,
           message,
-          first-of (Good publisher) (mailbox publisher number old).waiting message first (box-fits Good Fine AnyOptions publisher number old sound).3,
+          first-of (Good publisher) (mailbox publisher number old).waiting message first
+              (box-fits Good Fine AnyOptions publisher number old sound).3,
           ap (λ (answer : Reply T). vec_items (values_in answer values)) told ∙ same,
           ap number_in told,
         )
@@ -328,7 +329,8 @@ messages-sent {T} choices types buffer asked answers new run =
     all-weaker (Sound Good AnySample AnyOptions) (AllMessages Good)
     (λ (service : Service T) (sound : Sound Good AnySample AnyOptions service). (
       (λ publisher subscriber box e.
-          let fits : BoxFits Good AnySample AnyOptions publisher service.settings box = sound.0 publisher subscriber box e in (fits.3, fits.4)),
+          let fits : BoxFits Good AnySample AnyOptions publisher service.settings box = sound.0 publisher subscriber box e in
+          (fits.3, fits.4)),
       all-weaker (λ (entry : ℕ × Publisher T). PublisherFits Good AnySample AnyOptions service.settings entry.0 entry.1)
           (λ (entry : ℕ × Publisher T). AllByRecursion (Good entry.0) entry.1.history) (λ entry fits. fits.1) service.publishers sound.1,
       all-weaker (λ (entry : ℕ × Sample T). SampleFits Good AnySample AnyOptions entry.0 entry.1)

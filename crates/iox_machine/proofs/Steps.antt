@@ -91,7 +91,8 @@ module _ {T : Type 0} (Good : ℕ → Message T → Type 0) (Fine : ℕ → Samp
 
   at-blocked : (number : ℕ) (Does : Publisher T → Send T → Service T → Reply T → Service T → Type 0) (old : State T) (answer : Reply T)
       (new : State T)
-      → ((one : Publisher T) (send : Send T) (service after : Service T) → Both Good Fine Named number one service → Good number send.message
+      → ((one : Publisher T) (send : Send T) (service after : Service T) → Both Good Fine Named number one service
+      → Good number send.message
       → Does one send service answer after → IsSound after)
       → AtBlocked number Does old answer new → AreSound old → Leaves old answer new
   at-blocked number Does old answer new does h all =
@@ -112,7 +113,8 @@ module _ {T : Type 0} (Good : ℕ → Message T → Type 0) (Fine : ℕ → Samp
       (Does : Subscriber → Service T → Reply T → Service T → Type 0)
       (old : State T)
       (answer : Reply T) (new : State T)
-      → ((one : Subscriber) (service after : Service T) → Well Good Fine Named number one service → Does one service answer after → IsSound after)
+      → ((one : Subscriber) (service after : Service T) → Well Good Fine Named number one service → Does one service answer after
+      → IsSound after)
       → AtOne (subscriber_in number) (subscribing.UpdatesFirst choices buffer number told Does) old answer new → AreSound old
       → Leaves old answer new
   at-subscriber choices buffer number told Does old answer new does h all =

@@ -20,7 +20,8 @@ use Rattle.iox_machine.proofs.Held.{any-found}
 use Rattle.iox_machine.proofs.HeldSteps.{AreOwned, IsThere, received-there, run-owned, run-there, step-stays}
 use Rattle.iox_machine.proofs.Lists.{all-at, all-both, all-weaker}
 use Rattle.iox_machine.proofs.OrderLaws.{all-behind}
-use Rattle.iox_machine.proofs.Runs.{AnyMessage, AnyOptions, AreSound, Numbered, all-found, forgotten, made-so, received-number, rises, runs-numbered}
+use Rattle.iox_machine.proofs.Runs.{AnyMessage, AnyOptions, AreSound, Numbered, all-found, forgotten, made-so, received-number, rises}
+use Rattle.iox_machine.proofs.Runs.{runs-numbered}
 use Rattle.iox_machine.proofs.Sound.{SampleFits, Sound}
 use Rattle.iox_machine.proofs.Steps.{step-sound}
 use Rattle.iox_machine.proofs.Taken.{received-was-sent}
