@@ -16,6 +16,7 @@ pub mod RecordedSkips
 pub mod RecordedIds
 pub mod RecordedCame
 pub mod RecordedRuns
+pub mod RecordedFollowing
 pub mod RecordedReading
 pub mod RecordedSent
 pub mod RecordedTold

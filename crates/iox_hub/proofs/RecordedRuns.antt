@@ -212,13 +212,13 @@ module _ {T U B D : Type 0} (payload user_header : Detail) (is_default : T → T
   Recorded fit calls hub
       = IsRecorded payload user_header types is_default is_default_header fixed degrades decides fixed_reader reader_degrades fit calls hub
 
-  abbrev Steps : Command T → NumberedHub T U B D → Reply T → NumberedHub T U B D → Type 0
+  abbrev pub Steps : Command T → NumberedHub T U B D → Reply T → NumberedHub T U B D → Type 0
   Steps = IsStepBy payload user_header types is_default is_default_header fixed degrades decides fixed_reader reader_degrades
 
   abbrev pub Followed : Calls T → Type 0
   Followed calls = AreFollowed fixed degrades decides fixed_reader reader_degrades calls
 
-  abbrev Stood : List (List ℕ) → ℕ → NumberedHub T U B D → State T → Type 0
+  abbrev pub Stood : List (List ℕ) → ℕ → NumberedHub T U B D → State T → Type 0
   Stood names most hub state = StandsAfter types (as_named is_default) degrades decides reader_degrades names most hub state
 
   -- one call more, which is a step, and what is known then
@@ -244,7 +244,7 @@ module _ {T U B D : Type 0} (payload user_header : Detail) (is_default : T → T
       (now, kept ∙ same, knows names (all_asked (old.asked ++ asked ∷ [])) now.state now.stands fits so)
 
   -- one call more, which is a step, and nothing more is known then
-  run_on : {fit : Bool} → CallsGoOn payload user_header types is_default is_default_header fixed degrades decides fixed_reader
+  pub run_on : {fit : Bool} → CallsGoOn payload user_header types is_default is_default_header fixed degrades decides fixed_reader
       reader_degrades
       → (old : Calls T) (hub after : Hub T U B D) (asked : Command T) (answer : Reply T) (made : Made) (factories : FactoryTable)
       → Steps asked (numbered old hub) answer (numbered (then old asked answer made factories old.received) after)
@@ -253,26 +253,48 @@ module _ {T U B D : Type 0} (payload user_header : Detail) (is_default : T → T
       run_to fit fit goes_on old hub after asked answer made factories old.received (λ fits. fits) (λ fits. does)
       (λ names most state stands fits so. so) was
 
-  abbrev Skips : Command T → Calls T → Hub T U B D → Hub T U B D → Type 0
+  abbrev pub Skips : Command T → Calls T → Hub T U B D → Hub T U B D → Type 0
   Skips asked old hub after = Does payload user_header Dynamic is_default is_default_header fixed degrades decides fixed_reader
       reader_degrades
       asked (numbered old hub) reply.Skipped (numbered old after)
 
+  -- a call that leaves what the program holds as it was
+  pub plain_on : {fit : Bool} → CallsGoOn payload user_header types is_default is_default_header fixed degrades decides fixed_reader
+      reader_degrades
+      → (old : Calls T) (hub after : Hub T U B D) (asked : Command T) (answer : Reply T) → SendsNoLoan asked
+      → after.table.id ≡ hub.table.id → Steps asked (numbered old hub) answer (numbered old after)
+      → Recorded fit old hub → Recorded fit (asked_too asked answer old) after
+  plain_on goes_on old hub after asked answer so kept does was = record {
+    rise = was.rise;
+    id = kept ∙ was.id;
+    all_fit = was.all_fit;
+    told = told_too asked answer was.told so;
+    run = run_on goes_on old hub after asked answer old.made old.factories does was.run;
+  }
+
   -- a call that isn't made is a command that is skipped
-  skipped_on : {fit : Bool} → CallsGoOn payload user_header types is_default is_default_header fixed degrades decides fixed_reader
+  pub skipped_on : {fit : Bool} → CallsGoOn payload user_header types is_default is_default_header fixed degrades decides fixed_reader
       reader_degrades
       → (old : Calls T) (hub after : Hub T U B D) (asked : Command T) → SendsNoLoan asked → after.table.id ≡ hub.table.id
       → ((names : List (List ℕ)) (most : ℕ) (state : State T) → Stood names most (numbered old hub) state → Skips asked old hub after)
       → Recorded fit old hub → Recorded fit (asked_too asked reply.Skipped old) after
-  skipped_on goes_on old hub after asked so kept skips was = record {
-    rise = was.rise;
-    id = kept ∙ was.id;
-    all_fit = was.all_fit;
-    told = told_too asked reply.Skipped was.told so;
-    run = run_on goes_on old hub after asked reply.Skipped old.made old.factories
-        (by_step payload user_header Dynamic is_default is_default_header fixed degrades decides fixed_reader reader_degrades
-        asked (numbered old hub) (numbered old after) reply.Skipped skips) was.run;
-  }
+  skipped_on goes_on old hub after asked so kept skips was =
+      plain_on goes_on old hub after asked reply.Skipped so kept
+      (by_step payload user_header Dynamic is_default is_default_header fixed degrades decides fixed_reader reader_degrades
+      asked (numbered old hub) (numbered old after) reply.Skipped skips) was
+
+  -- a subscriber that the program holds stands, so that no call of it is skipped
+  pub absent_on : {fit : Bool} → CallsGoOn payload user_header types is_default is_default_header fixed degrades decides fixed_reader
+      reader_degrades
+      → HeldMayBeUsed U types is_default degrades decides reader_degrades
+      → (old : Calls T) (hub after : Hub T U B D) (asked : Command T) → SendsNoLoan asked → (number : ℕ) (who : PortId)
+      → value_at old.made.subscribers number ≡ Some who → subscriber_stands who.number (hub_ports who.domain hub) ≡ false → after ≡ hub
+      → Recorded fit old hub → Recorded fit (asked_too asked reply.Skipped old) after
+  absent_on {fit} goes_on may_use old hub after asked so number who there never same was =
+      subst (λ (it : Hub T U B D). Recorded fit (asked_too asked reply.Skipped old) it) (sym same)
+      (skipped_on goes_on old hub hub asked so refl
+      (λ names most state it. never_so (subscriber_stands who.number (hub_ports who.domain hub))
+      ((may_use names most (numbered old hub) state it).subscribers number who there) never) was)
 
   -- nothing was asked of a new hub
   pub new_recorded : CallsBegin payload user_header types is_default is_default_header fixed degrades decides fixed_reader reader_degrades
@@ -335,14 +357,9 @@ module _ {T U B D : Type 0} (payload user_header : Detail) (is_default : T → T
       → answer ≡ Ok (record { hub = hub.table.id; number = one_more hub.nodes })
       → after ≡ record hub { nodes = one_more hub.nodes }
       → Recorded fit old hub → Recorded fit (asked_too command.Node (told_node answer) old) after
-  node_recorded goes_on steps old hub after answer is same was = record {
-    rise = was.rise;
-    id = ap (λ hub. hub.table.id) same ∙ was.id;
-    all_fit = was.all_fit;
-    told = told_too command.Node (told_node answer) was.told tt;
-    run = run_on goes_on old hub after command.Node (told_node answer) old.made old.factories
-        (steps (numbered old hub) after answer is same) was.run;
-  }
+  node_recorded goes_on steps old hub after answer is same was =
+      plain_on goes_on old hub after command.Node (told_node answer) tt (ap (λ hub. hub.table.id) same)
+      (steps (numbered old hub) after answer is same) was
 
   pub put_recorded : {fit : Bool} → CallsGoOn payload user_header types is_default is_default_header fixed degrades decides fixed_reader
       reader_degrades
@@ -365,16 +382,12 @@ module _ {T U B D : Type 0} (payload user_header : Detail) (is_default : T → T
         ),
         refl,
       )) was)
-  put_recorded goes_on steps old hub after number lender values (Some answer) there (may, sends) was = record {
-    rise = was.rise;
-    id = slice_keeps degrades decides lender values hub after answer sends ∙ was.id;
-    all_fit = was.all_fit;
-    told = told_too (command.Put number values) (told_sent answer) was.told tt;
-    run = run_on goes_on old hub after (command.Put number values) (told_sent answer) old.made old.factories
-        (steps number lender values (numbered old hub) after answer there
-        (not_waiting (publisher_stands lender.number (hub_ports lender.domain hub))
-        (publisher_blocked lender.number (hub_ports lender.domain hub)) may) sends) was.run;
-  }
+  put_recorded goes_on steps old hub after number lender values (Some answer) there (may, sends) was =
+      plain_on goes_on old hub after (command.Put number values) (told_sent answer) tt
+      (slice_keeps degrades decides lender values hub after answer sends)
+      (steps number lender values (numbered old hub) after answer there
+      (not_waiting (publisher_stands lender.number (hub_ports lender.domain hub))
+      (publisher_blocked lender.number (hub_ports lender.domain hub)) may) sends) was
 
   -- a send that waits is tried again, or what doesn't wait is handed back
   pub retry_recorded : {fit : Bool} {W : Type 0}
@@ -399,14 +412,10 @@ module _ {T U B D : Type 0} (payload user_header : Detail) (is_default : T → T
         ),
         refl,
       )) was)
-  retry_recorded goes_on steps old hub after number nanoseconds sender waits (Ok answer) there tries was = record {
-    rise = was.rise;
-    id = retry_keeps decides sender nanoseconds hub after answer tries ∙ was.id;
-    all_fit = was.all_fit;
-    told = told_too (command.Retry number nanoseconds) (told_sent answer) was.told tt;
-    run = run_on goes_on old hub after (command.Retry number nanoseconds) (told_sent answer) old.made old.factories
-        (steps number nanoseconds sender (numbered old hub) after answer there tries) was.run;
-  }
+  retry_recorded goes_on steps old hub after number nanoseconds sender waits (Ok answer) there tries was =
+      plain_on goes_on old hub after (command.Retry number nanoseconds) (told_sent answer) tt
+      (retry_keeps decides sender nanoseconds hub after answer tries)
+      (steps number nanoseconds sender (numbered old hub) after answer there tries) was
 
   pub give_up_recorded : {fit : Bool} → CallsGoOn payload user_header types is_default is_default_header fixed degrades decides fixed_reader
       reader_degrades
@@ -415,14 +424,10 @@ module _ {T U B D : Type 0} (payload user_header : Detail) (is_default : T → T
       → port_under (value_at old.made.publishers number) ≡ Some sender
       → EndsSend hub_ports with_hub_ports sender hub answer after
       → Recorded fit old hub → Recorded fit (asked_too (command.GiveUp number) (given_up_reply answer) old) after
-  give_up_recorded goes_on steps old hub after number sender answer there ends was = record {
-    rise = was.rise;
-    id = at_keeps sender.domain (GivesUpBy sender.number) (hub_ports sender.domain hub) hub after answer ends ∙ was.id;
-    all_fit = was.all_fit;
-    told = told_too (command.GiveUp number) (given_up_reply answer) was.told tt;
-    run = run_on goes_on old hub after (command.GiveUp number) (given_up_reply answer) old.made old.factories
-        (steps number sender (numbered old hub) after answer there ends) was.run;
-  }
+  give_up_recorded goes_on steps old hub after number sender answer there ends was =
+      plain_on goes_on old hub after (command.GiveUp number) (given_up_reply answer) tt
+      (at_keeps sender.domain (GivesUpBy sender.number) (hub_ports sender.domain hub) hub after answer ends)
+      (steps number sender (numbered old hub) after answer there ends) was
 
   -- a sample that came is told with its values; a subscriber that the program holds stands
   pub receive_recorded : {fit : Bool} → CallsGoOn payload user_header types is_default is_default_header fixed degrades decides fixed_reader
@@ -436,10 +441,7 @@ module _ {T U B D : Type 0} (payload user_header : Detail) (is_default : T → T
       → Recorded fit old hub → Recorded (fit && newest_is_known answer after) (calls_received after number answer old) after
   receive_recorded {fit} goes_on steps may_use old hub after number receiver None there (never, same) was =
       subst (λ (it : Bool). Recorded it (asked_too (command.Receive number) reply.Skipped old) after) (sym (and_true fit))
-      (subst (λ (it : Hub T U B D). Recorded fit (asked_too (command.Receive number) reply.Skipped old) it) (sym same)
-      (skipped_on goes_on old hub hub (command.Receive number) tt refl
-      (λ names most state it. never_so (subscriber_stands receiver.number (hub_ports receiver.domain hub))
-      ((may_use names most (numbered old hub) state it).subscribers number receiver there) never) was))
+      (absent_on goes_on may_use old hub after (command.Receive number) tt number receiver there never same was)
   receive_recorded {fit} goes_on steps may_use old hub after number receiver (Some (Ok (Some sample))) there (may, receives) was =
       let values : List T = values_there sample after in
       let it : MadeSample = record { port = sample.port; taken = sample.taken } in
@@ -469,24 +471,16 @@ module _ {T U B D : Type 0} (payload user_header : Detail) (is_default : T → T
             (low (length values) (2 ^ 63) (both_fit old.received (values ∷ []) fits).1.0))) was.run;
       }
   receive_recorded {fit} goes_on steps may_use old hub after number receiver (Some (Ok None)) there (may, receives) was =
-      subst (λ (it : Bool). Recorded it (asked_too (command.Receive number) reply.NothingWaits old) after) (sym (and_true fit)) (record {
-        rise = was.rise;
-        id = receive_keeps reader_degrades receiver hub after (Ok None) receives ∙ was.id;
-        all_fit = was.all_fit;
-        told = told_too (command.Receive number) reply.NothingWaits was.told tt;
-        run = run_on goes_on old hub after (command.Receive number) reply.NothingWaits old.made old.factories
-            (steps number receiver (numbered old hub) after (Ok None) reply.NothingWaits there receives refl) was.run;
-      })
+      subst (λ (it : Bool). Recorded it (asked_too (command.Receive number) reply.NothingWaits old) after) (sym (and_true fit))
+      (plain_on goes_on old hub after (command.Receive number) reply.NothingWaits tt
+      (receive_keeps reader_degrades receiver hub after (Ok None) receives)
+      (steps number receiver (numbered old hub) after (Ok None) reply.NothingWaits there receives refl) was)
   receive_recorded {fit} goes_on steps may_use old hub after number receiver (Some (Err why)) there (may, receives) was =
       subst (λ (it : Bool). Recorded it (asked_too (command.Receive number) (reply.Refused (refusal.Receive why)) old) after)
-      (sym (and_true fit)) (record {
-        rise = was.rise;
-        id = receive_keeps reader_degrades receiver hub after (Err why) receives ∙ was.id;
-        all_fit = was.all_fit;
-        told = told_too (command.Receive number) (reply.Refused (refusal.Receive why)) was.told tt;
-        run = run_on goes_on old hub after (command.Receive number) (reply.Refused (refusal.Receive why)) old.made old.factories
-            (steps number receiver (numbered old hub) after (Err why) (reply.Refused (refusal.Receive why)) there receives refl) was.run;
-      })
+      (sym (and_true fit))
+      (plain_on goes_on old hub after (command.Receive number) (reply.Refused (refusal.Receive why)) tt
+      (receive_keeps reader_degrades receiver hub after (Err why) receives)
+      (steps number receiver (numbered old hub) after (Err why) (reply.Refused (refusal.Receive why)) there receives refl) was)
 
   -- a subscriber that the program holds receives
   pub receives_some : {fit : Bool} → HeldMayBeUsed U types is_default degrades decides reader_degrades
@@ -682,15 +676,10 @@ module _ {T U B D : Type 0} (payload user_header : Detail) (is_default : T → T
               (with_publisher (domain_of_factory parts) true number old.made) old.factories (steps factory parts named header
               (numbered old hub) after (Ok number) there (λ worst_case slots is. is) default makes) was.run;
         }
-    publisher_recorded goes_on named steps header (Some (Err why)) default makes was = record {
-      rise = was.rise;
-      id = publisher_keeps named header (Some (Err why)) makes ∙ was.id;
-      all_fit = was.all_fit;
-      told = told_too (command.Publisher factory named) (reply.Refused (refusal.Publisher why)) was.told tt;
-      run = run_on goes_on old hub after (command.Publisher factory named) (reply.Refused (refusal.Publisher why)) old.made old.factories
-          (steps factory parts named header
-          (numbered old hub) after (Err why) there (λ worst_case slots is. is) default makes) was.run;
-    }
+    publisher_recorded goes_on named steps header (Some (Err why)) default makes was =
+        plain_on goes_on old hub after (command.Publisher factory named) (reply.Refused (refusal.Publisher why)) tt
+        (publisher_keeps named header (Some (Err why)) makes)
+        (steps factory parts named header (numbered old hub) after (Err why) there (λ worst_case slots is. is) default makes) was
 
     subscriber_keeps : (named : SubscriberOptions) (answer : Option (Result ℕ SubscriberCreateError))
         → MakesAt (λ after. with_hub_ports (domain_of_factory parts) after hub)
@@ -740,14 +729,10 @@ module _ {T U B D : Type 0} (payload user_header : Detail) (is_default : T → T
               (with_subscriber (domain_of_factory parts) number old.made) old.factories
               (steps factory parts named (numbered old hub) after (Ok number) there makes) was.run;
         }
-    subscriber_recorded goes_on steps named (Some (Err why)) makes was = record {
-      rise = was.rise;
-      id = subscriber_keeps named (Some (Err why)) makes ∙ was.id;
-      all_fit = was.all_fit;
-      told = told_too (command.Subscriber factory named) (reply.Refused (refusal.Subscriber why)) was.told tt;
-      run = run_on goes_on old hub after (command.Subscriber factory named) (reply.Refused (refusal.Subscriber why)) old.made old.factories
-          (steps factory parts named (numbered old hub) after (Err why) there makes) was.run;
-    }
+    subscriber_recorded goes_on steps named (Some (Err why)) makes was =
+        plain_on goes_on old hub after (command.Subscriber factory named) (reply.Refused (refusal.Subscriber why)) tt
+        (subscriber_keeps named (Some (Err why)) makes)
+        (steps factory parts named (numbered old hub) after (Err why) there makes) was
 
   pub opened_recorded : {fit : Bool} → CallsGoOn payload user_header types is_default is_default_header fixed degrades decides fixed_reader
       reader_degrades
@@ -786,15 +771,10 @@ module _ {T U B D : Type 0} (payload user_header : Detail) (is_default : T → T
             (steps node name (options.PublishSubscribe named) required [] (numbered old hub) after (Ok old.factories.next)
             (inserted old.factories factory) there tt either) was.run;
       }
-  opened_recorded goes_on steps old hub after node name named required (Some (Err why)) (there, either) was = record {
-    rise = was.rise;
-    id = either_keeps payload user_header types node name named required old.factories old.factories hub after
-        (Err (refusal.PublishSubscribeOpenOrCreate why)) either ∙ was.id;
-    all_fit = was.all_fit;
-    told = told_too (command.OpenOrCreate node name (options.PublishSubscribe named) required [])
-        (reply.Refused (refusal.PublishSubscribeOpenOrCreate why)) was.told tt;
-    run = run_on goes_on old hub after (command.OpenOrCreate node name (options.PublishSubscribe named) required [])
-        (reply.Refused (refusal.PublishSubscribeOpenOrCreate why)) old.made old.factories
-        (steps node name (options.PublishSubscribe named) required [] (numbered old hub) after
-        (Err (refusal.PublishSubscribeOpenOrCreate why)) old.factories there tt either) was.run;
-  }
+  opened_recorded goes_on steps old hub after node name named required (Some (Err why)) (there, either) was =
+      plain_on goes_on old hub after (command.OpenOrCreate node name (options.PublishSubscribe named) required [])
+      (reply.Refused (refusal.PublishSubscribeOpenOrCreate why)) tt
+      (either_keeps payload user_header types node name named required old.factories old.factories hub after
+      (Err (refusal.PublishSubscribeOpenOrCreate why)) either)
+      (steps node name (options.PublishSubscribe named) required [] (numbered old hub) after
+      (Err (refusal.PublishSubscribeOpenOrCreate why)) old.factories there tt either) was

@@ -3,7 +3,7 @@ use Rattle.std.proofs.Common.{◌≡◌, ◌∙◌, ◌==◌, ◌&&◌, ◌||◌
 use Rattle.std.proofs.Common.{if◌then◌else◌}
 use Rattle.std.specs.Option.{unwrap_or}
 use Rattle.iox_delivery.proofs.Ready.{sample_releases}
-use Rattle.iox_delivery.specs.Holding.{holds_message, publisher_blocked}
+use Rattle.iox_delivery.specs.Holding.{holds_message, publisher_blocked, publisher_stands}
 use Rattle.iox_delivery.specs.Subscribing.{DropsAt}
 use Rattle.iox_delivery.specs.declared.port_id.PortId.{PortId}
 use Rattle.iox_domain.specs.AtHomes.{AtDomain}
@@ -12,8 +12,8 @@ use Rattle.iox_domain.specs.DomainPorts.declared.attached.Taken.{Taken}
 use Rattle.iox_domain.specs.DomainPorts.declared.publisher_port.PublisherPort.{PublisherPort}
 use Rattle.iox_domain.specs.Lending.{passes_port}
 use Rattle.iox_domain.specs.Ports.{AtPublisher}
-use Rattle.iox_domain.specs.PortsPublishing.{RetriesIf, RetriesOne, is_blocked}
-use Rattle.iox_domain.specs.Steps.{RetriesBy}
+use Rattle.iox_domain.specs.PortsPublishing.{RetriesIf, RetriesOne, UpdatesIf, UpdatesOne, is_blocked}
+use Rattle.iox_domain.specs.Steps.{RetriesBy, UpdatesBy}
 use Rattle.iox_domain.specs.declared.domain_id.DomainId.{DomainId}
 use Rattle.iox_domain.specs.declared.ports.service_ports.ServicePorts.{ServicePorts}
 use Rattle.iox_hub_base.specs.AsHome.{hub_ports, with_hub_ports}
@@ -21,6 +21,8 @@ use Rattle.iox_hub_base.specs.declared.hub.Hub.{Hub}
 use Rattle.iox_hub_commands.specs.Calls.{may_lend, ready}
 use Rattle.iox_hub_commands.specs.DomainValues.declared.backpressure.BackpressureDecision.{BackpressureDecision}
 use Rattle.iox_hub_commands.specs.DomainValues.declared.backpressure.BackpressureInfo.{BackpressureInfo}
+use Rattle.iox_hub_commands.specs.DomainValues.declared.degradation.DegradationAction.{DegradationAction}
+use Rattle.iox_hub_commands.specs.DomainValues.declared.degradation.DegradationInfo.{DegradationInfo}
 use Rattle.iox_hub_commands.specs.Tables.{lender, port_under}
 use Rattle.iox_hub_commands.specs.declared.ports.made.MadePublisher.{MadePublisher}
 use Rattle.iox_hub_machine.proofs.Housed.{put_again}
@@ -59,7 +61,26 @@ module _ {T U : Type 0} (may : BackpressureInfo → BackpressureDecision → Typ
   not_tried (Some port) never =
       (port, subst (λ (b : Bool). RetriesIf b may elapsed port None port) (sym never) (refl, refl), refl)
 
+module _ {T U : Type 0} (may : DegradationInfo → DegradationAction → Type 0) (number : ℕ) (ports : ServicePorts T U) where
+  not_followed : (port : Option (PublisherPort T U)) → (passes_port (λ it. it.stands) port && not (passes_port is_blocked port)) ≡ false
+      → AtPublisher number (UpdatesOne may ports.subscriber_list) port ports None ports
+  not_followed None never = (refl, refl)
+  not_followed (Some port) never =
+      (port, subst (λ (b : Bool). UpdatesIf b may ports.subscriber_list port None port) (sym never) (refl, refl), refl)
+
 module _ {T U B D : Type 0} where
+  -- a publisher that may not lend follows nothing
+  pub follows_none : (may : DegradationInfo → DegradationAction → Type 0) (who : PortId) (hub : Hub T U B D)
+      (found : Option (ServicePorts T U)) → hub_ports who.domain hub ≡ found
+      → (publisher_stands who.number found && not (publisher_blocked who.number found)) ≡ false
+      → AtDomain (λ (after : ServicePorts T U). with_hub_ports who.domain after hub) (UpdatesBy may who.number) found hub None hub
+  follows_none may who hub None is never = (refl, refl)
+  follows_none may who hub (Some ports) is never = (
+    ports,
+    not_followed may who.number ports (port_of who.number ports.publishers) never,
+    sym (put_again who.domain ports hub is),
+  )
+
   -- where no send of a publisher waits, none is tried again
   pub tries_none : (may : BackpressureInfo → BackpressureDecision → Type 0) (elapsed : ℕ) (who : PortId) (hub : Hub T U B D)
       (found : Option (ServicePorts T U)) → hub_ports who.domain hub ≡ found → publisher_blocked who.number found ≡ false

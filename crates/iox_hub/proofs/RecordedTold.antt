@@ -29,6 +29,7 @@ use Rattle.iox_hub_base.specs.AsHome.{hub_ports, with_hub_ports}
 use Rattle.iox_hub_base.specs.declared.hub.Hub.{Hub}
 use Rattle.iox_hub_commands.specs.CommandSteps.{publisher_may_decide, publisher_may_degrade}
 use Rattle.iox_hub_commands.specs.DescribeBase.Attributes.{Required}
+use Rattle.iox_hub_commands.specs.DomainValues.declared.connection_failure.ConnectionFailure.{ConnectionFailure}
 use Rattle.iox_hub_commands.specs.DomainValues.declared.create_error.PublisherCreateError.{PublisherCreateError}
 use Rattle.iox_hub_commands.specs.DomainValues.declared.create_error.SubscriberCreateError.{SubscriberCreateError}
 use Rattle.iox_hub_commands.specs.DomainValues.declared.backpressure.BackpressureDecision.{BackpressureDecision}
@@ -40,7 +41,7 @@ use Rattle.iox_hub_commands.specs.DomainValues.declared.port_error.ReceiveError.
 use Rattle.iox_hub_commands.specs.DomainValues.declared.port_error.SendError.{SendError}
 use Rattle.iox_hub_commands.specs.NegotiateBase.declared.errors.publish_subscribe.PublishSubscribeOpenOrCreateError.{PublishSubscribeOpenOrCreateError}
 use Rattle.iox_hub_commands.specs.Numbering.{removed_if}
-use Rattle.iox_hub_commands.specs.Replies.{done_reply, given_up_reply}
+use Rattle.iox_hub_commands.specs.Replies.{done_reply, given_up_reply, has_reply, updated_reply}
 use Rattle.iox_hub_commands.specs.Reading.{values_under}
 use Rattle.iox_hub_commands.specs.declared.ports.made.Made.{Made}
 use Rattle.iox_hub_commands.specs.declared.ports.made.MadeSample.{MadeSample}
@@ -170,6 +171,22 @@ module _ {T : Type 0} (calls : Calls T) where
   sent_so asked (Some (Ok (sent.Delivered count))) = refl
   sent_so asked (Some (Ok (sent.Blocked blocked))) = refl
   sent_so asked (Some (Err why)) = refl
+
+  -- how a port is told that was to follow the others
+  pub updated_so : (asked : Command T) (answer : Option (Result (Unit {0}) ConnectionFailure))
+      → asked_too asked (updated_reply answer) calls
+      ≡ answered_as answer asked (λ done. reply.Done) refusal.Connection (λ done after. after) calls
+  updated_so asked None = refl
+  updated_so asked (Some (Ok done)) = refl
+  updated_so asked (Some (Err why)) = refl
+
+  -- how it is told whether messages wait
+  pub has_so : (asked : Command T) (answer : Option (Result Bool ConnectionFailure))
+      → asked_too asked (has_reply answer) calls
+      ≡ answered_as answer asked (λ has. reply.Has has) refusal.Connection (λ has after. after) calls
+  has_so asked None = refl
+  has_so asked (Some (Ok has)) = refl
+  has_so asked (Some (Err why)) = refl
 
   -- who leaves is told as gone, and its number is spent; else it is handed back
   pub left_so : {S : Type 0} (number : Number) (asked : Command T) (without : Made → Made) (left : Result (Unit {0}) S)

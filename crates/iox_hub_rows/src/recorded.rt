@@ -153,6 +153,59 @@ fn is_waiting(
     }
 }
 
+// Whether a publisher follows the subscribers.
+fn publisher_follows(
+    alloc: Global,
+    hub: &mut Recorded,
+    publisher: &Named<slice::Publisher<u64, ()>>,
+) -> bool
+    requires { option_map (λ made. made.port) (value_at hub.old.calls.made.publishers publisher.now.number.value)
+        ≡ Some publisher.now.it.port }
+    ensures publishers { hub.new.calls.made.publishers ≡ hub.old.calls.made.publishers }
+    ensures subscribers { hub.new.calls.made.subscribers ≡ hub.old.calls.made.subscribers }
+{
+    match hub.update_publisher(alloc, publisher) {
+        Some(Ok(())) => true,
+        Some(Err(_)) => false,
+        None => false,
+    }
+}
+
+// Whether a subscriber follows the publishers.
+fn subscriber_follows(
+    alloc: Global,
+    hub: &mut Recorded,
+    subscriber: &Named<slice::Subscriber<u64, ()>>,
+) -> bool
+    requires { value_at hub.old.calls.made.subscribers subscriber.now.number.value ≡ Some subscriber.now.it.port }
+    ensures publishers { hub.new.calls.made.publishers ≡ hub.old.calls.made.publishers }
+    ensures subscribers { hub.new.calls.made.subscribers ≡ hub.old.calls.made.subscribers }
+{
+    match hub.update_subscriber(alloc, subscriber) {
+        Some(Ok(())) => true,
+        Some(Err(_)) => false,
+        None => false,
+    }
+}
+
+// Whether it is told so whether messages wait for a subscriber.
+fn is_told(
+    alloc: Global,
+    hub: &mut Recorded,
+    subscriber: &Named<slice::Subscriber<u64, ()>>,
+    waits: bool,
+) -> bool
+    requires { value_at hub.old.calls.made.subscribers subscriber.now.number.value ≡ Some subscriber.now.it.port }
+    ensures publishers { hub.new.calls.made.publishers ≡ hub.old.calls.made.publishers }
+    ensures subscribers { hub.new.calls.made.subscribers ≡ hub.old.calls.made.subscribers }
+{
+    match hub.has_samples(alloc, subscriber) {
+        Some(Ok(has)) => has == waits,
+        Some(Err(_)) => false,
+        None => false,
+    }
+}
+
 // Whether messages go from a publisher to a subscriber in turn, these values and others, one of which finds no room.
 fn exchange(
     alloc: Global,
@@ -167,7 +220,19 @@ fn exchange(
     ensures publishers { hub.new.calls.made.publishers ≡ hub.old.calls.made.publishers }
     ensures subscribers { hub.new.calls.made.subscribers ≡ hub.old.calls.made.subscribers }
 {
+    if !publisher_follows(alloc, hub, publisher) {
+        return false;
+    }
+    if !subscriber_follows(alloc, hub, subscriber) {
+        return false;
+    }
+    if !is_told(alloc, hub, subscriber, false) {
+        return false;
+    }
     if !is_sent(alloc, hub, publisher, values, 1) {
+        return false;
+    }
+    if !is_told(alloc, hub, subscriber, true) {
         return false;
     }
     if !is_received(alloc, hub, subscriber, values) {

@@ -8,9 +8,9 @@ ghost use Rattle.iox_command.specs.declared.command.Command.TheVariants as comma
 ghost use Rattle.iox_hub_commands.specs.DescribeBase.Detail.{detail};
 ghost use Rattle.iox_hub_commands.specs.DescribeBase.declared.type_detail.TypeVariant.TheVariants.{FixedSize};
 ghost use Rattle.iox_delivery.specs.Holding.{publisher_blocked, subscriber_stands};
-ghost use Rattle.iox_delivery.specs.Publishing.{RetriesSend};
+ghost use Rattle.iox_delivery.specs.Publishing.{FollowsSubscribers, RetriesSend};
 ghost use Rattle.iox_delivery.specs.Slices.{SendsSlice};
-ghost use Rattle.iox_delivery.specs.Subscribing.{ReceivesSample};
+ghost use Rattle.iox_delivery.specs.Subscribing.{FollowsPublishers, ReceivesSample, TellsSamples};
 ghost use Rattle.iox_hub_base.specs.AsHome.{hub_ports, with_hub_ports};
 ghost use Rattle.iox_hub_base.specs.DescribeBase.Hash.{service_hash_of};
 ghost use Rattle.iox_hub_base.specs.DescribeSettings.Agreement.{agreement};
@@ -39,14 +39,15 @@ ghost use Rattle.iox_hub.specs.Recording.{is_known, newest_is_known, told_came, 
 use crate::recorded::history::History;
 use crate::recorded::named::{Named, Number};
 use iox_command::{PublishSubscribeOptions, PublisherOptions, SubscriberOptions};
-use iox_delivery::{BlockedSend, PortId, Sent, slices as slice};
+use iox_delivery::{BlockedSend, PortId, Sent, UpdateConnections, slices as slice};
 use iox_describe::pattern::PublishSubscribe;
 use iox_describe_base::{AttributeVerifier, ServiceName, ZeroCopySend};
 use iox_domain::DomainId;
 use iox_domain::ports::{PublisherConfig, SubscriberConfig};
 use iox_domain::settings::PublisherSettings;
 use iox_domain_values::{
-    PortOwner, PublisherCreateError, ReceiveError, SendError, SubscriberCreateError,
+    ConnectionFailure, PortOwner, PublisherCreateError, ReceiveError, SendError,
+    SubscriberCreateError,
 };
 use iox_hub_base::{Hub, HubBuilder, PortFactory};
 use iox_hub_commands::services::requests::{message_types, publish_subscribe};
@@ -100,6 +101,73 @@ pub(crate) fn retry_if<
         Ok(blocked.retry(hub, elapsed_ns))
     } else {
         Err(blocked)
+    }
+}
+
+// A publisher follows the list of subscribers, if it may lend.
+pub(crate) fn update_publisher_if<
+    T: Words + ZeroCopySend + Default,
+    U: Copy + ZeroCopySend + Default,
+    B: PublisherHandlers,
+    D: SubscriberHandler,
+>(
+    hub: &mut Hub<T, U, B, D>,
+    alloc: Global,
+    publisher: &slice::Publisher<T, U>,
+) -> Option<Result<(), ConnectionFailure>>
+    ensures { IsDoneIf (may_lend hub_ports publisher.now.port hub.old) (FollowsSubscribers hub_ports with_hub_ports
+        (publisher_may_degrade (λ handlers. B.degrades handlers)) publisher.now.port) hub.old result hub.new }
+{
+    if !publisher.holds(hub) {
+        return None;
+    }
+    if publisher.is_blocked(hub) {
+        return None;
+    }
+    Some(publisher.update_connections(alloc, hub))
+}
+
+// A subscriber follows the list of publishers, if it stands.
+pub(crate) fn update_subscriber_if<
+    T: Words + ZeroCopySend + Default,
+    U: Copy + ZeroCopySend + Default,
+    B: PublisherHandlers,
+    D: SubscriberHandler,
+>(
+    hub: &mut Hub<T, U, B, D>,
+    alloc: Global,
+    subscriber: &slice::Subscriber<T, U>,
+) -> Option<Result<(), ConnectionFailure>>
+    ensures { IsDoneIf (subscriber_stands subscriber.now.port.number (hub_ports subscriber.now.port.domain hub.old))
+        (FollowsPublishers hub_ports with_hub_ports (subscriber_may_degrade (λ handler. D.degrades handler)) subscriber.now.port)
+        hub.old result hub.new }
+{
+    if subscriber.holds(hub) {
+        Some(subscriber.update_connections(alloc, hub))
+    } else {
+        None
+    }
+}
+
+// It is told whether messages wait for a subscriber, if it stands.
+pub(crate) fn has_samples_if<
+    T: Words + ZeroCopySend + Default,
+    U: Copy + ZeroCopySend + Default,
+    B: PublisherHandlers,
+    D: SubscriberHandler,
+>(
+    hub: &mut Hub<T, U, B, D>,
+    alloc: Global,
+    subscriber: &slice::Subscriber<T, U>,
+) -> Option<Result<bool, ConnectionFailure>>
+    ensures { IsDoneIf (subscriber_stands subscriber.now.port.number (hub_ports subscriber.now.port.domain hub.old))
+        (TellsSamples hub_ports with_hub_ports (subscriber_may_degrade (λ handler. D.degrades handler)) subscriber.now.port)
+        hub.old result hub.new }
+{
+    if subscriber.holds(hub) {
+        Some(subscriber.has_samples(alloc, hub))
+    } else {
+        None
     }
 }
 

@@ -34,7 +34,9 @@ use iox_delivery::{BlockedSend, Sent, slices as slice};
 use iox_describe::pattern::PublishSubscribe;
 use iox_describe_base::{AttributeVerifier, ServiceName, ZeroCopySend};
 use iox_domain::calls::{create_publisher, create_subscriber};
-use iox_domain_values::{PublisherCreateError, ReceiveError, SendError, SubscriberCreateError};
+use iox_domain_values::{
+    ConnectionFailure, PublisherCreateError, ReceiveError, SendError, SubscriberCreateError,
+};
 use iox_hub_base::{Hub, HubConfig, NodeHandle, PortFactory};
 use iox_hub_commands::{
     FixedDegradation, FixedHandlers, NamedSlots, PublisherHandlers, SubscriberHandler,
@@ -369,6 +371,76 @@ impl<
         typed_sends_go_on_by_steps::<T, U, Slice, B, D>();
         let answer = blocked.drop_with(&mut self.hub);
         self.history = History::told(&self.history, &publisher.number, &answer, &());
+        answer
+    }
+
+    /// A publisher follows the list of subscribers: the command `Update`. None, and the command is skipped, where the publisher doesn't
+    /// stand, or a send of it waits.
+    ///
+    /// Refused as the machine refuses it.
+    /// Example: `let Some(Ok(())) = hub.update_publisher(alloc, &publisher) else { return None; };`
+    pub fn update_publisher(
+        &mut self,
+        alloc: Global,
+        publisher: &Named<slice::Publisher<T, U>>,
+    ) -> Option<Result<(), ConnectionFailure>>
+        requires { option_map (λ made. made.port) (value_at self.old.calls.made.publishers publisher.now.number.value)
+            ≡ Some publisher.now.it.port }
+        ensures { self.new.calls ≡ answered_as result (command.Update (port_number.Publisher publisher.now.number.value))
+            (λ done. reply.Done) refusal.Connection (λ done calls. calls) self.old.calls }
+    {
+        typed_calls_are_a_run::<T, U, B, D>();
+        typed_publishers_follow_by_steps::<T, U, Slice, B, D>();
+        let answer = calls::update_publisher_if(&mut self.hub, alloc, &publisher.it);
+        self.history = History::told(&self.history, &publisher.number, &answer, &());
+        answer
+    }
+
+    /// A subscriber follows the list of publishers: the command `Update`. None, and the command is skipped, where the subscriber doesn't
+    /// stand: never by `AreFollowed`.
+    ///
+    /// Refused as the machine refuses it.
+    /// Example: `let Some(Ok(())) = hub.update_subscriber(alloc, &subscriber) else { return None; };`
+    pub fn update_subscriber(
+        &mut self,
+        alloc: Global,
+        subscriber: &Named<slice::Subscriber<T, U>>,
+    ) -> Option<Result<(), ConnectionFailure>>
+        requires { value_at self.old.calls.made.subscribers subscriber.now.number.value ≡ Some subscriber.now.it.port }
+        ensures updated { self.new.calls ≡ answered_as result (command.Update (port_number.Subscriber subscriber.now.number.value))
+            (λ done. reply.Done) refusal.Connection (λ done calls. calls) self.old.calls }
+        ensures stands { AreFollowed B.fixed (λ handlers. B.degrades handlers) (λ handlers. B.decides handlers) D.fixed
+            (λ handler. D.degrades handler) self.old.calls → IsSome result }
+    {
+        typed_calls_are_a_run::<T, U, B, D>();
+        typed_subscribers_follow_by_steps::<T, U, Slice, B, D>();
+        what_is_held_may_be_used::<T, U, B, D>();
+        let answer = calls::update_subscriber_if(&mut self.hub, alloc, &subscriber.it);
+        self.history = History::told(&self.history, &subscriber.number, &answer, &());
+        answer
+    }
+
+    /// Whether messages wait for a subscriber, which follows the list of publishers first: the command `Has`. None, and the command is
+    /// skipped, where the subscriber doesn't stand: never by `AreFollowed`.
+    ///
+    /// Refused as the machine refuses it.
+    /// Example: `let Some(Ok(has)) = hub.has_samples(alloc, &subscriber) else { return None; };`
+    pub fn has_samples(
+        &mut self,
+        alloc: Global,
+        subscriber: &Named<slice::Subscriber<T, U>>,
+    ) -> Option<Result<bool, ConnectionFailure>>
+        requires { value_at self.old.calls.made.subscribers subscriber.now.number.value ≡ Some subscriber.now.it.port }
+        ensures told { self.new.calls ≡ answered_as result (command.Has subscriber.now.number.value) (λ has. reply.Has has)
+            refusal.Connection (λ has calls. calls) self.old.calls }
+        ensures stands { AreFollowed B.fixed (λ handlers. B.degrades handlers) (λ handlers. B.decides handlers) D.fixed
+            (λ handler. D.degrades handler) self.old.calls → IsSome result }
+    {
+        typed_calls_are_a_run::<T, U, B, D>();
+        typed_subscribers_follow_by_steps::<T, U, Slice, B, D>();
+        what_is_held_may_be_used::<T, U, B, D>();
+        let answer = calls::has_samples_if(&mut self.hub, alloc, &subscriber.it);
+        self.history = History::told(&self.history, &subscriber.number, &answer, &());
         answer
     }
 

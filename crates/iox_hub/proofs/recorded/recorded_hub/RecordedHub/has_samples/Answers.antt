@@ -1,0 +1,39 @@
+use Rattle.iox_command.specs.declared.command.Command.TheVariants as command
+use Rattle.iox_delivery.specs.Subscribing.{TellsSamples}
+use Rattle.iox_hub_base.specs.AsHome.{hub_ports, with_hub_ports}
+use Rattle.iox_hub_commands.specs.CommandSteps.{subscriber_may_degrade}
+use Rattle.iox_hub.proofs.RecordedFollowing.{samples_told, stands_so}
+use Rattle.iox_hub.proofs.RecordedTold.{has_so}
+use Rattle.iox_hub_commands.specs.DescribeBase.Detail.{detail}
+use Rattle.iox_hub_commands.specs.DescribeBase.declared.type_detail.TypeVariant.TheVariants.{FixedSize, Dynamic}
+use Rattle.iox_hub.proofs.recorded.recorded_hub.RecordedHub.has_samples.Goals as goal
+
+pub invariant_of-self : goal.invariant_of-self
+invariant_of-self g c = rw c.told-self-inside.ensures
+    (samples_told (detail FixedSize g.T.ZeroCopySend.name g.T.ZeroCopySend.size g.T.ZeroCopySend.alignment)
+    (detail FixedSize g.U.ZeroCopySend.name g.U.ZeroCopySend.size g.U.ZeroCopySend.alignment)
+    (λ value. g.T.Default.is_default value) (λ header. g.U.Default.is_default header) g.B.PublisherHandlers.fixed
+    (λ handlers. g.B.Degrades.degrades handlers) (λ handlers. g.B.Decides.decides handlers) g.D.SubscriberHandler.fixed
+    (λ handler. g.D.Degrades.degrades handler) (c.typed_calls_are_a_run.ensures.goes_on Dynamic)
+    (c.typed_subscribers_follow_by_steps.ensures.tells Dynamic) (c.what_is_held_may_be_used.ensures Dynamic)
+    c.self.inside.history.calls c.self.inside.hub c.has_samples_if-answer.new.hub c.args.subscriber.now.number.value
+    c.args.subscriber.now.it.port
+    c.has_samples_if-answer.result (rw (← c.self.view_is) at c.requires) c.has_samples_if-answer.ensures c.self.invariant)
+
+pub returns-clause-told : goal.returns-clause-told
+returns-clause-told g c = rw (← c.self.view_is, c.told-self-inside.ensures)
+    (has_so c.self.inside.history.calls (command.Has c.args.subscriber.now.number.value) c.has_samples_if-answer.result)
+
+pub returns-clause-stands : goal.returns-clause-stands
+returns-clause-stands g c = λ followed.
+    stands_so (detail FixedSize g.T.ZeroCopySend.name g.T.ZeroCopySend.size g.T.ZeroCopySend.alignment)
+    (detail FixedSize g.U.ZeroCopySend.name g.U.ZeroCopySend.size g.U.ZeroCopySend.alignment)
+    (λ value. g.T.Default.is_default value) (λ header. g.U.Default.is_default header) g.B.PublisherHandlers.fixed
+    (λ handlers. g.B.Degrades.degrades handlers) (λ handlers. g.B.Decides.decides handlers) g.D.SubscriberHandler.fixed
+    (λ handler. g.D.Degrades.degrades handler) (c.what_is_held_may_be_used.ensures Dynamic)
+    c.self.inside.history.calls c.self.inside.hub c.has_samples_if-answer.new.hub c.args.subscriber.now.number.value
+    c.args.subscriber.now.it.port
+    (TellsSamples hub_ports with_hub_ports (subscriber_may_degrade (λ handler. g.D.Degrades.degrades handler))
+    c.args.subscriber.now.it.port)
+    c.has_samples_if-answer.result (rw (← c.self.view_is) at c.requires) c.has_samples_if-answer.ensures c.self.invariant
+    (rw (← c.self.view_is) at followed)
