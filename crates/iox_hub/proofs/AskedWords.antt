@@ -1,5 +1,5 @@
 -- A service that is as it was asked for in the words of the code is so in those of the machine, and back.
-use Rattle.std.proofs.Common.{◌≡◌, ◌∙◌, ◌≤◌, ℕ, true, List, Some, Result, Ok, Err, refl, sym, ap, subst, arith}
+use Rattle.std.proofs.Common.{◌≡◌, ◌∙◌, ◌≤◌, ℕ, true, List, [], Some, Result, Ok, Err, refl, sym, ap, subst, arith}
 use Rattle.std.proofs.Common.{inl, inr}
 use Rattle.std.proofs.lemmas.Bool.{lt-ltb}
 use Rattle.std.specs.Prelude.{max}
@@ -12,21 +12,25 @@ use Rattle.iox_command.specs.NegotiateBase.DescribeSettings.declared.static_conf
 use Rattle.iox_command.specs.NegotiateBase.DescribeSettings.declared.static_config.Settings.TheVariants as settings
 use Rattle.iox_command.specs.NegotiateBase.DescribeSettings.declared.static_config.publish_subscribe.Setting.TheVariants.{MaxNodes}
 use Rattle.iox_command.specs.NegotiateBase.DescribeSettings.declared.static_config.publish_subscribe.StaticConfig.{StaticConfig}
-use Rattle.iox_hub_commands.specs.Asking.{hash_of}
-use Rattle.iox_hub_commands.specs.DescribeBase.Attributes.{Required}
+use Rattle.iox_hub_commands.specs.Asking.{agreed_of, hash_of, required_publish_subscribe}
+use Rattle.iox_hub_commands.specs.DescribeBase.Attributes.{Required, required}
 use Rattle.iox_hub_commands.specs.DescribeBase.declared.hash.ServiceHash.{ServiceHash}
 use Rattle.iox_hub_commands.specs.DescribeBase.declared.attribute.Attribute.{Attribute}
 use Rattle.iox_hub_commands.specs.DescribeBase.declared.message_type.MessageTypeDetails.{MessageTypeDetails}
 use Rattle.iox_hub_machine.proofs.Verdicts.{same_publish_subscribe_verdict, same_required_agreement}
 use Rattle.iox_machine.specs.Agreement.{are_within_limits, verdict}
 use Rattle.iox_machine.specs.Asked.{settings_of}
+use Rattle.iox_negotiate.specs.Laws.{IsMet}
 use Rattle.iox_negotiate_base.specs.declared.request.Opened.{Opened}
 use Rattle.iox_negotiate_machine.proofs.Limits.{and-true, limits-within}
-use Rattle.iox_negotiate_machine.proofs.Saying.{told_by}
+use Rattle.iox_negotiate_machine.proofs.Saying.{settings-are, told_by}
 use Rattle.iox_negotiate_machine.proofs.Told.{publish_subscribe_clause}
 use Rattle.iox_negotiate_table.specs.Describe.Within.{HasForm}
+use Rattle.iox_negotiate_table.specs.DescribeVerdict.PublishSubscribeClauses as publish_subscribe_clauses
+use Rattle.iox_negotiate_table.specs.DescribeVerdict.Verdict.{first_unmet}
 use Rattle.iox_hub.specs.RecordedCalls.{IsAsAsked}
 use Rattle.iox_hub.specs.RecordedLaws.{AsAskedIsMet, IsMetOrMade}
+use Rattle.iox_hub.specs.Recording.{IsMadeAsAsked, IsMetAsAsked}
 
 told_met : {C : Type 0} (told : C → Refusal) (met : Result (Unit {0}) C) → told_by told met ≡ Ok tt → met ≡ Ok tt
 told_met told (Ok done) is = refl
@@ -89,19 +93,36 @@ module _ (types : MessageTypeDetails) (name : List ℕ) (named : PublishSubscrib
   limits_so (settings.Event c) attributes met within = cc
   limits_so (settings.RequestResponse c) attributes met within = cc
 
-  pub as_asked : (service : Opened) → IsMetOrMade types name named required service → IsAsAsked types name named required service
-  as_asked service (inl (hash, met, within)) =
+  -- what meets what is asked
+  met_so : (service : Opened)
+      → IsMet (hash_of name (options.PublishSubscribe named))
+      (λ given. first_unmet (publish_subscribe_clauses.clauses (required_publish_subscribe named types required) given)) service
+      → (service.description.service_hash ≡ hash_of name (options.PublishSubscribe named))
+      × Judged service.description.settings service.description.attributes × (are_within_limits service.description.settings ≡ true)
+      × ((its : MessageTypeDetails) × (others : PublishSubscribeOptions)
+      × (service.description.settings ≡ settings_of its (options.PublishSubscribe others)))
+  met_so service (hash, met, within) =
       let judged : Judged service.description.settings service.description.attributes =
       sym (same_publish_subscribe_verdict types required name named
       (record { settings = service.description.settings; attributes = service.description.attributes }))
       ∙ ap (told_by publish_subscribe_clause) met in
       let (allowed, others) = limits_so service.description.settings service.description.attributes judged within.limits in
-      (hash, inl (judged, allowed, others))
+      (hash, judged, allowed, others)
+
+  pub as_asked : (service : Opened) → IsMetOrMade types name named required service → IsAsAsked types name named required service
+  as_asked service (inl met) = let (hash, judged, allowed, others) = met_so service met in (hash, inl (judged, allowed, others))
   as_asked service (inr made) =
       let same = made ∙ same_required_agreement types required name (options.PublishSubscribe named) in (
         ap (λ given. given.service_hash) same,
         inr (ap (λ given. given.name) same, ap (λ given. given.settings) same, ap (λ given. given.attributes) same),
       )
+
+  -- a service that was opened
+  pub met_as_asked : (service : Opened)
+      → IsMet (hash_of name (options.PublishSubscribe named))
+      (λ given. first_unmet (publish_subscribe_clauses.clauses (required_publish_subscribe named types required) given)) service
+      → IsMetAsAsked types name named required service
+  met_as_asked service met = let (hash, judged, allowed, others) = met_so service met in (hash, judged, allowed)
 
   as_met : (service : Opened) → HasForm service.description → IsAsAsked types name named required service
       → IsMetOrMade types name named required service
@@ -130,6 +151,17 @@ module _ (types : MessageTypeDetails) (name : List ℕ) (named : PublishSubscrib
           ≡ agreement name (hash_of name (options.PublishSubscribe named)) (settings_of types (options.PublishSubscribe named))
           required.pairs
       by its its_hash given attributes first second third fourth = cc
+
+-- a service that was created
+pub made_as_asked : (types : MessageTypeDetails) (name : List ℕ) (named : PublishSubscribeOptions) (attributes : List Attribute)
+    (service : Opened) → service.description ≡ agreed_of name (options.PublishSubscribe named) types attributes
+    → IsMadeAsAsked types name named attributes service
+made_as_asked types name named attributes service same = (
+  ap (λ given. given.service_hash) same,
+  ap (λ given. given.name) same,
+  ap (λ given. given.settings) same ∙ settings-are types (required [] []) (options.PublishSubscribe named),
+  ap (λ given. given.attributes) same,
+)
 
 pub as_asked_is_met : AsAskedIsMet
 as_asked_is_met types name named required service form asked = as_met types name named required service form asked

@@ -2,19 +2,18 @@
 use Rattle.std.proofs.Common.{◌≡◌, ℕ, ◌++◌, Bool, true, false, cond, List, [], ◌∷◌, Option, None, Some, Result, Ok, Err}
 use Rattle.std.specs.Prelude.{nat_eq}
 use Rattle.std.specs.Map.{lookup}
+use Rattle.iox_command.specs.declared.command.Command.{Command}
 use Rattle.iox_command.specs.declared.port.PublisherOptions.{PublisherOptions}
 use Rattle.iox_command.specs.declared.port.SubscriberOptions.{SubscriberOptions}
-use Rattle.iox_command.specs.declared.service.PublishSubscribeOptions.{PublishSubscribeOptions}
+use Rattle.iox_command.specs.declared.refusal.Refusal.{Refusal}
 use Rattle.iox_container.specs.NumberTable.{NumberTable, inserted}
 use Rattle.iox_delivery.specs.declared.kind.Slice.{Slice}
 use Rattle.iox_delivery.specs.declared.sample.Sample.{Sample}
 use Rattle.iox_domain.specs.declared.domain_id.DomainId.{DomainId}
 use Rattle.iox_hub_base.specs.declared.hub.Hub.{Hub}
-use Rattle.iox_hub_commands.specs.DescribeBase.Attributes.{Required}
 use Rattle.iox_hub_commands.specs.DomainValues.declared.create_error.PublisherCreateError.{PublisherCreateError}
 use Rattle.iox_hub_commands.specs.DomainValues.declared.create_error.SubscriberCreateError.{SubscriberCreateError}
 use Rattle.iox_hub_commands.specs.DomainValues.declared.port_error.ReceiveError.{ReceiveError}
-use Rattle.iox_hub_commands.specs.NegotiateBase.declared.errors.publish_subscribe.PublishSubscribeOpenOrCreateError.{PublishSubscribeOpenOrCreateError}
 use Rattle.iox_hub_commands.specs.declared.services.made.MadeFactory.{MadeFactory}
 use Rattle.iox_hub.proofs.Recording.{calls_publisher, calls_received, calls_subscriber}
 use Rattle.iox_hub.specs.Recorded.{Calls}
@@ -51,12 +50,11 @@ module _ {T : Type 0} (factory : ℕ) (domain : DomainId) (calls : Calls T) wher
   subscribers_keep named (Some (Err why)) number held is = is
 
 module _ {T : Type 0} (calls : Calls T) where
-  pub factories_keep : (node : ℕ) (name : List ℕ) (named : PublishSubscribeOptions) (required : Required)
-      (answer : Option (Result MadeFactory PublishSubscribeOpenOrCreateError))
-      → KeepNumbers calls.factories (calls_opened node name named required answer calls).factories
-  factories_keep node name named required None number held is = is
-  factories_keep node name named required (Some (Ok factory)) number held is = one_more_keeps calls.factories factory number held is
-  factories_keep node name named required (Some (Err why)) number held is = is
+  pub factories_keep : {E : Type 0} (asked : Command T) (refused : E → Refusal) (answer : Option (Result MadeFactory E))
+      → KeepNumbers calls.factories (calls_opened asked refused answer calls).factories
+  factories_keep asked refused None number held is = is
+  factories_keep asked refused (Some (Ok factory)) number held is = one_more_keeps calls.factories factory number held is
+  factories_keep asked refused (Some (Err why)) number held is = is
 
   pub samples_keep : {U B D : Type 0} (hub : Hub T U B D) (subscriber : ℕ)
       (answer : Option (Result (Option (Sample T U Slice)) ReceiveError))

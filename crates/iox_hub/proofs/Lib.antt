@@ -17,6 +17,7 @@ pub mod RecordedIds
 pub mod RecordedCame
 pub mod RecordedRuns
 pub mod RecordedFollowing
+pub mod RecordedServices
 pub mod RecordedReading
 pub mod RecordedSent
 pub mod RecordedTold

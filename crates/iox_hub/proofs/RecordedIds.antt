@@ -1,7 +1,10 @@
 -- No call of a hub changes what tells it apart.
 use Rattle.std.proofs.Common.{◌≡◌, ◌∙◌, ℕ, Bool, true, false, List, [], length, Option, None, Some, Result, Ok, Err, ap, inl, inr, refl}
+use Rattle.iox_command.specs.NegotiateBase.declared.errors.close.CloseError.{CloseError}
+use Rattle.iox_command.specs.declared.refusal.HubError.{HubError}
 use Rattle.iox_command.specs.declared.service.PublishSubscribeOptions.{PublishSubscribeOptions}
 use Rattle.iox_command.specs.declared.service.ServiceOptions.TheVariants as options
+use Rattle.iox_command.specs.declared.step.ForeignStep.{ForeignStep}
 use Rattle.iox_delivery.specs.Publishing.{RetriesSend, changed_at}
 use Rattle.iox_delivery.specs.Slices.{SendsSlice}
 use Rattle.iox_delivery.specs.Subscribing.{DropsAt, ReceivesSample}
@@ -14,14 +17,19 @@ use Rattle.iox_domain.specs.DomainPorts.declared.attached.Taken.{Taken}
 use Rattle.iox_domain.specs.Steps.{LoansBy, ReceivesBy, RetriesBy, SendsBy}
 use Rattle.iox_domain.specs.declared.domain_id.DomainId.{DomainId}
 use Rattle.iox_domain.specs.declared.ports.service_ports.ServicePorts.{ServicePorts}
-use Rattle.iox_hub_base.proofs.SameTable.{sights-keep, went-keeps}
+use Rattle.iox_hub_base.proofs.SameTable.{acts-keep, sights-keep, went-keeps}
 use Rattle.iox_hub_base.specs.AsHome.{hub_ports, with_hub_ports}
+use Rattle.iox_hub_base.specs.Closing.{ClosesIf}
+use Rattle.iox_hub_base.specs.DescribeBase.Hash.{service_hash_of}
 use Rattle.iox_hub_base.specs.Opening.{Enters, Made as Opened, Settles}
 use Rattle.iox_hub_base.specs.declared.hub.Hub.{Hub}
 use Rattle.iox_hub_commands.specs.CommandSteps.{publisher_may_decide, publisher_may_degrade, subscriber_may_degrade}
+use Rattle.iox_hub_commands.specs.Creating.{CreatesAs}
 use Rattle.iox_hub_commands.specs.DescribeBase.Attributes.{Required}
 use Rattle.iox_hub_commands.specs.DescribeBase.Detail.{Detail}
+use Rattle.iox_hub_commands.specs.DescribeBase.declared.attribute.Attribute.{Attribute}
 use Rattle.iox_hub_commands.specs.DescribeBase.declared.message_type.MessageTypeDetails.{MessageTypeDetails}
+use Rattle.iox_hub_commands.specs.DescribeBase.declared.pattern.MessagingPattern.{MessagingPattern}
 use Rattle.iox_hub_commands.specs.DomainValues.declared.backpressure.BackpressureDecision.{BackpressureDecision}
 use Rattle.iox_hub_commands.specs.DomainValues.declared.backpressure.BackpressureInfo.{BackpressureInfo}
 use Rattle.iox_hub_commands.specs.DomainValues.declared.degradation.DegradationAction.{DegradationAction}
@@ -30,6 +38,9 @@ use Rattle.iox_hub_commands.specs.DomainValues.declared.degradation.DegradationI
 use Rattle.iox_hub_commands.specs.DomainValues.declared.port_error.ReceiveError.{ReceiveError}
 use Rattle.iox_hub_commands.specs.DomainValues.declared.port_error.SendError.{SendError}
 use Rattle.iox_hub_commands.specs.Either.{EitherAs}
+use Rattle.iox_hub_commands.specs.Foreign.{ActsNamed}
+use Rattle.iox_hub_commands.specs.Opening.{OpensAs}
+use Rattle.iox_hub_commands.specs.Steps.{list_of}
 use Rattle.iox_command.specs.declared.refusal.Refusal.{Refusal}
 use Rattle.iox_hub_commands.specs.ServicesTables.{FactoryTable}
 use Rattle.iox_negotiate.specs.declared.factory.Membership.{Membership}
@@ -121,6 +132,31 @@ module _ {T U B D : Type 0} where
       enters_keeps payload user_header member entered old new enters
   settles_keeps payload user_header lacking (Err error) old new answer (is, same) = same_id same
 
+  -- a service that is created
+  pub creates_keeps : (payload user_header : Detail) (types : MessageTypeDetails) (node : ℕ) (name : List ℕ)
+      (named : PublishSubscribeOptions) (attributes : List Attribute) (table after : FactoryTable) (old new : Hub T U B D)
+      (answer : Result ℕ Refusal)
+      → CreatesAs (options.PublishSubscribe named) payload user_header types node name attributes [] table old answer after new
+      → new.table.id ≡ old.table.id
+  creates_keeps payload user_header types node name named attributes table after old new answer (opened, inr (can, is, same), numbers) =
+      same_id same
+  creates_keeps payload user_header types node name named attributes table after old new answer (opened, inl opens, numbers) =
+      settles_keeps payload user_header _ opens.answer (record old { table = opens.mid.table }) new opened opens.settled
+      ∙ went-keeps opens.negotiated.negotiated.done.made (record { table = old.table; lists = [] }) opens.mid
+      opens.negotiated.negotiated.done.went
+
+  -- a service that is opened
+  pub opens_keeps : (payload user_header : Detail) (types : MessageTypeDetails) (node : ℕ) (name : List ℕ)
+      (named : PublishSubscribeOptions) (required : Required) (table after : FactoryTable) (old new : Hub T U B D)
+      (answer : Result ℕ Refusal)
+      → OpensAs (options.PublishSubscribe named) payload user_header types node name required [] table old answer after new
+      → new.table.id ≡ old.table.id
+  opens_keeps payload user_header types node name named required table after old new answer (opened, inr (can, is, same), numbers) =
+      same_id same
+  opens_keeps payload user_header types node name named required table after old new answer (opened, inl opens, numbers) =
+      settles_keeps payload user_header _ opens.answer (record old { table = opens.mid.table }) new opened opens.settled
+      ∙ went-keeps opens.negotiated.done.made (record { table = old.table; lists = [] }) opens.mid opens.negotiated.done.went
+
   -- a service that is opened, or created
   pub either_keeps : (payload user_header : Detail) (types : MessageTypeDetails) (node : ℕ) (name : List ℕ)
       (named : PublishSubscribeOptions) (required : Required) (table after : FactoryTable) (old new : Hub T U B D)
@@ -133,3 +169,18 @@ module _ {T U B D : Type 0} where
       settles_keeps payload user_header _ opens.answer (record old { table = opens.mid.table }) new opened opens.settled
       ∙ went-keeps opens.negotiated.negotiated.done.made (record { table = old.table; lists = [] }) opens.mid
       opens.negotiated.negotiated.done.went
+
+  -- a factory that is closed, or is in use
+  pub closes_keeps : {F : Type 0} (used : Bool) (member : Membership) (factory : F) (old new : Hub T U B D)
+      (answer : Result (Unit {0}) (CloseError × Option F)) → ClosesIf used member factory old answer new → new.table.id ≡ old.table.id
+  closes_keeps true member factory old new answer (is, same) = same_id same
+  closes_keeps false member factory old new answer (closed, leaves, is, same) =
+      sights-keep leaves.made old.table new.table leaves.went
+
+  -- nodes outside the hub that act
+  pub foreign_keeps : (kind : MessagingPattern) (name : List ℕ) (types : MessageTypeDetails) (steps : List ForeignStep)
+      (old new : Hub T U B D) (answer : Result (Unit {0}) HubError) → ActsNamed kind name types steps old answer new
+      → new.table.id ≡ old.table.id
+  foreign_keeps kind name types steps old new answer (inl (((happened, acts, told), is), formed)) =
+      acts-keep (service_hash_of kind name) (list_of name types steps) old.table new.table happened acts
+  foreign_keeps kind name types steps old new answer (inr (some, is, same)) = same_id same

@@ -18,11 +18,9 @@ use Rattle.iox_command.specs.declared.refusal.HubError.{HubError}
 use Rattle.iox_command.specs.declared.refusal.Refusal.TheVariants as refusal
 use Rattle.iox_command.specs.declared.reply.Reply.{Reply}
 use Rattle.iox_command.specs.declared.reply.Reply.TheVariants as reply
-use Rattle.iox_command.specs.declared.service.PublishSubscribeOptions.{PublishSubscribeOptions}
-use Rattle.iox_command.specs.declared.service.ServiceOptions.TheVariants as options
 use Rattle.iox_container.proofs.Rising.{Rises-push, Rises-removed}
 use Rattle.iox_container.proofs.Telling.{put as found_next}
-use Rattle.iox_container.specs.NumberTable.{inserted, value_at}
+use Rattle.iox_container.specs.NumberTable.{value_at}
 use Rattle.iox_delivery.specs.Holding.{holds_message, message_found, publisher_blocked, publisher_stands, subscriber_stands}
 use Rattle.iox_delivery.specs.Slices.{SendsSlice}
 use Rattle.iox_delivery.specs.Subscribing.{DropsSample, EndsSubscriber, ReceivesSample}
@@ -52,7 +50,6 @@ use Rattle.iox_hub_base.specs.declared.hub.HubConfig.{HubConfig}
 use Rattle.iox_hub_base.specs.declared.node.NodeHandle.{NodeHandle}
 use Rattle.iox_hub_commands.proofs.Rooms.{new_rises}
 use Rattle.iox_hub_commands.specs.CommandSteps.{publisher_may_decide, publisher_may_degrade, subscriber_may_degrade}
-use Rattle.iox_hub_commands.specs.DescribeBase.Attributes.{Required}
 use Rattle.iox_hub_commands.specs.DescribeBase.Detail.{Detail}
 use Rattle.iox_hub_commands.specs.DescribeBase.declared.message_type.MessageTypeDetails.{MessageTypeDetails}
 use Rattle.iox_hub_commands.specs.DescribeBase.declared.type_detail.TypeVariant.TheVariants.{Dynamic}
@@ -69,7 +66,6 @@ use Rattle.iox_hub_commands.specs.DomainValues.declared.degradation.DegradationI
 use Rattle.iox_hub_commands.specs.DomainValues.declared.port_error.ReceiveError.{ReceiveError}
 use Rattle.iox_hub_commands.specs.DomainValues.declared.port_error.SendError.{SendError}
 use Rattle.iox_hub_commands.specs.Calls.{AtPort, Puts, Retries, may_lend}
-use Rattle.iox_hub_commands.specs.Either.{EitherNumbered}
 use Rattle.iox_hub_commands.specs.Services as services
 use Rattle.iox_hub_commands.specs.Making.{with_publisher, with_subscriber}
 use Rattle.iox_hub_commands.specs.Naming.{publisher_config, publisher_handlers, subscriber_config, subscriber_handler}
@@ -79,15 +75,12 @@ use Rattle.iox_hub_commands.specs.Numbers.{IsNew}
 use Rattle.iox_hub_commands.specs.Reading.{values_under}
 use Rattle.iox_hub_commands.specs.Replies.{done_reply, given_up_reply}
 use Rattle.iox_hub_commands.specs.Services.{domain_of_factory, owner_of_factory}
-use Rattle.iox_hub_commands.specs.NegotiateBase.declared.errors.publish_subscribe.PublishSubscribeOpenOrCreateError.{PublishSubscribeOpenOrCreateError}
 use Rattle.iox_hub_commands.specs.ServicesTables.{FactoryTable, publish_subscribe_in}
 use Rattle.iox_hub_commands.specs.Tables.{port_under, without_publisher, without_sample, without_subscriber}
 use Rattle.iox_hub_commands.specs.declared.numbered_hub.NumberedHub.{NumberedHub}
 use Rattle.iox_hub_commands.specs.declared.ports.made.Made.{Made}
 use Rattle.iox_hub_commands.specs.declared.ports.made.MadeSample.{MadeSample}
-use Rattle.iox_hub_commands.specs.declared.services.made.MadeFactory.{MadeFactory}
 use Rattle.iox_hub_machine.specs.RunLaws.{AsksAmong, all_asked, names_in, steps_named}
-use Rattle.iox_hub_machine.specs.TypedOpening.{OpenOrCreateIsStep}
 use Rattle.iox_hub_machine.specs.TypedPublishing.{GiveUpIsStep, PublisherLeaveIsStep, RetryIsStep, SendSliceIsStep}
 use Rattle.iox_hub_machine.proofs.TypedSteps.{Does, as_roomy, by_step}
 use Rattle.iox_hub_machine.specs.Ran.{StandsAfter}
@@ -106,9 +99,9 @@ use Rattle.iox_hub.proofs.RecordedSkips.{drops_held, never_so, none_ready, not_w
 use Rattle.iox_hub.specs.Recorded.{AreFollowed, Calls, asked_too}
 use Rattle.iox_hub.specs.RecordedNames.{received_by}
 use Rattle.iox_hub.specs.declared.recorded.named.Number.{Number}
-use Rattle.iox_hub.specs.Recording.{IsDoneIf, IsDoneOrBack, IsRecorded, IsRun, OpensIf, calls_opened, newest_is_known, numbered}
+use Rattle.iox_hub.specs.Recording.{IsDoneIf, IsDoneOrBack, IsRecorded, IsRun, newest_is_known, numbered}
 use Rattle.iox_hub.specs.Recording.{AllFit, SendsNoLoan, asked_with, no_calls, told_sent_if, values_there}
-use Rattle.iox_hub.proofs.RecordedIds.{at_keeps, drops_keeps, either_keeps, leaves_keeps, makes_keeps, receive_keeps, retry_keeps}
+use Rattle.iox_hub.proofs.RecordedIds.{at_keeps, drops_keeps, leaves_keeps, makes_keeps, receive_keeps, retry_keeps}
 use Rattle.iox_hub.proofs.RecordedIds.{slice_keeps}
 
 -- what is below is told to be
@@ -733,48 +726,3 @@ module _ {T U B D : Type 0} (payload user_header : Detail) (is_default : T → T
         plain_on goes_on old hub after (command.Subscriber factory named) (reply.Refused (refusal.Subscriber why)) tt
         (subscriber_keeps named (Some (Err why)) makes)
         (steps factory parts named (numbered old hub) after (Err why) there makes) was
-
-  pub opened_recorded : {fit : Bool} → CallsGoOn payload user_header types is_default is_default_header fixed degrades decides fixed_reader
-      reader_degrades
-      → OpenOrCreateIsStep payload user_header types is_default is_default_header fixed degrades decides fixed_reader reader_degrades
-      → (old : Calls T) (hub after : Hub T U B D) (node : ℕ) (name : List ℕ) (named : PublishSubscribeOptions)
-      (required : Required) (answer : Option (Result MadeFactory PublishSubscribeOpenOrCreateError))
-      → OpensIf payload user_header types node name named required old.factories hub answer after
-      → Recorded fit old hub → Recorded fit (calls_opened node name named required answer old) after
-  opened_recorded {fit} goes_on steps old hub after node name named required None (never, same) was =
-      subst (λ (it : Hub T U B D). Recorded fit (calls_opened node name named required None old) it) (sym same)
-      (skipped_on goes_on old hub hub (command.OpenOrCreate node name (options.PublishSubscribe named) required []) tt refl
-      (λ names most state it. (
-        None,
-        subst (λ (b : Bool). EitherNumbered b payload user_header types
-            (record { node = node; name = name; options = options.PublishSubscribe named }) required [] old.factories hub None old.factories
-            hub) (sym never) (refl, refl, refl),
-        refl,
-        refl,
-      )) was)
-  opened_recorded goes_on steps old hub after node name named required (Some (Ok factory)) (there, either) was =
-      let (factories, publishers, subscribers, loans, samples) = was.rise in record {
-        rise = (
-          Rises-push 1 old.factories.next old.factories.entries factory factories,
-          publishers,
-          subscribers,
-          loans,
-          samples,
-        );
-        id = either_keeps payload user_header types node name named required old.factories (inserted old.factories factory) hub after
-            (Ok old.factories.next) either ∙ was.id;
-        all_fit = was.all_fit;
-        told = told_too (command.OpenOrCreate node name (options.PublishSubscribe named) required [])
-            (reply.FactoryMade old.factories.next) was.told tt;
-        run = run_on goes_on old hub after (command.OpenOrCreate node name (options.PublishSubscribe named) required [])
-            (reply.FactoryMade old.factories.next) old.made (inserted old.factories factory)
-            (steps node name (options.PublishSubscribe named) required [] (numbered old hub) after (Ok old.factories.next)
-            (inserted old.factories factory) there tt either) was.run;
-      }
-  opened_recorded goes_on steps old hub after node name named required (Some (Err why)) (there, either) was =
-      plain_on goes_on old hub after (command.OpenOrCreate node name (options.PublishSubscribe named) required [])
-      (reply.Refused (refusal.PublishSubscribeOpenOrCreate why)) tt
-      (either_keeps payload user_header types node name named required old.factories old.factories hub after
-      (Err (refusal.PublishSubscribeOpenOrCreate why)) either)
-      (steps node name (options.PublishSubscribe named) required [] (numbered old hub) after
-      (Err (refusal.PublishSubscribeOpenOrCreate why)) old.factories there tt either) was

@@ -1,6 +1,6 @@
 -- What calls of a recorded hub are told as, in the words of their contracts.
 use Rattle.std.proofs.Common.{◌≡◌, ◌∙◌, ℕ, ◌+◌, ◌-◌, ◌^◌, ◌<◌, Bool, true, false, List, [], ◌∷◌, ◌++◌, length, Option, None, Some}
-use Rattle.std.proofs.Common.{IfErr, IfOk, IfSome, MatchResult, Result, Ok, Err}
+use Rattle.std.proofs.Common.{IfErr, IfOk, IfSome, MatchOption, MatchResult, Result, Ok, Err}
 use Rattle.std.proofs.Common.{refl, sym, ap, subst, is_ok, arith}
 use Rattle.std.specs.Vec.{vec_items}
 use Rattle.std.specs.Option.{option_map_or, unwrap_or}
@@ -8,12 +8,13 @@ use Rattle.iox_command.specs.declared.command.Command.{Command}
 use Rattle.iox_command.specs.declared.command.Command.TheVariants as command
 use Rattle.iox_command.specs.declared.port.PublisherOptions.{PublisherOptions}
 use Rattle.iox_command.specs.declared.port.SubscriberOptions.{SubscriberOptions}
+use Rattle.iox_command.specs.NegotiateBase.declared.errors.close.CloseError.{CloseError}
+use Rattle.iox_command.specs.declared.refusal.HubError.{HubError}
+use Rattle.iox_command.specs.declared.refusal.Refusal.{Refusal}
 use Rattle.iox_command.specs.declared.refusal.Refusal.TheVariants as refusal
 use Rattle.iox_command.specs.declared.reply.Reply.TheVariants as reply
-use Rattle.iox_command.specs.declared.service.PublishSubscribeOptions.{PublishSubscribeOptions}
-use Rattle.iox_command.specs.declared.service.ServiceOptions.TheVariants as options
 use Rattle.iox_container.proofs.Telling.{put as found_next}
-use Rattle.iox_container.specs.NumberTable.{Rises, inserted, value_at}
+use Rattle.iox_container.specs.NumberTable.{Rises, inserted, removed, value_at}
 use Rattle.iox_delivery.specs.Holding.{left_or_given_back}
 use Rattle.iox_delivery.specs.Publishing.{RetriesSend, sent_of}
 use Rattle.iox_delivery.specs.Slices.{SendsSlice}
@@ -26,9 +27,10 @@ use Rattle.iox_domain.specs.DomainPorts.declared.meeting.Sent.{Sent as Sending}
 use Rattle.iox_domain.specs.DomainPorts.declared.meeting.Sent.TheVariants as sending
 use Rattle.iox_domain.specs.declared.domain_id.DomainId.{DomainId}
 use Rattle.iox_hub_base.specs.AsHome.{hub_ports, with_hub_ports}
+use Rattle.iox_hub_base.specs.Closing.{ClosesIf, spent}
 use Rattle.iox_hub_base.specs.declared.hub.Hub.{Hub}
+use Rattle.iox_negotiate.specs.declared.factory.Membership.{Membership}
 use Rattle.iox_hub_commands.specs.CommandSteps.{publisher_may_decide, publisher_may_degrade}
-use Rattle.iox_hub_commands.specs.DescribeBase.Attributes.{Required}
 use Rattle.iox_hub_commands.specs.DomainValues.declared.connection_failure.ConnectionFailure.{ConnectionFailure}
 use Rattle.iox_hub_commands.specs.DomainValues.declared.create_error.PublisherCreateError.{PublisherCreateError}
 use Rattle.iox_hub_commands.specs.DomainValues.declared.create_error.SubscriberCreateError.{SubscriberCreateError}
@@ -39,9 +41,8 @@ use Rattle.iox_hub_commands.specs.DomainValues.declared.degradation.DegradationC
 use Rattle.iox_hub_commands.specs.DomainValues.declared.degradation.DegradationInfo.{DegradationInfo}
 use Rattle.iox_hub_commands.specs.DomainValues.declared.port_error.ReceiveError.{ReceiveError}
 use Rattle.iox_hub_commands.specs.DomainValues.declared.port_error.SendError.{SendError}
-use Rattle.iox_hub_commands.specs.NegotiateBase.declared.errors.publish_subscribe.PublishSubscribeOpenOrCreateError.{PublishSubscribeOpenOrCreateError}
 use Rattle.iox_hub_commands.specs.Numbering.{removed_if}
-use Rattle.iox_hub_commands.specs.Replies.{done_reply, given_up_reply, has_reply, updated_reply}
+use Rattle.iox_hub_commands.specs.Replies.{done_reply, foreign_reply, given_up_reply, has_reply, updated_reply}
 use Rattle.iox_hub_commands.specs.Reading.{values_under}
 use Rattle.iox_hub_commands.specs.declared.ports.made.Made.{Made}
 use Rattle.iox_hub_commands.specs.declared.ports.made.MadeSample.{MadeSample}
@@ -50,8 +51,10 @@ use Rattle.iox_hub.proofs.Recording.{calls_publisher, calls_received, calls_subs
 use Rattle.iox_hub.proofs.RecordedRuns.{vector_is}
 use Rattle.iox_hub.specs.Recorded.{Calls, asked_too}
 use Rattle.iox_hub.specs.RecordedCalls.{IsReceived, answered_as, told_send}
-use Rattle.iox_hub.specs.RecordedNames.{as_made, back_by, named_by, port_made, received_by}
-use Rattle.iox_hub.specs.Recording.{IsDoneIf, IsDoneOrBack, asked_with, calls_opened, newest_there, told_sent_if, values_there}
+use Rattle.iox_hub.specs.RecordedNames.{as_made, back_by, closed_by, named_by, port_made, received_by}
+use Rattle.iox_hub.specs.Recording.{IsDoneIf, IsDoneOrBack, asked_with, calls_closed, calls_opened, newest_there, told_sent_if}
+use Rattle.iox_hub.specs.Recording.{values_there}
+use Rattle.iox_hub.specs.declared.recorded.named.Named.{Named}
 use Rattle.iox_hub.specs.declared.recorded.named.Number.{Number}
 
 -- A send that waits is one of this port.
@@ -164,6 +167,28 @@ module _ {T U B D : Type 0} (hub : Hub T U B D) (subscriber : ℕ) (calls : Call
   sample_goes_by (Some (Ok None)) number is rises = tt
   sample_goes_by (Some (Err why)) number is rises = tt
 
+-- what is here is of the hub that was made so
+pub here_so : {S E : Type 0} (number : Number) (hub_of : S → ℕ) (id other : ℕ) → id ≡ other → (answer : Option (Result S E))
+    → IfSome answer (λ it. IfOk it (λ made. hub_of made ≡ id))
+    → IfSome (named_by number answer) (λ it. IfOk it (λ made. hub_of made.it ≡ other))
+here_so number hub_of id other same None here = tt
+here_so number hub_of id other same (Some (Ok made)) here = here ∙ same
+here_so number hub_of id other same (Some (Err why)) here = tt
+
+-- what a factory that isn't closed is handed back as
+abbrev pub IsBack : {F : Type 0} → F → Result (Unit {0}) (CloseError × Option F) → Type 0
+IsBack factory answer =
+    MatchResult answer (λ done. Unit {0}) (λ refused. MatchOption refused.1 (Unit {0}) (λ back. back ≡ factory))
+
+pub closes_back : {T U B D F : Type 0} (used : Bool) (member : Membership) (factory : F) (old new : Hub T U B D)
+    (answer : Result (Unit {0}) (CloseError × Option F)) → ClosesIf used member factory old answer new → IsBack factory answer
+closes_back true member factory old new answer (is, same) = subst (IsBack factory) (sym is) refl
+closes_back false member factory old new answer (closed, leaves, is, same) = subst (IsBack factory) (sym is) (by closed)
+  where
+    by : (closed : Result (Unit {0}) CloseError) → IsBack factory (spent closed)
+    by (Ok done) = tt
+    by (Err why) = tt
+
 module _ {T : Type 0} (calls : Calls T) where
   pub sent_so : {U : Type 0} (asked : Command T) (answer : Option (Result (Sent T U) SendError))
       → asked_too asked (told_sent_if answer) calls ≡ asked_too asked (told_send answer) calls
@@ -198,30 +223,52 @@ module _ {T : Type 0} (calls : Calls T) where
   left_so number asked without (Ok done) = refl
   left_so number asked without (Err it) = refl
 
-  pub opened_so : {F : Type 0} (made : F → MadeFactory) (node : ℕ) (name : List ℕ) (named : PublishSubscribeOptions)
-      (required : Required) (answer : Option (Result F PublishSubscribeOpenOrCreateError)) (number : Number)
-      → calls_opened node name named required (as_made made answer) calls
-      ≡ answered_as (named_by number answer) (command.OpenOrCreate node name (options.PublishSubscribe named) required [])
-      (λ factory. reply.FactoryMade calls.factories.next) refusal.PublishSubscribeOpenOrCreate
+  pub opened_so : {F E : Type 0} (asked : Command T) (refused : E → Refusal) (made : F → MadeFactory) (answer : Option (Result F E))
+      (number : Number)
+      → calls_opened asked refused (as_made made answer) calls
+      ≡ answered_as (named_by number answer) asked (λ factory. reply.FactoryMade calls.factories.next) refused
       (λ factory after. record after { factories = inserted after.factories (made factory.it) }) calls
-  opened_so made node name named required None number = refl
-  opened_so made node name named required (Some (Ok factory)) number = refl
-  opened_so made node name named required (Some (Err why)) number = refl
+  opened_so asked refused made None number = refl
+  opened_so asked refused made (Some (Ok factory)) number = refl
+  opened_so asked refused made (Some (Err why)) number = refl
 
   -- a factory that came goes by its number
-  pub factory_goes_by : {F : Type 0} (made : F → MadeFactory) (node : ℕ) (name : List ℕ) (named : PublishSubscribeOptions)
-      (required : Required) (answer : Option (Result F PublishSubscribeOpenOrCreateError)) (number : Number)
+  pub factory_goes_by : {F E : Type 0} (asked : Command T) (refused : E → Refusal) (made : F → MadeFactory)
+      (answer : Option (Result F E)) (number : Number)
       → number.value ≡ calls.factories.next → Rises 1 calls.factories.entries calls.factories.next
       → IfSome (named_by number answer) (λ it. IfOk it (λ factory. (factory.number.value ≡ calls.factories.next)
-      × (value_at (calls_opened node name named required (as_made made answer) calls).factories factory.number.value
-      ≡ Some (made factory.it))))
-  factory_goes_by made node name named required None number is rises = tt
-  factory_goes_by made node name named required (Some (Ok factory)) number is rises = (
+      × (value_at (calls_opened asked refused (as_made made answer) calls).factories factory.number.value ≡ Some (made factory.it))))
+  factory_goes_by asked refused made None number is rises = tt
+  factory_goes_by asked refused made (Some (Ok factory)) number is rises = (
     is,
-    ap (value_at (calls_opened node name named required (Some (Ok (made factory))) calls).factories) is
+    ap (value_at (calls_opened asked refused (Some (Ok (made factory))) calls).factories) is
         ∙ found_next calls.factories (made factory) rises,
   )
-  factory_goes_by made node name named required (Some (Err why)) number is rises = tt
+  factory_goes_by asked refused made (Some (Err why)) number is rises = tt
+
+  -- how nodes outside the hub are told that were to act
+  pub foreign_so : (asked : Command T) (answer : Result (Unit {0}) HubError)
+      → asked_too asked (foreign_reply answer) calls
+      ≡ answered_as (Some answer) asked (λ done. reply.Done) refusal.Hub (λ done after. after) calls
+  foreign_so asked (Ok done) = refl
+  foreign_so asked (Err why) = refl
+
+  -- a factory that was to be closed is spent, or handed back
+  pub closed_so : {F : Type 0} (factory : Named F) (answer : Result (Unit {0}) (CloseError × Option F))
+      → IsBack factory.it answer → MatchResult (closed_by factory.number answer)
+      (λ done. calls_closed factory.number.value answer calls ≡ record (asked_too (command.Close factory.number.value) reply.Done calls) {
+        factories = removed calls.factories factory.number.value;
+      })
+      (λ refused. MatchOption refused.1
+      (calls_closed factory.number.value answer calls
+      ≡ record (asked_too (command.Close factory.number.value) (reply.Refused (refusal.Close refused.0)) calls) {
+        factories = removed calls.factories factory.number.value;
+      })
+      (λ back. (back ≡ factory) × (calls_closed factory.number.value answer calls
+      ≡ asked_too (command.Close factory.number.value) (reply.Refused (refusal.Close refused.0)) calls)))
+  closed_so factory (Ok done) back = refl
+  closed_so factory (Err (why, None)) back = refl
+  closed_so factory (Err (why, Some it)) back = (ap (λ it. record { it = it; number = factory.number }) back, refl)
 
   module _ (U K : Type 0) {S : Type 0} (factory : ℕ) (domain : DomainId) (number : Number) (side : S) where
     pub publisher_so : (named : PublisherOptions) (answer : Option (Result ℕ PublisherCreateError))

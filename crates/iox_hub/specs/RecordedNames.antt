@@ -36,6 +36,12 @@ abbrev pub back_by : {S : Type 0} → Number → Result (Unit {0}) S → Result 
 back_by number (Ok done) = Ok done
 back_by number (Err it) = Err (record { it = it; number = number })
 
+-- a factory that was handed back, with its number
+abbrev pub closed_by : {F E : Type 0} → Number → Result (Unit {0}) (E × Option F) → Result (Unit {0}) (E × Option (Named F))
+closed_by number (Ok done) = Ok done
+closed_by number (Err (why, None)) = Err (why, None)
+closed_by number (Err (why, Some it)) = Err (why, Some (record { it = it; number = number }))
+
 -- A publisher's strategy, and how many values a loan may have at first: as the options name them, else the defaults.
 abbrev pub publisher_side : PublisherOptions → PublisherSide
 publisher_side options = record {

@@ -12,13 +12,14 @@ use Rattle.iox_delivery.specs.declared.sent.Sent.{Sent}
 use Rattle.iox_hub_base.specs.Hubs.{is_node}
 use Rattle.iox_hub_commands.specs.DomainValues.declared.port_error.ReceiveError.{ReceiveError}
 use Rattle.iox_hub_commands.specs.DomainValues.declared.port_error.SendError.{SendError}
-use Rattle.iox_command.specs.NegotiateBase.PublishSubscribeErrors as publish_subscribe
-use Rattle.iox_hub_base.specs.Opening.{Made as Opened}
-use Rattle.iox_hub_commands.specs.Asking.{hash_of, required_agreement, required_publish_subscribe}
-use Rattle.iox_hub_commands.specs.Either.{EitherAs, EitherJudged}
-use Rattle.iox_negotiate_table.specs.DescribeVerdict.PublishSubscribeClauses as publish_subscribe_clauses
-use Rattle.iox_negotiate_table.specs.DescribeVerdict.Verdict.{first_unmet}
+use Rattle.iox_hub_machine.specs.TypedServices.{factories_then, told_closed}
 use Rattle.iox_hub_machine.specs.TypedSteps.{payload_there, told_sent}
+use Rattle.iox_machine.specs.Agreement.{are_within_limits, verdict}
+use Rattle.iox_machine.specs.Asked.{settings_of}
+use Rattle.iox_negotiate_base.specs.declared.request.Opened.{Opened as Joined}
+use Rattle.iox_command.specs.NegotiateBase.declared.errors.close.CloseError.{CloseError}
+use Rattle.iox_hub_commands.specs.Asking.{hash_of}
+use Rattle.iox_hub_commands.specs.DescribeBase.declared.attribute.Attribute.{Attribute}
 use Rattle.iox_hub_commands.specs.DescribeBase.Detail.{Detail}
 use Rattle.iox_hub_commands.specs.DescribeBase.declared.message_type.MessageTypeDetails.{MessageTypeDetails}
 use Rattle.iox_hub_commands.specs.DomainValues.declared.backpressure.BackpressureAction.{BackpressureAction}
@@ -47,7 +48,6 @@ use Rattle.iox_command.specs.declared.service.ServiceOptions.TheVariants as opti
 use Rattle.iox_container.specs.NumberTable.{NumberTable, inserted, value_at}
 use Rattle.iox_hub_commands.specs.Reading.{values_under}
 use Rattle.iox_hub_commands.specs.DescribeBase.Attributes.{Required}
-use Rattle.iox_hub_commands.specs.NegotiateBase.declared.errors.publish_subscribe.PublishSubscribeOpenOrCreateError.{PublishSubscribeOpenOrCreateError}
 use Rattle.iox_hub_commands.specs.ServicesTables.{FactoryTable, no_factories}
 use Rattle.iox_hub_commands.specs.Tables.{no_numbers}
 use Rattle.iox_hub_commands.specs.declared.ports.made.Made.{Made}
@@ -141,44 +141,49 @@ newest_is_known (Some (Ok None)) hub = true
 newest_is_known (Some (Err why)) hub = true
 
 -- The answer to a node that asked for a service: the number of its factory, or why there is none.
-abbrev pub told_opened : ℕ → Result MadeFactory PublishSubscribeOpenOrCreateError → Result ℕ Refusal
-told_opened next (Ok factory) = Ok next
-told_opened next (Err why) = Err (refusal.PublishSubscribeOpenOrCreate why)
+abbrev pub told_opened : {E : Type 0} → (E → Refusal) → ℕ → Result MadeFactory E → Result ℕ Refusal
+told_opened refused next (Ok factory) = Ok next
+told_opened refused next (Err why) = Err (refused why)
 
 -- the factories then: one that was made goes by the next number
-abbrev pub factories_opened : FactoryTable → Result MadeFactory PublishSubscribeOpenOrCreateError → FactoryTable
+abbrev pub factories_opened : {E : Type 0} → FactoryTable → Result MadeFactory E → FactoryTable
 factories_opened table (Ok factory) = inserted table factory
 factories_opened table (Err why) = table
 
--- A node opens a service for publishing and subscribing, or creates it, by these options. The two details are those of values and user
--- headers, the types those of the messages.
-abbrev pub OpensOrCreates : {T U B D : Type 0} → Detail → Detail → MessageTypeDetails → ℕ → List ℕ → PublishSubscribeOptions → Required
-    → Hub T U B D → Result Opened PublishSubscribeOpenOrCreateError → Hub T U B D → Type 0
-OpensOrCreates payload user_header types node name named required old opened new =
-    EitherJudged payload user_header publish_subscribe.open_or_create_error (hash_of name (options.PublishSubscribe named)) node
-    (λ given. first_unmet (publish_subscribe_clauses.clauses (required_publish_subscribe named types required) given))
-    (required_agreement name (options.PublishSubscribe named) types required) [] old opened new
+-- A node asks for a service in this way, if that node was made. Why there is none is told by this refusal; the factories are those that go
+-- by numbers before.
+abbrev pub OpensIf : {T U B D E : Type 0} → (E → Refusal) → ℕ
+    → (FactoryTable → Hub T U B D → Result ℕ Refusal → FactoryTable → Hub T U B D → Type 0) → FactoryTable → Hub T U B D
+    → Option (Result MadeFactory E) → Hub T U B D → Type 0
+OpensIf refused node asks table old None new = (is_node node old.nodes ≡ false) × (new ≡ old)
+OpensIf refused node asks table old (Some answer) new = (is_node node old.nodes ≡ true)
+    × asks table old (told_opened refused table.next answer) (factories_opened table answer) new
 
--- A node opens a service for publishing and subscribing, or creates it, by these options, if that node was made. The two details are those
--- of values and user headers, the types those of the messages; the factories are those that go by numbers before.
-abbrev pub OpensIf : {T U B D : Type 0} → Detail → Detail → MessageTypeDetails → ℕ → List ℕ → PublishSubscribeOptions → Required
-    → FactoryTable → Hub T U B D → Option (Result MadeFactory PublishSubscribeOpenOrCreateError) → Hub T U B D → Type 0
-OpensIf payload user_header types node name named required table old None new = (is_node node old.nodes ≡ false) × (new ≡ old)
-OpensIf payload user_header types node name named required table old (Some answer) new = (is_node node old.nodes ≡ true)
-    × EitherAs (options.PublishSubscribe named) payload user_header types node name required [] table old (told_opened table.next answer)
-    (factories_opened table answer) new
+-- the calls, with the command of a node that asked for a service
+abbrev pub calls_opened : {T E : Type 0} → Command T → (E → Refusal) → Option (Result MadeFactory E) → Calls T → Calls T
+calls_opened asked refused None calls = asked_too asked reply.Skipped calls
+calls_opened asked refused (Some (Ok factory)) calls =
+    record (asked_too asked (reply.FactoryMade calls.factories.next) calls) { factories = inserted calls.factories factory }
+calls_opened asked refused (Some (Err why)) calls = asked_too asked (reply.Refused (refused why)) calls
 
--- the calls, with that one
-abbrev pub calls_opened : {T : Type 0} → ℕ → List ℕ → PublishSubscribeOptions → Required
-    → Option (Result MadeFactory PublishSubscribeOpenOrCreateError) → Calls T → Calls T
-calls_opened node name named required None calls =
-    asked_too (command.OpenOrCreate node name (options.PublishSubscribe named) required []) reply.Skipped calls
-calls_opened node name named required (Some (Ok factory)) calls =
-    record (asked_too (command.OpenOrCreate node name (options.PublishSubscribe named) required [])
-    (reply.FactoryMade calls.factories.next) calls) { factories = inserted calls.factories factory }
-calls_opened node name named required (Some (Err why)) calls =
-    asked_too (command.OpenOrCreate node name (options.PublishSubscribe named) required [])
-    (reply.Refused (refusal.PublishSubscribeOpenOrCreate why)) calls
+-- the calls, with the command that closes a factory
+abbrev pub calls_closed : {T F : Type 0} → ℕ → Result (Unit {0}) (CloseError × Option F) → Calls T → Calls T
+calls_closed number answer calls =
+    record (asked_too (command.Close number) (told_closed answer) calls) { factories = factories_then answer number calls.factories }
+
+-- A service has just what a node created it with: these settings and attributes, under the hash of this name.
+abbrev pub IsMadeAsAsked : MessageTypeDetails → List ℕ → PublishSubscribeOptions → List Attribute → Joined → Type 0
+IsMadeAsAsked types name named attributes service =
+    (service.description.service_hash ≡ hash_of name (options.PublishSubscribe named)) × (service.description.name ≡ name)
+    × (service.description.settings ≡ settings_of types (options.PublishSubscribe named)) × (service.description.attributes ≡ attributes)
+
+-- A service under the hash of this name meets these options and attributes, within the limits of settings.
+abbrev pub IsMetAsAsked : MessageTypeDetails → List ℕ → PublishSubscribeOptions → Required → Joined → Type 0
+IsMetAsAsked types name named required service =
+    (service.description.service_hash ≡ hash_of name (options.PublishSubscribe named))
+    × (verdict types (options.PublishSubscribe named) required
+    (record { settings = service.description.settings; attributes = service.description.attributes }) ≡ Ok tt)
+    × (are_within_limits service.description.settings ≡ true)
 
 module _ {T U B D : Type 0} where
   -- a hub with what its program holds by numbers

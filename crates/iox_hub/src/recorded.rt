@@ -20,6 +20,7 @@ mod history;
 pub mod laws;
 pub mod named;
 pub mod recorded_hub;
+mod services;
 
 pub use named::Named;
 pub use recorded_hub::RecordedHub;

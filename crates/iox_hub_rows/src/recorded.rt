@@ -1,4 +1,4 @@
-//! A recorded hub, called as a program calls it: its answers, and that what it received is known to fit.
+//! A recorded hub, called as a program calls it: its answers, why services are refused, and that what it received is known to fit.
 ghost use Rattle.std.specs.Prelude.{◌≡◌, ◌++◌, ◌∷◌, [], Some, IfSome, codes};
 ghost use Rattle.std.specs.Option.{option_map};
 ghost use Rattle.iox_command.specs.declared.command.Command.TheVariants as command;
@@ -9,7 +9,7 @@ ghost use Rattle.iox_hub.specs.Machine.Choices.{as_named};
 ghost use Rattle.iox_hub.specs.Recorded.{AreFollowed};
 ghost use Rattle.iox_hub.specs.RecordedLaws.{WasPut};
 
-use iox_command::{PublishSubscribeOptions, PublisherOptions, SubscriberOptions};
+use iox_command::{ForeignStep, PublishSubscribeOptions, PublisherOptions, SubscriberOptions};
 use iox_hub::prelude::*;
 use iox_hub::recorded::{Named, RecordedHub};
 use iox_hub_commands::{PublisherHandlers, SubscriberHandler};
@@ -264,6 +264,8 @@ fn publisher_leaves(hub: &mut Recorded, publisher: Named<slice::Publisher<u64, (
 // Whether a subscriber leaves.
 fn subscriber_leaves(hub: &mut Recorded, subscriber: Named<slice::Subscriber<u64, ()>>) -> bool
     requires { value_at hub.old.calls.made.subscribers subscriber.number.value ≡ Some subscriber.it.port }
+    ensures factories { hub.new.calls.factories ≡ hub.old.calls.factories }
+    ensures config { hub.new.calls.config ≡ hub.old.calls.config }
 {
     match hub.end_subscriber(subscriber) {
         Ok(()) => true,
@@ -327,4 +329,99 @@ fn calls_are_made(rt: HostRuntime) {
         let values = SEVENS.get(..*len).unwrap_or(&[]);
         assert!(&rt; values.len() == *len && goes(rt.alloc(), values), "{len}");
     }
+}
+
+// Whether a node is refused that creates a service where another is about to, and one that opens a service where none stands.
+fn is_refused(alloc: Global, hub: &mut Recorded) -> bool {
+    let Ok(node) = hub.new_node() else {
+        return false;
+    };
+    let Ok(name) = ServiceName::new(b"odometry") else {
+        return false;
+    };
+    let Ok(()) = hub.foreign(
+        alloc,
+        MessagingPattern::PublishSubscribe,
+        name,
+        &[ForeignStep::Lock(1)],
+    ) else {
+        return false;
+    };
+    let Some(Err(PublishSubscribeCreateError::HangsInCreation)) = hub.create(
+        alloc,
+        &node,
+        name,
+        &SERVICE,
+        &AttributeSpecifier::new(),
+    ) else {
+        return false;
+    };
+    let Ok(()) = hub.foreign(
+        alloc,
+        MessagingPattern::PublishSubscribe,
+        name,
+        &[ForeignStep::GiveUp(1)],
+    ) else {
+        return false;
+    };
+    let Some(Err(PublishSubscribeOpenError::DoesNotExist)) = hub.open(
+        alloc,
+        &node,
+        name,
+        &SERVICE,
+        AttributeVerifier::new(),
+    ) else {
+        return false;
+    };
+    true
+}
+
+// Whether a service is closed once its port left, and not before.
+fn is_closed(
+    alloc: Global,
+    hub: &mut Recorded,
+    service: Named<PortFactory<PublishSubscribe>>,
+) -> bool
+    requires made { value_at hub.old.calls.factories service.number.value ≡ Some (made_factory.PublishSubscribe service.it) }
+    requires here { service.it.service.membership.storage ≡ hub.old.calls.config.id }
+{
+    let Some(Ok(subscriber)) = hub.subscriber(alloc, &service, &SUBSCRIBER) else {
+        return false;
+    };
+    let Err((CloseError::StillInUse, Some(service))) = hub.close(service) else {
+        let _ = subscriber.it.into_port();
+        return false;
+    };
+    if !subscriber_leaves(hub, subscriber) {
+        return false;
+    }
+    hub.close(service).is_ok()
+}
+
+// Whether a service is created, opened beside that, and closed by both.
+fn begins_and_ends(alloc: Global, hub: &mut Recorded) -> bool {
+    let Ok(node) = hub.new_node() else {
+        return false;
+    };
+    let Ok(name) = ServiceName::new(b"odometry") else {
+        return false;
+    };
+    let Some(Ok(service)) = hub.create(alloc, &node, name, &SERVICE, &AttributeSpecifier::new())
+    else {
+        return false;
+    };
+    let Some(Ok(beside)) = hub.open(alloc, &node, name, &SERVICE, AttributeVerifier::new()) else {
+        return false;
+    };
+    let Ok(()) = hub.close(beside) else {
+        return false;
+    };
+    is_closed(alloc, hub, service)
+}
+
+#[test]
+fn services_come_and_go(rt: HostRuntime) {
+    let alloc = rt.alloc();
+    let mut hub = Recorded::new(alloc, HubConfig::default());
+    assert!(&rt; is_refused(alloc, &mut hub) && begins_and_ends(alloc, &mut hub));
 }

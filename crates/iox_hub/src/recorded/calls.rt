@@ -1,47 +1,31 @@
 //! What calls of a recorded hub do to the hub, and how things get their numbers.
-ghost use Rattle.std.specs.Prelude.{⊤, ◌≡◌, ◌&&◌, [], Some, IfOk, IfSome, is_ok};
-ghost use Rattle.std.specs.Prelude.{List};
-ghost use Rattle.std.specs.Global.{Vec};
+ghost use Rattle.std.specs.Prelude.{◌≡◌, ◌&&◌, List, is_ok};
 ghost use Rattle.std.specs.Option.{unwrap_or};
-ghost use Rattle.std.specs.Result.{result_map_both, result_ok};
+ghost use Rattle.std.specs.Result.{result_ok};
 ghost use Rattle.iox_command.specs.declared.command.Command.TheVariants as command;
-ghost use Rattle.iox_hub_commands.specs.DescribeBase.Detail.{detail};
-ghost use Rattle.iox_hub_commands.specs.DescribeBase.declared.type_detail.TypeVariant.TheVariants.{FixedSize};
 ghost use Rattle.iox_delivery.specs.Holding.{publisher_blocked, subscriber_stands};
 ghost use Rattle.iox_delivery.specs.Publishing.{FollowsSubscribers, RetriesSend};
 ghost use Rattle.iox_delivery.specs.Slices.{SendsSlice};
 ghost use Rattle.iox_delivery.specs.Subscribing.{FollowsPublishers, ReceivesSample, TellsSamples};
 ghost use Rattle.iox_hub_base.specs.AsHome.{hub_ports, with_hub_ports};
-ghost use Rattle.iox_hub_base.specs.DescribeBase.Hash.{service_hash_of};
-ghost use Rattle.iox_hub_base.specs.DescribeSettings.Agreement.{agreement};
-ghost use Rattle.iox_hub_base.specs.Negotiate.Negotiation.{Either};
-ghost use Rattle.iox_hub_base.specs.Opening.{OpensInHub, lacking_either};
-ghost use Rattle.iox_negotiate_table.specs.Stepped.{SteppedSight};
 ghost use Rattle.iox_delivery.specs.Domain.PortSettings.{publisher_defaults};
-ghost use Rattle.iox_hub_commands.specs.Asked.{types_of};
-ghost use Rattle.iox_hub_commands.specs.DescribeBase.Attributes.{Required};
 ghost use Rattle.iox_hub_commands.specs.Calls.{may_lend};
 ghost use Rattle.iox_hub_commands.specs.CommandSteps.{publisher_may_decide, publisher_may_degrade, subscriber_may_degrade};
 ghost use Rattle.iox_hub_commands.specs.Naming.{publisher_config, subscriber_config};
-ghost use Rattle.iox_hub_commands.specs.ServicesTables.{FactoryTable};
 ghost use Rattle.iox_hub_commands.specs.DescribeSettings.declared.static_config.Settings.TheVariants as settings;
 ghost use Rattle.iox_hub_commands.specs.DescribeSettings.declared.static_config.publish_subscribe.StaticConfig.{StaticConfig};
 ghost use Rattle.iox_hub_commands.specs.Services.{domain_of_factory, owner_of_factory};
-ghost use Rattle.iox_hub_commands.specs.declared.services.made.MadeFactory.TheVariants as made_factory;
-ghost use Rattle.iox_negotiate_table.specs.Describe.Within.{HasForm};
 ghost use Rattle.iox_hub.specs.Recorded.{Calls, asked_too};
-ghost use Rattle.iox_hub.specs.RecordedCalls.{IsAsAsked};
-ghost use Rattle.iox_hub.specs.RecordedNames.{as_made, back_by, named_by, port_made};
+ghost use Rattle.iox_hub.specs.RecordedNames.{back_by, named_by, port_made};
 ghost use Rattle.iox_hub.specs.RecordedNames.{publisher_side, received_by, subscriber_side};
-ghost use Rattle.iox_hub.specs.Recording.{IsDoneIf, IsDoneOrBack, OpensIf, OpensOrCreates, calls_opened};
-ghost use Rattle.iox_hub.specs.Recording.{is_known, newest_is_known, told_came, told_sent_if};
+ghost use Rattle.iox_hub.specs.Recording.{IsDoneIf, IsDoneOrBack, is_known, newest_is_known, told_came, told_sent_if};
 
 use crate::recorded::history::History;
 use crate::recorded::named::{Named, Number};
-use iox_command::{PublishSubscribeOptions, PublisherOptions, SubscriberOptions};
+use iox_command::{PublisherOptions, SubscriberOptions};
 use iox_delivery::{BlockedSend, PortId, Sent, UpdateConnections, slices as slice};
 use iox_describe::pattern::PublishSubscribe;
-use iox_describe_base::{AttributeVerifier, ServiceName, ZeroCopySend};
+use iox_describe_base::ZeroCopySend;
 use iox_domain::DomainId;
 use iox_domain::ports::{PublisherConfig, SubscriberConfig};
 use iox_domain::settings::PublisherSettings;
@@ -49,11 +33,8 @@ use iox_domain_values::{
     ConnectionFailure, PortOwner, PublisherCreateError, ReceiveError, SendError,
     SubscriberCreateError,
 };
-use iox_hub_base::{Hub, HubBuilder, PortFactory};
-use iox_hub_commands::services::requests::{message_types, publish_subscribe};
+use iox_hub_base::{Hub, PortFactory};
 use iox_hub_commands::{PublisherHandlers, SubscriberHandler, most_loans};
-use iox_negotiate::{Builder, Negotiated, ServiceBuilder};
-use iox_negotiate_base::errors::PublishSubscribeOpenOrCreateError;
 use iox_queues_base::Words;
 use std::alloc::Global;
 
@@ -256,128 +237,6 @@ pub(crate) fn told_received<
     ensures { result.calls ≡ calls }
 {
     History::told(history, number, &(), &())
-}
-
-// A node of a hub opens a service, or creates it, if it was made; and the history then.
-pub(crate) fn opened<
-    T: Words + ZeroCopySend + Default,
-    U: Copy + ZeroCopySend + Default,
-    B: PublisherHandlers,
-    D: SubscriberHandler,
->(
-    hub: &mut Hub<T, U, B, D>,
-    history: &History<T>,
-    alloc: Global,
-    node: u64,
-    name: ServiceName,
-    options: &PublishSubscribeOptions,
-    attributes: AttributeVerifier,
-) -> (
-    Option<Result<PortFactory<PublishSubscribe>, PublishSubscribeOpenOrCreateError>>,
-    History<T>,
-)
-    ghost required: { Required }
-    requires attributes { attributes ≡ required }
-    ensures told { result.1.calls ≡ calls_opened node name options.now required
-        (as_made (λ it. made_factory.PublishSubscribe it) result.0) history.now.calls }
-    ensures opens { OpensIf (detail FixedSize T.name T.size T.alignment) (detail FixedSize U.name U.size U.alignment)
-        (types_of T.name T.size T.alignment U.name U.size U.alignment) node name options.now required history.now.calls.factories hub.old
-        (as_made (λ it. made_factory.PublishSubscribe it) result.0) hub.new }
-    ensures agreed { IfSome result.0 (λ answer. IfOk answer (λ factory.
-        IsAsAsked (types_of T.name T.size T.alignment U.name U.size U.alignment) name options.now required
-        factory.service.membership.service)) }
-{
-    let answer = open_if(hub, alloc, node, name, options, attributes);
-    let history = History::told(history, &(node, name, *options), &answer, &());
-    (answer, history)
-}
-
-// A node opens a service, or creates it, if that node was made.
-pub(crate) fn open_if<
-    T: Words + ZeroCopySend + Default,
-    U: Copy + ZeroCopySend + Default,
-    B: PublisherHandlers,
-    D: SubscriberHandler,
->(
-    hub: &mut Hub<T, U, B, D>,
-    alloc: Global,
-    node: u64,
-    name: ServiceName,
-    options: &PublishSubscribeOptions,
-    attributes: AttributeVerifier,
-) -> Option<Result<PortFactory<PublishSubscribe>, PublishSubscribeOpenOrCreateError>>
-    ensures opens { (table : FactoryTable)
-        → OpensIf (detail FixedSize T.name T.size T.alignment) (detail FixedSize U.name U.size U.alignment)
-        (types_of T.name T.size T.alignment U.name U.size U.alignment) node name options.now attributes table hub.old
-        (as_made (λ it. made_factory.PublishSubscribe it) result) hub.new }
-    ensures agreed { IfSome result (λ answer. IfOk answer (λ factory.
-        IsAsAsked (types_of T.name T.size T.alignment U.name U.size U.alignment) name options.now attributes
-        factory.service.membership.service)) }
-{
-    if !hub.has_node(node) {
-        return None;
-    }
-    let builder = Builder::of_hub(hub.id(), node, name);
-    Some(opens_or_creates(hub, alloc, builder, options, attributes))
-}
-
-// A node opens a service, or creates it.
-pub(crate) fn opens_or_creates<
-    T: Words + ZeroCopySend + Default,
-    U: Copy + ZeroCopySend + Default,
-    B: PublisherHandlers,
-    D: SubscriberHandler,
->(
-    hub: &mut Hub<T, U, B, D>,
-    alloc: Global,
-    builder: Builder,
-    options: &PublishSubscribeOptions,
-    attributes: AttributeVerifier,
-) -> Result<PortFactory<PublishSubscribe>, PublishSubscribeOpenOrCreateError>
-    requires { builder.hub ≡ hub.old.table.id }
-    ensures opens { OpensOrCreates (detail FixedSize T.name T.size T.alignment) (detail FixedSize U.name U.size U.alignment)
-        (types_of T.name T.size T.alignment U.name U.size U.alignment) builder.node builder.name options.now
-        attributes hub.old
-        (result_map_both (λ factory. (factory.service.membership, factory.owner)) (λ error. error) result) hub.new }
-    ensures form { IfOk result (λ factory. HasForm factory.service.membership.service.description) }
-{
-    let requirement = publish_subscribe(options, message_types::<T, U>());
-    let asked = builder.with_requirement::<PublishSubscribe>(requirement);
-    let answer = opens_as_asked(hub, alloc, asked, attributes);
-    shows_form(&answer);
-    answer
-}
-
-// A service of a pattern is opened, or created, as a builder asks.
-fn opens_as_asked<P: Negotiated, T: Words + ZeroCopySend, U: Copy + ZeroCopySend, B: Drop, D: Drop>(
-    hub: &mut Hub<T, U, B, D>,
-    alloc: Global,
-    builder: ServiceBuilder<P>,
-    attributes: AttributeVerifier,
-) -> Result<PortFactory<P>, P::OpenOrCreateError>
-    requires { builder.hub ≡ hub.old.table.id }
-    ensures { OpensInHub (detail FixedSize T.name T.size T.alignment) (detail FixedSize U.name U.size U.alignment)
-        ⊤ (λ was_new. P.open_or_create_error (lacking_either was_new))
-        (λ before came after. Either SteppedSight before.table.id (service_hash_of P.pattern builder.name) builder.node
-        (λ given. P.verdict (P.with_attributes builder.requirement attributes) given)
-        (agreement builder.name (service_hash_of P.pattern builder.name)
-        (P.settings (P.adjusted (P.asked (P.with_attributes builder.requirement attributes))))
-        (P.attributes (P.with_attributes builder.requirement attributes)).pairs)
-        (P.IsWithinLimits (P.adjusted (P.asked (P.with_attributes builder.requirement attributes))))
-        (P.IsHistoryTooLong (P.adjusted (P.asked (P.with_attributes builder.requirement attributes)))) P.open_or_create_error
-        before came after) [] hub.old
-        (result_map_both (λ factory. (factory.service.membership, factory.owner)) (λ error. error) result) hub.new }
-{
-    builder.open_or_create_with_attributes_in(alloc, attributes, hub, Vec::new(alloc))
-}
-
-// The description of a factory is one, whoever agreed on it.
-pub(crate) fn shows_form<E>(answer: &Result<PortFactory<PublishSubscribe>, E>)
-    ensures { IfOk answer.now (λ factory. HasForm factory.service.membership.service.description) }
-{
-    if let Ok(factory) = answer {
-        factory.description();
-    }
 }
 
 // The domain of a factory's ports.

@@ -1,6 +1,6 @@
 //! A hub that records what is asked of it, and what it answers, for proofs alone.
 ghost use Rattle.std.specs.Prelude.{◌≡◌, ◌+◌, ◌<◌, ◌^◌, ◌++◌, ◌∷◌, [], true, false, Some, IfSome, IfOk, IfErr, IsOkAnd, IsSome};
-ghost use Rattle.std.specs.Prelude.{MatchResult, length};
+ghost use Rattle.std.specs.Prelude.{MatchOption, MatchResult, Ok, length};
 ghost use Rattle.std.specs.List.{AllByRecursion};
 ghost use Rattle.std.specs.Global.{Vec};
 ghost use Rattle.std.specs.Option.{option_map, option_map_or, unwrap_or};
@@ -14,42 +14,54 @@ ghost use Rattle.iox_command.specs.declared.service.ServiceOptions.TheVariants a
 ghost use Rattle.iox_container.specs.NumberTable.{inserted, removed, value_at};
 ghost use Rattle.iox_delivery.specs.declared.sent.Sent.TheVariants as sent;
 ghost use Rattle.iox_hub_commands.specs.Asked.{types_of};
+ghost use Rattle.iox_hub_commands.specs.DescribeBase.Hash.{service_hash_of};
+ghost use Rattle.iox_hub_commands.specs.DescribeBase.declared.pattern.MessagingPattern.TheVariants as messaging_pattern;
 ghost use Rattle.iox_hub_commands.specs.DescribeSettings.declared.static_config.Settings.TheVariants as settings;
 ghost use Rattle.iox_hub_commands.specs.DomainValues.declared.backpressure_strategy.BackpressureStrategy.TheVariants.{RetryUntilDelivered};
 ghost use Rattle.iox_hub_commands.specs.DescribeSettings.declared.static_config.publish_subscribe.StaticConfig.{StaticConfig};
 ghost use Rattle.iox_hub_commands.specs.Tables.{no_numbers};
 ghost use Rattle.iox_hub_commands.specs.declared.services.made.MadeFactory.TheVariants as made_factory;
+ghost use Rattle.iox_machine.specs.Agreement.{are_within_limits, verdict};
+ghost use Rattle.iox_machine.specs.Asked.{settings_of};
 ghost use Rattle.iox_machine.specs.Choices.{as_named};
 ghost use Rattle.iox_machine.specs.Run.{Answers};
 ghost use Rattle.iox_hub.specs.Recorded.{AreFollowed, asked_too};
 ghost use Rattle.iox_hub.specs.RecordedCalls.{IsAsAsked, IsReceived, KeepNumbers, answered_as, told_send};
 ghost use Rattle.iox_hub.specs.RecordedLaws.{WasPut};
 
-use crate::recorded::calls;
 use crate::recorded::history::History;
 use crate::recorded::named::{Named, Number};
-use iox_command::{HubError, PublishSubscribeOptions, PublisherOptions, SubscriberOptions};
+use crate::recorded::{calls, services};
+use iox_command::{
+    ForeignStep, HubError, PublishSubscribeOptions, PublisherOptions, SubscriberOptions,
+};
 use iox_delivery::kind::Slice;
 use iox_delivery::{BlockedSend, Sent, slices as slice};
 use iox_describe::pattern::PublishSubscribe;
-use iox_describe_base::{AttributeVerifier, ServiceName, ZeroCopySend};
+use iox_describe_base::{
+    AttributeSpecifier, AttributeVerifier, MessagingPattern, ServiceName, ZeroCopySend,
+};
 use iox_domain::calls::{create_publisher, create_subscriber};
 use iox_domain_values::{
     ConnectionFailure, PublisherCreateError, ReceiveError, SendError, SubscriberCreateError,
 };
 use iox_hub_base::{Hub, HubConfig, NodeHandle, PortFactory};
+use iox_hub_commands::services::foreign;
 use iox_hub_commands::{
     FixedDegradation, FixedHandlers, NamedSlots, PublisherHandlers, SubscriberHandler,
     publisher_handlers, subscriber_handler,
 };
 use iox_hub_machine::typed::{
-    typed_calls_are_a_run, typed_nodes_are_steps, typed_openings_are_steps,
+    typed_calls_are_a_run, typed_closes_are_steps, typed_nodes_are_steps, typed_openings_are_steps,
     typed_publishers_come_by_steps, typed_publishers_follow_by_steps, typed_puts_are_steps,
     typed_receives_are_steps, typed_samples_are_read_by_steps, typed_sends_go_on_by_steps,
     typed_subscribers_come_by_steps, typed_subscribers_follow_by_steps, what_is_held_may_be_used,
 };
 use iox_machine::{received_was_sent, samples_read_the_same};
-use iox_negotiate_base::errors::PublishSubscribeOpenOrCreateError;
+use iox_negotiate_base::errors::{
+    CloseError, PublishSubscribeCreateError, PublishSubscribeOpenError,
+    PublishSubscribeOpenOrCreateError,
+};
 use iox_queues_base::Words;
 use std::alloc::Global;
 use std::marker::Model;
@@ -158,6 +170,97 @@ impl<
         answer
     }
 
+    /// A node creates the service of a name, as the options ask, with these attributes: the command `Create`, with no steps of nodes
+    /// outside the hub. The node is one of this hub. None, and the command is skipped, where none of its number was made. What is agreed of
+    /// the service is just what is asked. The others keep their numbers.
+    ///
+    /// Refused as the machine refuses it.
+    /// Example: `let Some(Ok(service)) = hub.create(alloc, &node, name, &options, &AttributeSpecifier::new()) else { return None; };`
+    pub fn create(
+        &mut self,
+        alloc: Global,
+        node: &NodeHandle,
+        name: ServiceName,
+        options: &PublishSubscribeOptions,
+        attributes: &AttributeSpecifier,
+    ) -> Option<Result<Named<PortFactory<PublishSubscribe>>, PublishSubscribeCreateError>>
+        requires { node.now.hub ≡ self.old.calls.config.id }
+        ensures created { self.new.calls ≡ answered_as result
+            (command.Create node.now.number name (service_options.PublishSubscribe options.now) attributes.now [])
+            (λ factory. reply.FactoryMade self.old.calls.factories.next) refusal.PublishSubscribeCreate
+            (λ factory calls. record calls { factories = inserted calls.factories (made_factory.PublishSubscribe factory.it) })
+            self.old.calls }
+        ensures number { IfSome result (λ answer. IfOk answer (λ factory. (factory.number.value ≡ self.old.calls.factories.next)
+            × (value_at self.new.calls.factories factory.number.value ≡ Some (made_factory.PublishSubscribe factory.it)))) }
+        ensures others { KeepNumbers self.old.calls.factories self.new.calls.factories }
+        ensures agreed { IfSome result (λ answer. IfOk answer (λ factory.
+            (factory.it.service.membership.service.description.service_hash ≡ service_hash_of messaging_pattern.PublishSubscribe name)
+            × (factory.it.service.membership.service.description.name ≡ name)
+            × (factory.it.service.membership.service.description.settings
+            ≡ settings_of (types_of T.name T.size T.alignment U.name U.size U.alignment) (service_options.PublishSubscribe options.now))
+            × (factory.it.service.membership.service.description.attributes ≡ attributes.now))) }
+        ensures here { IfSome result (λ answer. IfOk answer (λ factory.
+            factory.it.service.membership.storage ≡ self.old.calls.config.id)) }
+    {
+        typed_calls_are_a_run::<T, U, B, D>();
+        typed_openings_are_steps::<T, U, B, D>();
+        let number = Number::given(&self.history);
+        let asked = node.number();
+        let answer = services::create_if(&mut self.hub, alloc, asked, name, options, attributes);
+        self.history = History::told(&self.history, &(asked, name, *options), &answer, attributes);
+        calls::with_number(answer, number)
+    }
+
+    /// A node opens the service of a name that stands, if it is as the options ask: the command `Open`, with no steps of nodes outside the
+    /// hub. The node is one of this hub. None, and the command is skipped, where none of its number was made. What is agreed of the service
+    /// meets what is asked. The others keep their numbers.
+    ///
+    /// Refused as the machine refuses it.
+    /// Example: `let Some(Ok(service)) = hub.open(alloc, &node, name, &options, AttributeVerifier::new()) else { return None; };`
+    pub fn open(
+        &mut self,
+        alloc: Global,
+        node: &NodeHandle,
+        name: ServiceName,
+        options: &PublishSubscribeOptions,
+        attributes: AttributeVerifier,
+    ) -> Option<Result<Named<PortFactory<PublishSubscribe>>, PublishSubscribeOpenError>>
+        requires { node.now.hub ≡ self.old.calls.config.id }
+        ensures opened { self.new.calls ≡ answered_as result
+            (command.Open node.now.number name (service_options.PublishSubscribe options.now) attributes [])
+            (λ factory. reply.FactoryMade self.old.calls.factories.next) refusal.PublishSubscribeOpen
+            (λ factory calls. record calls { factories = inserted calls.factories (made_factory.PublishSubscribe factory.it) })
+            self.old.calls }
+        ensures number { IfSome result (λ answer. IfOk answer (λ factory. (factory.number.value ≡ self.old.calls.factories.next)
+            × (value_at self.new.calls.factories factory.number.value ≡ Some (made_factory.PublishSubscribe factory.it)))) }
+        ensures others { KeepNumbers self.old.calls.factories self.new.calls.factories }
+        ensures agreed { IfSome result (λ answer. IfOk answer (λ factory.
+            (factory.it.service.membership.service.description.service_hash ≡ service_hash_of messaging_pattern.PublishSubscribe name)
+            × (verdict (types_of T.name T.size T.alignment U.name U.size U.alignment) (service_options.PublishSubscribe options.now)
+            attributes (record {
+              settings = factory.it.service.membership.service.description.settings;
+              attributes = factory.it.service.membership.service.description.attributes;
+            }) ≡ Ok tt)
+            × (are_within_limits factory.it.service.membership.service.description.settings ≡ true))) }
+        ensures here { IfSome result (λ answer. IfOk answer (λ factory.
+            factory.it.service.membership.storage ≡ self.old.calls.config.id)) }
+    {
+        typed_calls_are_a_run::<T, U, B, D>();
+        typed_openings_are_steps::<T, U, B, D>();
+        let number = Number::given(&self.history);
+        let (answer, history) = services::opened(
+            &mut self.hub,
+            &self.history,
+            alloc,
+            node.number(),
+            name,
+            options,
+            attributes,
+        );
+        self.history = history;
+        calls::with_number(answer, number)
+    }
+
     /// A node opens the service of a name, as the options ask, or creates it where none stands: the command `OpenOrCreate`, with no steps
     /// of nodes outside the hub. The node is one of this hub. None, and the command is skipped, where none of its number was made. What is
     /// agreed of the service meets what is asked, or is just that. The others keep their numbers.
@@ -184,11 +287,13 @@ impl<
         ensures agreed { IfSome result (λ answer. IfOk answer (λ factory.
             IsAsAsked (types_of T.name T.size T.alignment U.name U.size U.alignment) name options.now attributes
             factory.it.service.membership.service)) }
+        ensures here { IfSome result (λ answer. IfOk answer (λ factory.
+            factory.it.service.membership.storage ≡ self.old.calls.config.id)) }
     {
         typed_calls_are_a_run::<T, U, B, D>();
         typed_openings_are_steps::<T, U, B, D>();
         let number = Number::given(&self.history);
-        let (answer, history) = calls::opened(
+        let (answer, history) = services::opened_or_created(
             &mut self.hub,
             &self.history,
             alloc,
@@ -199,6 +304,56 @@ impl<
         );
         self.history = history;
         calls::with_number(answer, number)
+    }
+
+    /// A factory is closed: the command `Close`. It is spent, also where something is left behind; while it is in use it is handed back. It
+    /// is one of this hub.
+    ///
+    /// Refused as the machine refuses it.
+    /// Example: `let refused = hub.close(service).err();`
+    pub fn close(
+        &mut self,
+        factory: Named<PortFactory<PublishSubscribe>>,
+    ) -> Result<(), (CloseError, Option<Named<PortFactory<PublishSubscribe>>>)>
+        requires made { value_at self.old.calls.factories factory.number.value ≡ Some (made_factory.PublishSubscribe factory.it) }
+        requires here { factory.it.service.membership.storage ≡ self.old.calls.config.id }
+        ensures { MatchResult result
+            (λ done. self.new.calls ≡ record (asked_too (command.Close factory.number.value) reply.Done self.old.calls) {
+              factories = removed self.old.calls.factories factory.number.value;
+            })
+            (λ refused. MatchOption refused.1
+            (self.new.calls
+            ≡ record (asked_too (command.Close factory.number.value) (reply.Refused (refusal.Close refused.0)) self.old.calls) {
+              factories = removed self.old.calls.factories factory.number.value;
+            })
+            (λ back. (back ≡ factory) × (self.new.calls
+            ≡ asked_too (command.Close factory.number.value) (reply.Refused (refusal.Close refused.0)) self.old.calls))) }
+    {
+        typed_calls_are_a_run::<T, U, B, D>();
+        typed_closes_are_steps::<T, U, PortFactory<PublishSubscribe>, B, D>();
+        let Named { it, number } = factory;
+        let closed = self.hub.close(it);
+        self.history = History::told(&self.history, &number, &closed, &());
+        services::closed_with_number(closed, number)
+    }
+
+    /// Nodes outside the hub do steps on the service of a pattern and a name, one after the other: the command `Foreign`. It is refused at
+    /// the first step that finds no memory; those before it stay done.
+    /// Example: `let done = hub.foreign(alloc, MessagingPattern::PublishSubscribe, name, &[ForeignStep::Lock(1)]);`
+    pub fn foreign(
+        &mut self,
+        alloc: Global,
+        pattern: MessagingPattern,
+        name: ServiceName,
+        steps: &[ForeignStep],
+    ) -> Result<(), HubError>
+        ensures { self.new.calls ≡ answered_as (Some result) (command.Foreign pattern name steps.now) (λ done. reply.Done) refusal.Hub
+            (λ done calls. calls) self.old.calls }
+    {
+        typed_calls_are_a_run::<T, U, B, D>();
+        let answer = foreign(alloc, &mut self.hub, pattern, &name, steps);
+        self.history = services::told_foreign(&self.history, pattern, name, steps, &answer);
+        answer
     }
 
     /// A publisher of a service comes, as the options ask: the command `Publisher`. None, and the command is skipped, where the service

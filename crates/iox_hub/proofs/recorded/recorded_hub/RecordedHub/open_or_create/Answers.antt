@@ -1,9 +1,13 @@
+use Rattle.std.proofs.Common.{[]}
+use Rattle.iox_command.specs.declared.command.Command.TheVariants as command
+use Rattle.iox_command.specs.declared.refusal.Refusal.TheVariants as refusal
+use Rattle.iox_command.specs.declared.service.ServiceOptions.TheVariants as options
 use Rattle.iox_hub.specs.RecordedCalls.{IsAsAsked}
 use Rattle.iox_hub.specs.RecordedNames.{as_made}
 use Rattle.iox_hub.proofs.AskedServices.{named_so}
 use Rattle.iox_hub.proofs.KeptNumbers.{factories_keep}
-use Rattle.iox_hub.proofs.RecordedRuns.{opened_recorded}
-use Rattle.iox_hub.proofs.RecordedTold.{factory_goes_by, opened_so}
+use Rattle.iox_hub.proofs.RecordedServices.{either_recorded}
+use Rattle.iox_hub.proofs.RecordedTold.{factory_goes_by, here_so, opened_so}
 use Rattle.iox_hub_commands.specs.Asked.{types_of}
 use Rattle.iox_hub_commands.specs.DescribeBase.Detail.{detail}
 use Rattle.iox_hub_commands.specs.DescribeBase.declared.type_detail.TypeVariant.TheVariants.{FixedSize, Dynamic}
@@ -11,34 +15,46 @@ use Rattle.iox_hub_commands.specs.declared.services.made.MadeFactory.TheVariants
 use Rattle.iox_hub.proofs.recorded.recorded_hub.RecordedHub.open_or_create.Goals as goal
 
 pub invariant_of-self : goal.invariant_of-self
-invariant_of-self g c = rw c.opened-answer.ensures.told
-    (opened_recorded (detail FixedSize g.T.ZeroCopySend.name g.T.ZeroCopySend.size g.T.ZeroCopySend.alignment)
+invariant_of-self g c = rw c.opened_or_created-answer.ensures.told
+    (either_recorded (detail FixedSize g.T.ZeroCopySend.name g.T.ZeroCopySend.size g.T.ZeroCopySend.alignment)
     (detail FixedSize g.U.ZeroCopySend.name g.U.ZeroCopySend.size g.U.ZeroCopySend.alignment)
     (λ value. g.T.Default.is_default value) (λ header. g.U.Default.is_default header) g.B.PublisherHandlers.fixed
     (λ handlers. g.B.Degrades.degrades handlers) (λ handlers. g.B.Decides.decides handlers) g.D.SubscriberHandler.fixed
-    (λ handler. g.D.Degrades.degrades handler) (c.typed_calls_are_a_run.ensures.goes_on Dynamic)
-    (c.typed_openings_are_steps.ensures.either Dynamic)
-    c.self.inside.history.calls c.self.inside.hub c.opened-answer.new.hub c.number.result
-    c.args.name c.args.options.now c.args.attributes
-    (as_made (λ it. made_factory.PublishSubscribe it) c.opened-answer.result.0) c.opened-answer.ensures.opens c.self.invariant)
+    (λ handler. g.D.Degrades.degrades handler)
+    c.self.inside.history.calls c.self.inside.hub c.opened_or_created-answer.new.hub c.number.result
+    c.args.name c.args.options.now (c.typed_calls_are_a_run.ensures.goes_on Dynamic)
+    (c.typed_openings_are_steps.ensures.either Dynamic) c.args.attributes
+    (as_made (λ it. made_factory.PublishSubscribe it) c.opened_or_created-answer.result.0) c.opened_or_created-answer.ensures.opens
+    c.self.invariant)
 
 pub returns-clause-opened : goal.returns-clause-opened
-returns-clause-opened g c = rw (c.with_number.ensures, ← c.self.view_is, c.opened-answer.ensures.told, c.number.ensures)
-    (opened_so c.self.inside.history.calls (λ it. made_factory.PublishSubscribe it) c.args.node.now.number c.args.name c.args.options.now
-    c.args.attributes c.opened-answer.result.0 c.given-number.result)
+returns-clause-opened g c = rw (c.with_number.ensures, ← c.self.view_is, c.opened_or_created-answer.ensures.told, c.number.ensures)
+    (opened_so c.self.inside.history.calls (command.OpenOrCreate c.args.node.now.number c.args.name
+    (options.PublishSubscribe c.args.options.now) c.args.attributes [])
+    refusal.PublishSubscribeOpenOrCreate (λ it. made_factory.PublishSubscribe it) c.opened_or_created-answer.result.0 c.given-number.result)
 
 pub returns-clause-number : goal.returns-clause-number
-returns-clause-number g c = rw (c.with_number.ensures, ← c.self.view_is, c.opened-answer.ensures.told)
-    (factory_goes_by c.self.inside.history.calls (λ it. made_factory.PublishSubscribe it) c.number.result c.args.name
-    c.args.options.now c.args.attributes c.opened-answer.result.0 c.given-number.result c.given-number.ensures c.self.invariant.rise.0)
+returns-clause-number g c = rw (c.with_number.ensures, ← c.self.view_is, c.opened_or_created-answer.ensures.told)
+    (factory_goes_by c.self.inside.history.calls
+    (command.OpenOrCreate c.number.result c.args.name (options.PublishSubscribe c.args.options.now) c.args.attributes [])
+    refusal.PublishSubscribeOpenOrCreate (λ it. made_factory.PublishSubscribe it) c.opened_or_created-answer.result.0
+    c.given-number.result c.given-number.ensures
+    c.self.invariant.rise.0)
 
 pub returns-clause-agreed : goal.returns-clause-agreed
 returns-clause-agreed g c = rw c.with_number.ensures
-    (named_so c.given-number.result (λ factory. IsAsAsked (types_of g.T.ZeroCopySend.name g.T.ZeroCopySend.size g.T.ZeroCopySend.alignment
-    g.U.ZeroCopySend.name g.U.ZeroCopySend.size g.U.ZeroCopySend.alignment) c.args.name c.args.options.now c.args.attributes
-    factory.service.membership.service) c.opened-answer.result.0 c.opened-answer.ensures.agreed)
+    (named_so c.given-number.result (λ factory. IsAsAsked
+    (types_of g.T.ZeroCopySend.name g.T.ZeroCopySend.size g.T.ZeroCopySend.alignment g.U.ZeroCopySend.name
+    g.U.ZeroCopySend.size g.U.ZeroCopySend.alignment) c.args.name c.args.options.now c.args.attributes
+    factory.service.membership.service) c.opened_or_created-answer.result.0 c.opened_or_created-answer.ensures.agreed)
+
+pub returns-clause-here : goal.returns-clause-here
+returns-clause-here g c = rw (c.with_number.ensures, ← c.self.view_is)
+    (here_so c.given-number.result (λ factory. factory.service.membership.storage) c.self.inside.hub.table.id
+    c.self.inside.history.calls.config.id c.self.invariant.id c.opened_or_created-answer.result.0 c.opened_or_created-answer.ensures.here)
 
 pub returns-clause-others : goal.returns-clause-others
-returns-clause-others g c = rw (← c.self.view_is, c.opened-answer.ensures.told)
-    (factories_keep c.self.inside.history.calls c.number.result c.args.name c.args.options.now c.args.attributes
-    (as_made (λ it. made_factory.PublishSubscribe it) c.opened-answer.result.0))
+returns-clause-others g c = rw (← c.self.view_is, c.opened_or_created-answer.ensures.told)
+    (factories_keep c.self.inside.history.calls
+    (command.OpenOrCreate c.number.result c.args.name (options.PublishSubscribe c.args.options.now) c.args.attributes [])
+    refusal.PublishSubscribeOpenOrCreate (as_made (λ it. made_factory.PublishSubscribe it) c.opened_or_created-answer.result.0))

@@ -1,5 +1,0 @@
-use Rattle.iox_hub.proofs.recorded.calls.opens_or_creates.Goals as goal
-
-pub returns-clause-opens : goal.returns-clause-opens
-returns-clause-opens g c = rw (c.with_requirement-asked.ensures, c.publish_subscribe-requirement.ensures, c.message_types.ensures) at
-    c.opens_as_asked-answer.ensures

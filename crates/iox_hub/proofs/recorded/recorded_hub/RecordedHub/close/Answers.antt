@@ -1,0 +1,32 @@
+use Rattle.std.proofs.Common.{◌∙◌, sym}
+use Rattle.std.specs.Result.{result_map_both}
+use Rattle.iox_hub.proofs.RecordedServices.{closed_recorded}
+use Rattle.iox_hub.proofs.RecordedTold.{closed_so, closes_back}
+use Rattle.iox_hub_base.specs.Closing.{in_use}
+use Rattle.iox_hub_commands.specs.DescribeBase.Detail.{detail}
+use Rattle.iox_hub_commands.specs.DescribeBase.declared.type_detail.TypeVariant.TheVariants.{FixedSize, Dynamic}
+use Rattle.iox_hub_commands.specs.declared.services.made.MadeFactory.TheVariants as made_factory
+use Rattle.iox_hub.proofs.recorded.recorded_hub.RecordedHub.close.Goals as goal
+
+pub invariant_of-self : goal.invariant_of-self
+invariant_of-self g c = rw c.told-self-inside.ensures
+    (closed_recorded (detail FixedSize g.T.ZeroCopySend.name g.T.ZeroCopySend.size g.T.ZeroCopySend.alignment)
+    (detail FixedSize g.U.ZeroCopySend.name g.U.ZeroCopySend.size g.U.ZeroCopySend.alignment)
+    (λ value. g.T.Default.is_default value) (λ header. g.U.Default.is_default header) g.B.PublisherHandlers.fixed
+    (λ handlers. g.B.Degrades.degrades handlers) (λ handlers. g.B.Decides.decides handlers) g.D.SubscriberHandler.fixed
+    (λ handler. g.D.Degrades.degrades handler) (c.typed_calls_are_a_run.ensures.goes_on Dynamic)
+    (c.typed_closes_are_steps.ensures Dynamic)
+    c.self.inside.history.calls c.self.inside.hub c.close-closed.new.self c.args.factory.number.value
+    (made_factory.PublishSubscribe c.args.factory.it) c.args.factory.it
+    (result_map_both (λ done. done) (λ refused. (refused.error, refused.factory)) c.close-closed.result)
+    (rw (← c.self.view_is) at c.requires.made) c.close-closed.ensures c.self.invariant)
+
+pub returns : goal.returns
+returns g c = rw (c.closed_with_number.ensures, ← c.self.view_is, c.told-self-inside.ensures)
+    (closed_so c.self.inside.history.calls c.args.factory
+    (result_map_both (λ done. done) (λ refused. (refused.error, refused.factory)) c.close-closed.result)
+    (closes_back (in_use c.args.factory.it.service.membership.service.number c.args.factory.it.owner c.self.inside.hub)
+    c.args.factory.it.service.membership c.args.factory.it c.self.inside.hub c.close-closed.new.self _ c.close-closed.ensures))
+
+pub close-closed-requires : goal.close-closed-requires
+close-closed-requires g c = (rw (← c.self.view_is) at c.requires.here) ∙ sym c.self.invariant.id

@@ -1,0 +1,4 @@
+use Rattle.iox_hub.proofs.recorded.services.opens_as_asked.Goals as goal
+
+pub returns : goal.returns
+returns g c = rw c.new.ensures.items at c.open_with_attributes_in.ensures
