@@ -23,7 +23,7 @@ use Rattle.iox_container.proofs.Telling.{put as found_next}
 use Rattle.iox_container.specs.NumberTable.{value_at}
 use Rattle.iox_delivery.specs.Holding.{holds_message, message_found, publisher_blocked, publisher_stands, subscriber_stands}
 use Rattle.iox_delivery.specs.Slices.{SendsSlice}
-use Rattle.iox_delivery.specs.Subscribing.{DropsSample, EndsSubscriber, ReceivesSample}
+use Rattle.iox_delivery.specs.Subscribing.{DropsSample, EndsSubscriber, ReceivesSample, header_found}
 use Rattle.iox_delivery.specs.Publishing.{EndsPublisher, EndsSend, RetriesSend}
 use Rattle.iox_delivery.specs.declared.kind.Slice.{Slice}
 use Rattle.iox_delivery.specs.declared.port_id.PortId.{PortId}
@@ -32,8 +32,11 @@ use Rattle.iox_delivery.specs.declared.sent.Sent.{Sent}
 use Rattle.iox_domain.proofs.Homely.{put_is_there}
 use Rattle.iox_domain.proofs.TakenHeld.{received_is_held}
 use Rattle.iox_domain.specs.AtHomes.{AtDomain, MakesAt}
+use Rattle.iox_domain.specs.DomainPorts.Publishers.{port_of}
 use Rattle.iox_domain.specs.DomainPorts.declared.attached.Taken.{Taken}
+use Rattle.iox_domain.specs.DomainPorts.declared.publisher_port.PublisherPort.{PublisherPort}
 use Rattle.iox_domain.specs.Fitting.{asked_types}
+use Rattle.iox_domain.specs.Reading.{header_at_port, header_of, sample_at_port}
 use Rattle.iox_domain.specs.Steps.{GivesUpBy, PublisherComes, PublisherLeaves, ReceivesBy, SubscriberComes, SubscriberLeaves}
 use Rattle.iox_domain.specs.Steps.{why_no_publisher, why_no_subscriber}
 use Rattle.iox_domain.specs.DomainPorts.Messages.{Message}
@@ -51,6 +54,7 @@ use Rattle.iox_hub_base.specs.declared.node.NodeHandle.{NodeHandle}
 use Rattle.iox_hub_commands.proofs.Rooms.{new_rises}
 use Rattle.iox_hub_commands.specs.CommandSteps.{publisher_may_decide, publisher_may_degrade, subscriber_may_degrade}
 use Rattle.iox_hub_commands.specs.DescribeBase.Detail.{Detail}
+use Rattle.iox_hub_commands.specs.DescribeBase.declared.header.Header.{Header}
 use Rattle.iox_hub_commands.specs.DescribeBase.declared.message_type.MessageTypeDetails.{MessageTypeDetails}
 use Rattle.iox_hub_commands.specs.DescribeBase.declared.type_detail.TypeVariant.TheVariants.{Dynamic}
 use Rattle.iox_hub_commands.specs.DomainValues.declared.backpressure.BackpressureAction.{BackpressureAction}
@@ -72,8 +76,8 @@ use Rattle.iox_hub_commands.specs.Naming.{publisher_config, publisher_handlers, 
 use Rattle.iox_hub_commands.specs.Lives.{NumbersRise}
 use Rattle.iox_hub_commands.specs.Numbering.{removed_if, with_sample}
 use Rattle.iox_hub_commands.specs.Numbers.{IsNew}
-use Rattle.iox_hub_commands.specs.Reading.{values_under}
-use Rattle.iox_hub_commands.specs.Replies.{done_reply, given_up_reply}
+use Rattle.iox_hub_commands.specs.Reading.{sequence_under, values_under}
+use Rattle.iox_hub_commands.specs.Replies.{done_reply, given_up_reply, sequence_reply}
 use Rattle.iox_hub_commands.specs.Services.{domain_of_factory, owner_of_factory}
 use Rattle.iox_hub_commands.specs.ServicesTables.{FactoryTable, publish_subscribe_in}
 use Rattle.iox_hub_commands.specs.Tables.{port_under, without_publisher, without_sample, without_subscriber}
@@ -161,6 +165,23 @@ module _ {T U B D : Type 0} where
       → hub_ports id (with_hub_ports id ports hub) ≡ Some ports
   put_there id ports hub there =
       put_is_there hub_state hub_changed (λ (id : DomainId) step (hub : Hub T U B D). changed_found id step hub.services) id ports hub there
+
+-- the sequence number that a header tells is that of the message
+module _ {T U : Type 0} (taken : Taken) (header : Header) where
+  sequence_at : (port : Option (PublisherPort T U)) → Some header ≡ header_at_port taken port
+      → Some header.sequence ≡ option_map (λ (message : Message T U). message.sequence) (sample_at_port taken port)
+  sequence_at None is = cc
+  sequence_at (Some port) is = of (sample_at_port taken (Some port)) is
+    where
+      of : (message : Option (Message T U)) → Some header ≡ option_map (header_of port) message
+          → Some header.sequence ≡ option_map (λ (it : Message T U). it.sequence) message
+      of None is = cc
+      of (Some message) is = ap (option_map (λ (it : Header). it.sequence)) is
+
+  sequence_told : (found : Option (ServicePorts T U)) → Some header ≡ header_found taken found
+      → Some header.sequence ≡ option_map (λ (message : Message T U). message.sequence) (message_found taken found)
+  sequence_told None is = cc
+  sequence_told (Some ports) is = sequence_at (port_of taken.publisher ports.publishers) is
 
 module _ {T U B D : Type 0} (degrades : D → DegradationCause → DegradationInfo → DegradationAction → Type 0) where
   found_there : (receiver : PortId) (found : Option (ServicePorts T U)) (old new : Hub T U B D) (sample : Taken)
@@ -508,6 +529,25 @@ module _ {T U B D : Type 0} (payload user_header : Detail) (is_default : T → T
         (steps number made (numbered calls hub) (vector values) there
         (read ∙ ap Some (sym (vector_is values small)))) was.run) followed,
   )
+
+  -- what the header of a sample that goes by a number tells as its sequence number, the machine may answer
+  pub sequence_so : {fit : Bool} → CallsGoOn payload user_header types is_default is_default_header fixed degrades decides fixed_reader
+      reader_degrades
+      → (calls : Calls T) (hub : Hub T U B D) (number : ℕ) (made : MadeSample) (header : Header)
+      → value_at calls.made.samples number ≡ Some made → Some header ≡ header_found made.taken (hub_ports made.port.domain hub)
+      → Recorded fit calls hub → Followed (record calls { asked = calls.asked ++ command.Sequence number ∷ [] })
+      → Answers types (as_named is_default) calls.config.expired_connection_buffer (calls.asked ++ command.Sequence number ∷ []) false
+      (calls.answers ++ reply.Sequence header.sequence ∷ [])
+  sequence_so goes_on calls hub number made header there is was followed =
+      answers_so (then calls (command.Sequence number) (reply.Sequence header.sequence) calls.made calls.factories calls.received) hub
+      (run_on goes_on calls hub hub (command.Sequence number) (reply.Sequence header.sequence) calls.made calls.factories
+      (by_step payload user_header Dynamic is_default is_default_header fixed degrades decides fixed_reader reader_degrades
+      (command.Sequence number) (numbered calls hub) (numbered calls hub) (reply.Sequence header.sequence)
+      (λ names most state it. (
+        ap sequence_reply (sequence_told made.taken header (hub_ports made.port.domain hub) is
+            ∙ sym (ap (λ (found : Option MadeSample). sequence_under hub_ports found hub) there)),
+        refl,
+      ))) was.run) followed
 
   pub release_recorded : {fit : Bool} → CallsGoOn payload user_header types is_default is_default_header fixed degrades decides
       fixed_reader reader_degrades

@@ -31,6 +31,18 @@ const SERVICE: PublishSubscribeOptions = PublishSubscribeOptions {
     sequence_numbers: None,
 };
 
+// A service that numbers messages.
+const NUMBERED: PublishSubscribeOptions = PublishSubscribeOptions {
+    max_subscribers: None,
+    max_publishers: None,
+    max_nodes: None,
+    subscriber_max_buffer_size: None,
+    subscriber_max_borrowed_samples: None,
+    history_size: None,
+    enable_safe_overflow: None,
+    sequence_numbers: Some(true),
+};
+
 // Its sends wait where a mailbox is full.
 const PUBLISHER: PublisherOptions = PublisherOptions {
     max_loaned_samples: None,
@@ -331,6 +343,84 @@ fn calls_are_made(rt: HostRuntime) {
     }
 }
 
+// Whether a subscriber receives a message with this number.
+fn is_numbered(
+    alloc: Global,
+    hub: &mut Recorded,
+    subscriber: &Named<slice::Subscriber<u64, ()>>,
+    number: u64,
+) -> bool
+    requires { value_at hub.old.calls.made.subscribers subscriber.now.number.value ≡ Some subscriber.now.it.port }
+    ensures publishers { hub.new.calls.made.publishers ≡ hub.old.calls.made.publishers }
+    ensures subscribers { hub.new.calls.made.subscribers ≡ hub.old.calls.made.subscribers }
+{
+    match hub.receive(alloc, subscriber) {
+        Some(Ok(Some(sample))) => {
+            let is = hub.sequence(&sample) == Some(Some(number));
+            hub.release(sample) && is
+        }
+        Some(Ok(None)) => false,
+        Some(Err(_)) => false,
+        None => false,
+    }
+}
+
+// Whether messages of a publisher have the numbers 1 and 2.
+fn are_numbered(
+    alloc: Global,
+    hub: &mut Recorded,
+    publisher: &Named<slice::Publisher<u64, ()>>,
+    subscriber: &Named<slice::Subscriber<u64, ()>>,
+) -> bool
+    requires publisher { option_map (λ made. made.port) (value_at hub.old.calls.made.publishers publisher.now.number.value)
+        ≡ Some publisher.now.it.port }
+    requires subscriber { value_at hub.old.calls.made.subscribers subscriber.now.number.value ≡ Some subscriber.now.it.port }
+    ensures publishers { hub.new.calls.made.publishers ≡ hub.old.calls.made.publishers }
+    ensures subscribers { hub.new.calls.made.subscribers ≡ hub.old.calls.made.subscribers }
+{
+    if !is_sent(alloc, hub, publisher, &[7], 1) {
+        return false;
+    }
+    if !is_sent(alloc, hub, publisher, &[8], 1) {
+        return false;
+    }
+    if !is_numbered(alloc, hub, subscriber, 1) {
+        return false;
+    }
+    is_numbered(alloc, hub, subscriber, 2)
+}
+
+// Whether messages of the service have numbers.
+fn counts(alloc: Global, hub: &mut Recorded, service: &Named<PortFactory<PublishSubscribe>>) -> bool
+    requires { value_at hub.old.calls.factories service.now.number.value ≡ Some (made_factory.PublishSubscribe service.now.it) }
+{
+    let Some(Ok(publisher)) = hub.publisher(alloc, service, &PUBLISHER) else {
+        return false;
+    };
+    let Some(Ok(subscriber)) = hub.subscriber(alloc, service, &SUBSCRIBER) else {
+        let _ = publisher_leaves(hub, publisher);
+        return false;
+    };
+    let counts = are_numbered(alloc, hub, &publisher, &subscriber);
+    let publisher_left = publisher_leaves(hub, publisher);
+    let subscriber_left = subscriber_leaves(hub, subscriber);
+    counts && publisher_left && subscriber_left
+}
+
+// Whether messages of a service have numbers that is created so.
+fn is_created_with_numbers(alloc: Global, hub: &mut Recorded) -> bool {
+    let Ok(node) = hub.new_node() else {
+        return false;
+    };
+    let Ok(name) = ServiceName::new(b"ticks") else {
+        return false;
+    };
+    match hub.create(alloc, &node, name, &NUMBERED, &AttributeSpecifier::new()) {
+        Some(Ok(service)) => counts(alloc, hub, &service),
+        _ => false,
+    }
+}
+
 // Whether a node is refused that creates a service where another is about to, and one that opens a service where none stands.
 fn is_refused(alloc: Global, hub: &mut Recorded) -> bool {
     let Ok(node) = hub.new_node() else {
@@ -424,4 +514,5 @@ fn services_come_and_go(rt: HostRuntime) {
     let alloc = rt.alloc();
     let mut hub = Recorded::new(alloc, HubConfig::default());
     assert!(&rt; is_refused(alloc, &mut hub) && begins_and_ends(alloc, &mut hub));
+    assert!(&rt; is_created_with_numbers(alloc, &mut hub));
 }

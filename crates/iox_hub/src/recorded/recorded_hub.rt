@@ -666,6 +666,30 @@ impl<
         Some(sample.it.payload(&self.hub))
     }
 
+    /// The sequence number of the message of a sample that is held, if messages have any: what the command `Sequence` is answered. None
+    /// where the sample isn't held: never by `AreFollowed`, whatever ports left. No call is recorded.
+    /// Example: `let number = hub.sequence(&sample)?;`
+    pub fn sequence(&self, sample: &Named<slice::Sample<T, U>>) -> Option<Option<u64>>
+        requires { value_at self.now.calls.made.samples sample.now.number.value
+            ≡ Some (record { port = sample.now.it.port; taken = sample.now.it.taken }) }
+        ensures tells { IfSome result (λ sequence. AreFollowed B.fixed (λ handlers. B.degrades handlers) (λ handlers. B.decides handlers)
+            D.fixed (λ handler. D.degrades handler)
+            (record self.now.calls { asked = self.now.calls.asked ++ command.Sequence sample.now.number.value ∷ [] })
+            → Answers (types_of T.name T.size T.alignment U.name U.size U.alignment)
+            (as_named T.is_default) self.now.calls.config.expired_connection_buffer
+            (self.now.calls.asked ++ command.Sequence sample.now.number.value ∷ []) false
+            (self.now.calls.answers ++ reply.Sequence sequence ∷ [])) }
+        ensures held { AreFollowed B.fixed (λ handlers. B.degrades handlers) (λ handlers. B.decides handlers) D.fixed
+            (λ handler. D.degrades handler) self.now.calls → IsSome result }
+    {
+        typed_calls_are_a_run::<T, U, B, D>();
+        what_is_held_may_be_used::<T, U, B, D>();
+        if !sample.it.holds(&self.hub) {
+            return None;
+        }
+        Some(sample.it.header(&self.hub).sequence)
+    }
+
     /// A sample is released: the command `Release`. It is told as done, and its number is spent. The answer is whether it was held: it was,
     /// by `AreFollowed`, whatever ports left.
     /// Example: `hub.release(sample);`
