@@ -326,12 +326,12 @@ goes_follows m who (Some lane) e may fit few k f = record {
   done = λ call has is. elim (Contains-append_cases m.finished
       (ended (Subscriber who) lane.call lane.first m.moments (subscriber_answer lane.port.call (length m.read))) call
       (subst (λ (xs : List FinishedCall). Contains xs call) (ap (λ (w : World). w.finished) now) has)) [
-    | inl old ↦ done_on m (Subscriber who) GoOn call fit (f.done call old is)
-    | inr new ↦
-        let r = recorded (Subscriber who) lane.call lane.first m.moments (subscriber_answer lane.port.call (length m.read)) call new in
-        let receives : lane.call ≡ name.Receive = ap (λ (x : FinishedCall). x.call) r.is ∙ is in
-        ends_now m who lane call e inside fit few k r receives (f.going who lane e inside receives)
-  ];
+        | inl old ↦ done_on m (Subscriber who) GoOn call fit (f.done call old is)
+        | inr new ↦
+            let r = recorded (Subscriber who) lane.call lane.first m.moments (subscriber_answer lane.port.call (length m.read)) call new in
+            let receives : lane.call ≡ name.Receive = ap (λ (x : FinishedCall). x.call) r.is ∙ is in
+            ends_now m who lane call e inside fit few k r receives (f.going who lane e inside receives)
+      ];
 }
   where
     after : SubscriberLaneState
