@@ -10,7 +10,7 @@ use Rattle.iox_hub_commands.specs.Creating.{CreatesAgreed}
 use Rattle.iox_hub_commands.specs.DescribeBase.Detail.{Detail}
 use Rattle.iox_hub_commands.specs.DescribeBase.declared.hash.ServiceHash.{ServiceHash}
 use Rattle.iox_hub_commands.specs.Either.{EitherJudged}
-use Rattle.iox_hub_commands.specs.Opening.{OpensJudged}
+use Rattle.iox_hub_base.specs.OfPattern.{OpensJudged}
 use Rattle.iox_negotiate.proofs.Meeting.{either-met, opens-met}
 use Rattle.iox_negotiate.specs.Factory.{membership}
 use Rattle.iox_negotiate.specs.Laws.{IsMet}

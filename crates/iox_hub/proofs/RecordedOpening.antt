@@ -20,7 +20,8 @@ use Rattle.iox_hub_commands.specs.DescribeBase.declared.attribute.Attribute.{Att
 use Rattle.iox_hub_commands.specs.DescribeBase.declared.message_type.MessageTypeDetails.{MessageTypeDetails}
 use Rattle.iox_hub_commands.specs.DescribeBase.declared.pattern.MessagingPattern.TheVariants as pattern
 use Rattle.iox_hub_commands.specs.Either.{EitherAs, EitherJudged}
-use Rattle.iox_hub_commands.specs.Opening.{OpensAs, OpensJudged}
+use Rattle.iox_hub_base.specs.OfPattern.{OpensJudged}
+use Rattle.iox_hub_commands.specs.Opening.{OpensAs}
 use Rattle.iox_hub_commands.specs.ServicesNumbering.{GetsNumber, Numbers}
 use Rattle.iox_hub_commands.specs.ServicesTables.{FactoryTable, parts_of, pattern_in}
 use Rattle.iox_hub_commands.specs.declared.services.made.MadeFactory.{MadeFactory}
