@@ -49,14 +49,14 @@ fn arrival<T: Copy, U: Copy, H: Home<T, U>>(
     home: &H,
     sample: u64,
 ) -> Result<Reply<T>, AllocError>
-    requires { IsSome (values_under (homes.ports_of H.domain_of) (value_at made.now.samples sample) home.now) }
-    ensures { IsShown sample (values_under (homes.ports_of H.domain_of) (value_at made.now.samples sample) home.now) result }
+    ensures { IsSome (values_under (homes.ports_of H.domain_of) (value_at made.now.samples sample) home.now)
+        → IsShown sample (values_under (homes.ports_of H.domain_of) (value_at made.now.samples sample) home.now) result }
 {
-    let Some(values) = made.read(home, sample) else {
-        unreachable!();
-    };
-    Ok(Reply::Received {
-        sample,
-        values: copied(alloc, values)?,
-    })
+    match made.read(home, sample) {
+        Some(values) => Ok(Reply::Received {
+            sample,
+            values: copied(alloc, values)?,
+        }),
+        None => Ok(Reply::Skipped),
+    }
 }
