@@ -2,7 +2,6 @@ pub mod Arrived
 mod Refused
 pub mod Misfit
 pub mod Answering
-pub mod PortsRefused
 pub mod Written
 mod Put
 mod Skipping

@@ -1,18 +1,17 @@
 //! The commands by which ports come, over the tables of what goes by numbers and any home.
 ghost use Rattle.iox_domain.specs.Homes as homes;
-ghost use Rattle.std.specs.Prelude.{◌≡◌, ◌+◌, ◌<◌, ◌^◌, Err, option_map};
-ghost use Rattle.iox_delivery.specs.Domain.Steps.{why_no_publisher, why_no_subscriber};
+ghost use Rattle.std.specs.Prelude.{◌+◌, ◌<◌, ◌^◌};
 ghost use Rattle.iox_hub_commands.specs.declared.ports.made.Made.{Made};
 ghost use Rattle.iox_hub_commands.specs.Arriving.{PublisherStep, SubscriberStep};
 ghost use Rattle.iox_hub_commands.specs.Naming.{publisher_config, subscriber_config};
 
 use crate::naming;
+use crate::ports::making::{why_no_publisher, why_no_subscriber};
 use crate::ports::{Made, PublisherParts};
 use crate::replies::{publisher_reply, subscriber_reply};
 use iox_command::{PublisherOptions, Reply, SubscriberOptions};
-use iox_domain::ports::{PublisherConfig, SubscriberConfig};
-use iox_domain::{DomainId, Home, calls};
-use iox_domain_values::{PortOwner, PublisherCreateError, SubscriberCreateError};
+use iox_domain::{DomainId, Home};
+use iox_domain_values::PortOwner;
 use std::alloc::Global;
 
 /// A publisher of slices comes to a domain, with what is named, and gets the next number; `handlers` decide for it. Skipped where
@@ -60,18 +59,6 @@ pub fn publisher_refused<T: Copy, U: Copy + Default, H: Home<T, U>>(
     publisher_reply(why_no_publisher(home, domain, &config))
 }
 
-// Why a publisher of this config doesn't come to a domain, if that is here.
-fn why_no_publisher<T: Copy, U: Copy, H: Home<T, U>>(
-    home: &H,
-    domain: DomainId,
-    config: &PublisherConfig,
-) -> Option<Result<u64, PublisherCreateError>>
-    ensures { result ≡ option_map (λ ports. Err (why_no_publisher config.now ports)) (homes.ports_of H.domain_of domain home.now) }
-{
-    let ports = calls::ports(home, domain)?;
-    Some(Err(ports.publisher_refusal(config)))
-}
-
 /// A subscriber comes to a domain, with what is named, and gets the next number; `handler` decides for it. Skipped where the
 /// domain isn't here; refused as `Made::make_subscriber` refuses it.
 pub fn subscriber<T: Copy, U: Copy, H: Home<T, U>>(
@@ -107,16 +94,4 @@ pub fn subscriber_refused<T: Copy, U: Copy, H: Home<T, U>>(
 {
     let config = naming::subscriber_config(owner, options);
     subscriber_reply(why_no_subscriber(home, domain, &config))
-}
-
-// Why a subscriber of this config doesn't come to a domain, if that is here.
-fn why_no_subscriber<T: Copy, U: Copy, H: Home<T, U>>(
-    home: &H,
-    domain: DomainId,
-    config: &SubscriberConfig,
-) -> Option<Result<u64, SubscriberCreateError>>
-    ensures { result ≡ option_map (λ ports. Err (why_no_subscriber config.now ports)) (homes.ports_of H.domain_of domain home.now) }
-{
-    let ports = calls::ports(home, domain)?;
-    Some(Err(ports.subscriber_refusal(config.buffer_size)))
 }

@@ -1,6 +1,6 @@
 //! Ports come, and get numbers.
 ghost use Rattle.iox_domain.specs.Homes as homes;
-ghost use Rattle.std.specs.Prelude.{◌<◌, ◌+◌, ◌^◌, length};
+ghost use Rattle.std.specs.Prelude.{◌≡◌, ◌<◌, ◌+◌, ◌^◌, length, Err, option_map};
 ghost use Rattle.iox_delivery.specs.Domain.AtHomes.{MakesAt};
 ghost use Rattle.iox_delivery.specs.Domain.Steps.{PublisherComes, SubscriberComes, why_no_publisher, why_no_subscriber};
 ghost use Rattle.iox_delivery.specs.DomainValues.declared.degradation.DegradationCause.TheVariants.{FailedToEstablishConnection};
@@ -120,8 +120,7 @@ impl Made {
             (with_publisher domain parts.entry.holds_slices) self.old.publishers.next self.old home.old result self.new home.new }
     {
         if room_for_one(&mut self.publishers).is_err() {
-            let ports = calls::ports(home, domain)?;
-            return Some(Err(ports.publisher_refusal(&parts.config)));
+            return why_no_publisher(home, domain, &parts.config);
         }
         self.create_publisher(alloc, home, domain, parts)
     }
@@ -148,9 +147,32 @@ impl Made {
             self.new home.new }
     {
         if room_for_one(&mut self.subscribers).is_err() {
-            let ports = calls::ports(home, domain)?;
-            return Some(Err(ports.subscriber_refusal(config.buffer_size)));
+            return why_no_subscriber(home, domain, &config);
         }
         self.create_subscriber(alloc, home, domain, config, handler)
     }
+}
+
+// Why a publisher of this config doesn't come to a domain, if that is here.
+pub(crate) fn why_no_publisher<T: Copy, U: Copy, H: Home<T, U>>(
+    home: &H,
+    domain: DomainId,
+    config: &PublisherConfig,
+) -> Option<Result<u64, PublisherCreateError>>
+    ensures { result ≡ option_map (λ ports. Err (why_no_publisher config.now ports)) (homes.ports_of H.domain_of domain home.now) }
+{
+    let ports = calls::ports(home, domain)?;
+    Some(Err(ports.publisher_refusal(config)))
+}
+
+// Why a subscriber of this config doesn't come to a domain, if that is here.
+pub(crate) fn why_no_subscriber<T: Copy, U: Copy, H: Home<T, U>>(
+    home: &H,
+    domain: DomainId,
+    config: &SubscriberConfig,
+) -> Option<Result<u64, SubscriberCreateError>>
+    ensures { result ≡ option_map (λ ports. Err (why_no_subscriber config.now ports)) (homes.ports_of H.domain_of domain home.now) }
+{
+    let ports = calls::ports(home, domain)?;
+    Some(Err(ports.subscriber_refusal(config.buffer_size)))
 }
