@@ -8,6 +8,7 @@ pub mod Slices
 pub mod Sequences
 pub mod Soundness
 pub mod Refusals
+pub mod EachAsked
 pub mod Middles
 pub mod Leaving
 pub mod Clearing

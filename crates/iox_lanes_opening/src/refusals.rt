@@ -7,6 +7,7 @@
 //! - [`slices`]: what isn't one value.
 //! - [`soundness`]: what no calls leave.
 //! - [`sequences`]: which numbers of messages are too large.
+//! - [`each_asked`]: one thing asked of each publisher.
 //! - [`reasons`]: the first reason that applies.
 //!
 //! First calls, of a domain:
@@ -17,6 +18,7 @@
 //! ```
 
 pub mod deciding;
+mod each_asked;
 pub mod into_lanes_error;
 pub mod lingering;
 pub mod reasons;

@@ -6,6 +6,7 @@ ghost use Rattle.iox_domain.specs.DomainPorts.Subscribing.{attached_at};
 ghost use Rattle.iox_lanes_opening.specs.Lingering.{connection_lingers, has_out, is_listed_publisher, publisher_lingers, leads_nowhere};
 ghost use Rattle.iox_lanes_opening.specs.Lingering.{has_left_over, is_listed_subscriber, subscriber_lingers, is_lingering};
 
+use crate::refusals::each_asked::{Question, has_such};
 use iox_domain::ports::ServicePorts;
 use iox_domain_ports::{PublisherPort, Publishers, Stage, SubscriberPort};
 
@@ -14,22 +15,11 @@ use iox_domain_ports::{PublisherPort, Publishers, Stage, SubscriberPort};
 pub fn is_lingering<T: Copy, U: Copy>(ports: &ServicePorts<T, U>) -> bool
     ensures { result ≡ is_lingering ports.now }
 {
-    has_lingering_publisher(ports) || has_lingering_subscriber(ports)
+    has_such(ports, Question::Lingering) || has_lingering_subscriber(ports)
 }
 
-fn has_lingering_publisher<T: Copy, U: Copy>(ports: &ServicePorts<T, U>) -> bool
-    ensures { result ≡ list_any (publisher_lingers ports.now.publisher_list) ports.now.publishers }
-{
-    for (number, port) in ports.publishers.iter() {
-        if publisher_lingers(ports, *number, port) {
-            return true;
-        }
-    }
-    false
-}
-
-// Whether a publisher left, or something of it is out.
-fn publisher_lingers<T: Copy, U: Copy>(
+/// Whether a publisher left, or something of it is out.
+pub(crate) fn publisher_lingers<T: Copy, U: Copy>(
     ports: &ServicePorts<T, U>,
     number: u64,
     port: &PublisherPort<T, U>,

@@ -3,6 +3,7 @@ ghost use Rattle.std.specs.Prelude.{◌≡◌};
 ghost use Rattle.iox_lanes_opening.specs.Refusals.{is_blocked, may_grow, has_growing, first_reason};
 
 use crate::refusals::deciding::{has_handlers, is_retrying};
+use crate::refusals::each_asked::{Question, has_such};
 use crate::refusals::into_lanes_error::IntoLanesError;
 use crate::refusals::lingering::is_lingering;
 use crate::refusals::sequences::has_too_large;
@@ -59,27 +60,18 @@ pub fn refusal<T: Copy, U: Copy>(domain: &Domain<T, U>) -> Option<IntoLanesError
 fn is_blocked<T: Copy, U: Copy>(ports: &ServicePorts<T, U>) -> bool
     ensures { result ≡ is_blocked ports.now }
 {
-    for (_number, port) in ports.publishers.iter() {
-        if port.sender.is_sending() {
-            return true;
-        }
-    }
-    false
+    has_such(ports, Question::Blocked)
 }
 
 // Whether the room of some publisher may grow.
 fn has_growing<T: Copy, U: Copy>(ports: &ServicePorts<T, U>) -> bool
     ensures { result ≡ has_growing ports.now }
 {
-    for (_number, port) in ports.publishers.iter() {
-        if may_grow(port.allocation) {
-            return true;
-        }
-    }
-    false
+    has_such(ports, Question::Growing)
 }
 
-fn may_grow(allocation: AllocationStrategy) -> bool
+/// Whether room of this strategy may grow.
+pub(crate) fn may_grow(allocation: AllocationStrategy) -> bool
     ensures { result ≡ may_grow allocation }
 {
     match allocation {

@@ -5,6 +5,7 @@ ghost use Rattle.iox_domain.specs.DomainSlots.Uses.{is_there};
 ghost use Rattle.iox_domain.specs.DomainPorts.Ports.{connection_of};
 ghost use Rattle.iox_lanes_opening.specs.Slices.{is_dynamic, is_slice, is_slice_in, slice_waits, keeps_slice, deals_in_slices, has_slices};
 
+use crate::refusals::each_asked::{Question, has_such};
 use iox_describe_base::TypeVariant;
 use iox_domain::Domain;
 use iox_domain_ports::{PublisherPort, Stage};
@@ -14,7 +15,8 @@ use iox_domain_ports::{PublisherPort, Stage};
 pub fn has_slices<T: Copy, U: Copy>(domain: &Domain<T, U>) -> bool
     ensures { result ≡ has_slices domain.now }
 {
-    is_dynamic(domain.agreed.types.payload.variant()) || has_slice_dealer(domain)
+    is_dynamic(domain.agreed.types.payload.variant())
+        || has_such(&domain.state.ports, Question::Slices)
 }
 
 fn is_dynamic(variant: TypeVariant) -> bool
@@ -26,18 +28,8 @@ fn is_dynamic(variant: TypeVariant) -> bool
     }
 }
 
-fn has_slice_dealer<T: Copy, U: Copy>(domain: &Domain<T, U>) -> bool
-    ensures { result ≡ list_any (λ entry. deals_in_slices entry.1) domain.now.state.ports.publishers }
-{
-    for (_number, port) in domain.state.ports.publishers.iter() {
-        if deals_in_slices(port) {
-            return true;
-        }
-    }
-    false
-}
-
-fn deals_in_slices<T: Copy, U: Copy>(port: &PublisherPort<T, U>) -> bool
+/// Whether a publisher deals in slices.
+pub(crate) fn deals_in_slices<T: Copy, U: Copy>(port: &PublisherPort<T, U>) -> bool
     ensures { result ≡ deals_in_slices port.now }
 {
     port.unit != 1 || port.sender.room() != 1 || keeps_slice(port)

@@ -10,6 +10,7 @@ ghost use Rattle.iox_lanes_opening.specs.Soundness.{attaches_twice, comes_again,
 ghost use Rattle.iox_lanes_opening.specs.Soundness.{share_publisher};
 ghost use Rattle.iox_lanes_opening.specs.Soundness.{share_slot, stands_again, waits_ill};
 
+use crate::refusals::each_asked::{Question, has_such};
 use iox_domain::ports::ServicePorts;
 use iox_domain_ports::{
     Attached, Member, PublisherEntry, PublisherPort, Stage, SubscriberEntry, SubscriberPort,
@@ -22,7 +23,7 @@ use iox_domain_values::ServiceSizes;
 pub fn is_unsound<T: Copy, U: Copy>(ports: &ServicePorts<T, U>) -> bool
     ensures { result ≡ is_unsound ports.now }
 {
-    !are_placed(ports) || has_misfit(ports) || has_attached_twice(ports)
+    !are_placed(ports) || has_such(ports, Question::Misfit) || has_attached_twice(ports)
 }
 
 // Whether each port is listed at its own place alone.
@@ -110,19 +111,8 @@ fn is_subscriber_placed<T: Copy, U: Copy>(
     }
 }
 
-fn has_misfit<T: Copy, U: Copy>(ports: &ServicePorts<T, U>) -> bool
-    ensures { result ≡ list_any (λ entry. is_misfit ports.now.sizes entry.1) ports.now.publishers }
-{
-    for (_number, port) in ports.publishers.iter() {
-        if is_misfit(ports.sizes, port) {
-            return true;
-        }
-    }
-    false
-}
-
-// Whether a publisher has slots of more segments than one, or isn't made for what is agreed, or its messages don't keep to that.
-fn is_misfit<T: Copy, U: Copy>(sizes: ServiceSizes, port: &PublisherPort<T, U>) -> bool
+/// Whether a publisher has slots of more segments than one, or isn't made for what is agreed, or its messages don't keep to that.
+pub(crate) fn is_misfit<T: Copy, U: Copy>(sizes: ServiceSizes, port: &PublisherPort<T, U>) -> bool
     ensures { result ≡ is_misfit sizes port.now }
 {
     is_misnumbered(sizes, port)
