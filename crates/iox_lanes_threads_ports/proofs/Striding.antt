@@ -7,6 +7,8 @@ use Rattle.iox_lanes_machine.specs.QueuesSteps.Access.{successor}
 use Rattle.iox_lanes_machine.specs.LanesBase.Numbers.{IsSmall}
 use Rattle.iox_lanes_machine.specs.LanesBase.declared.words.sizes.TableSizes.{TableSizes}
 use Rattle.iox_lanes_machine.specs.LanesBase.declared.words.access.SharedAccess.{SharedAccess}
+use Rattle.iox_lanes_machine.specs.LanesBase.declared.words.access.SharedAccess.TheVariants.{Store}
+use Rattle.iox_lanes_machine.specs.LanesBase.declared.words.word.SharedWord.TheVariants.{Slot}
 use Rattle.iox_lanes_machine.specs.LanesBase.Publishing.{publisher_next, publisher_is_over, write_from, write_at, head_from, head_at}
 use Rattle.iox_lanes_machine.specs.LanesBase.declared.calls.publisher.PublisherCall.{PublisherCall}
 use Rattle.iox_lanes_machine.specs.LanesBase.declared.calls.publisher.PublisherCall.TheVariants as publishing
@@ -22,7 +24,7 @@ use Rattle.iox_lanes_threads_ports.specs.Courses.{publisher_party, publisher_ste
 use Rattle.iox_lanes_threads_ports.specs.Ports.{PublisherStands}
 use Rattle.iox_lanes_threads_ports.specs.declared.strides.SlotPart.{SlotPart}
 use Rattle.iox_lanes_threads_ports.specs.declared.strides.SlotPart.TheVariants.{Payload, Head}
-use Rattle.iox_lanes_threads_ports.specs.SlotParts.{storing, storing_at}
+use Rattle.iox_lanes_threads_ports.specs.SlotParts.{storing, storing_at, part_word}
 use Rattle.iox_lanes_threads_ports.specs.Strides.{called, PublisherStrides, Strode, PublisherStrode, TouchesWord, LaneKind, publishers}
 use Rattle.iox_lanes_threads_ports.specs.Strides.{GoesAhead, MayStride, StridesOn}
 use Rattle.iox_lanes_threads_ports.specs.Strides.PublisherStrides.{stays, goes}
@@ -118,6 +120,11 @@ pub storing_first : (part : SlotPart) (words : List ℕ) (slot first : ℕ) → 
     → storing_at part words slot 0 ≡ storing part slot 0 first
 storing_first Payload words slot first is = ap (write_from slot 0) is
 storing_first Head words slot first is = ap (head_from slot 0) is
+
+pub storing_stores : (part : SlotPart) (slot word value : ℕ)
+    → publisher_next (storing part slot word value) ≡ Store (Slot slot (part_word part word)) value
+storing_stores Payload slot word value = refl
+storing_stores Head slot word value = refl
 
 pub storing_here : (part : SlotPart) (words : List ℕ) (slot k : ℕ) → k < length words
     → storing_at part words slot k ≡ storing part slot k (get_or words k 0)

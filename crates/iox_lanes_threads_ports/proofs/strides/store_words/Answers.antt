@@ -1,7 +1,11 @@
 use Rattle.std.proofs.lemmas.Option.{slice_get_within}
 use Rattle.std.proofs.Common.{ℕ, ◌≡◌, ◌+◌, ◌-◌, ◌<◌, ◌^◌, List, length, get_or, refl, sym, ap, subst, ◌∙◌, arith}
 use Rattle.iox_lanes_machine.specs.LanesBase.Numbers.{IsSmall}
+use Rattle.iox_lanes_machine.specs.LanesBase.Publishing.{publisher_next}
 use Rattle.iox_lanes_machine.specs.LanesBase.declared.calls.publisher.PublisherCall.{PublisherCall}
+use Rattle.iox_lanes_machine.specs.LanesBase.declared.words.access.SharedAccess.TheVariants.{Store}
+use Rattle.iox_lanes_machine.specs.LanesBase.declared.words.word.SharedWord.TheVariants.{Slot}
+use Rattle.iox_lanes_machine.specs.LanesBase.declared.words.word.SlotWord.{SlotWord}
 use Rattle.iox_lanes_machine.specs.LanesParties.Publishers.{words_of as call_words}
 use Rattle.iox_lanes_machine.specs.LanesParties.Parties.{publisher_after}
 use Rattle.iox_lanes_threads_rule.specs.Acts.{port_of}
@@ -9,7 +13,7 @@ use Rattle.iox_lanes_threads_ports.specs.Ports.{PublisherStands}
 use Rattle.iox_lanes_threads_ports.specs.SlotParts.{storing, storing_at}
 use Rattle.iox_lanes_threads_ports.specs.Strides.{called, PublisherStrode}
 use Rattle.iox_lanes_threads_ports.proofs.Striding.{publisher_goes_ahead, strode_none, at_first, storing_first, storing_here, storing_on}
-use Rattle.iox_lanes_threads_ports.proofs.Striding.{few_stored}
+use Rattle.iox_lanes_threads_ports.proofs.Striding.{few_stored, storing_stores}
 use Rattle.iox_lanes_threads_ports.proofs.strides.store_words.Goals as goal
 
 pub loop-at-init : goal.loop-at-init
@@ -34,6 +38,13 @@ store_ahead-requires-clause-stands g c =
     (λ (xs : List ℕ). storing c.args.part c.args.slot c.loop-at.at (get_or xs c.loop-at.at 0)) (sym stored) ∙ sym
     c.storing-call.ensures in
     subst (λ (call : PublisherCall). PublisherStands (port_of c.loop-at.seat.me) (called call lane)) here c.loop-at.invariant.2.stands
+
+pub store_ahead-requires-clause-next : goal.store_ahead-requires-clause-next
+store_ahead-requires-clause-next g c =
+    ap publisher_next c.storing-call.ensures
+    ∙ storing_stores c.args.part c.args.slot c.loop-at.at (get_or c.stored-stored.result.now c.loop-at.at 0)
+    ∙ ap (λ (word : SlotWord). Store (Slot c.args.slot word) (get_or c.stored-stored.result.now c.loop-at.at 0))
+    (sym c.part_word-own.ensures)
 
 pub loop-at-preserved : goal.loop-at-preserved
 loop-at-preserved g c =

@@ -1,9 +1,10 @@
-use Rattle.std.proofs.Common.{ℕ, ◌≡◌, ◌+◌, ◌<◌, refl, subst, arith}
+use Rattle.std.proofs.Common.{ℕ, ◌≡◌, ◌+◌, ◌<◌, refl, subst, arith, ◌∙◌}
 use Rattle.iox_lanes_machine.specs.LanesBase.Subscribing.{read_at}
 use Rattle.iox_lanes_machine.specs.LanesBase.declared.calls.subscriber.SubscriberCall.{SubscriberCall}
 use Rattle.iox_lanes_machine.specs.LanesBase.declared.calls.subscriber.SubscriberCall.TheVariants as subscribing
 use Rattle.iox_lanes_machine.specs.LanesParties.Parties.{subscriber_after}
 use Rattle.iox_lanes_threads_rule.specs.Acts.{port_of}
+use Rattle.iox_lanes_threads_ports.specs.Ports.{SubscriberStands}
 use Rattle.iox_lanes_threads_ports.specs.Strides.{subscriber_called, SubscriberStrode}
 use Rattle.iox_lanes_threads_ports.proofs.Striding.{strode_none}
 use Rattle.iox_lanes_threads_ports.proofs.SubscriberStriding.{subscriber_goes_ahead, strode_same, at_first, reads_at}
@@ -20,6 +21,12 @@ loop-word-init g c = (
       (strode_none subscriber_goes_ahead c.args.seat.now.me c.args.lane.now c.requires.seat.0 c.requires.stands),
 )
 
+pub read_word-requires-clause-stands : goal.read_word-requires-clause-stands
+read_word-requires-clause-stands g c =
+    let some : c.loop-word.word < 3 + c.args.extent.user_header_words + c.args.extent.payload_words = omega arith in
+    subst (λ (call : SubscriberCall). SubscriberStands (port_of c.loop-word.seat.me) (subscriber_called call c.loop-word.lane))
+    (reads_at c.args.slot c.loop-word.word c.args.extent some) c.loop-word.invariant.2.stands
+
 pub loop-word-2-init : goal.loop-word-2-init
 loop-word-2-init g c = (
   c.loop-word.invariant.0,
@@ -28,6 +35,45 @@ loop-word-2-init g c = (
       subst (λ (word : ℕ). SubscriberStrode (port_of c.args.seat.now.me) c.args.lane.now c.loop-word.seat.me
       (subscriber_called (read_at c.args.slot c.args.extent word) c.loop-word.lane)) ended c.loop-word.invariant.2,
 )
+
+pub loop-word-preserved : goal.loop-word-preserved
+loop-word-preserved g c =
+    let some : c.loop-word.word < 3 + c.args.extent.user_header_words + c.args.extent.payload_words = omega arith in
+    let reads : SubscriberStrode (port_of c.args.seat.now.me) c.args.lane.now c.loop-word.seat.me
+    (subscriber_called (subscribing.Reading c.args.slot c.loop-word.word c.args.extent) c.loop-word.lane) =
+    subst (λ (call : SubscriberCall). SubscriberStrode (port_of c.args.seat.now.me) c.args.lane.now c.loop-word.seat.me
+    (subscriber_called call c.loop-word.lane)) (reads_at c.args.slot c.loop-word.word c.args.extent some) c.loop-word.invariant.2 in (
+      c.read_word.ensures.table.0 ∙ c.loop-word.invariant.0,
+      c.read_word.ensures.table.1 ∙ c.loop-word.invariant.1,
+      c.read_word.ensures.strode (port_of c.args.seat.now.me) c.args.lane.now reads,
+    )
+
+pub loop-word-2-preserved : goal.loop-word-2-preserved
+loop-word-2-preserved g c =
+    let some : c.loop-word-2.word < 3 + c.args.extent.user_header_words + c.args.extent.payload_words = omega arith in
+    let reads : SubscriberStrode (port_of c.args.seat.now.me) c.args.lane.now c.loop-word-2.seat.me
+    (subscriber_called (subscribing.Reading c.args.slot c.loop-word-2.word c.args.extent) c.loop-word-2.lane) =
+    subst (λ (call : SubscriberCall). SubscriberStrode (port_of c.args.seat.now.me) c.args.lane.now c.loop-word-2.seat.me
+    (subscriber_called call c.loop-word-2.lane)) (reads_at c.args.slot c.loop-word-2.word c.args.extent some) c.loop-word-2.invariant.2 in (
+      c.read_word-in-loop-word-2.ensures.table.0 ∙ c.loop-word-2.invariant.0,
+      c.read_word-in-loop-word-2.ensures.table.1 ∙ c.loop-word-2.invariant.1,
+      c.read_word-in-loop-word-2.ensures.strode (port_of c.args.seat.now.me) c.args.lane.now reads,
+    )
+
+pub read_word-requires-in-loop-word-2-clause-stands : goal.read_word-requires-in-loop-word-2-clause-stands
+read_word-requires-in-loop-word-2-clause-stands g c =
+    let some : c.loop-word-2.word < 3 + c.args.extent.user_header_words + c.args.extent.payload_words = omega arith in
+    subst (λ (call : SubscriberCall). SubscriberStands (port_of c.loop-word-2.seat.me) (subscriber_called call c.loop-word-2.lane))
+    (reads_at c.args.slot c.loop-word-2.word c.args.extent some) c.loop-word-2.invariant.2.stands
+
+pub load_ahead-value-requires-clause-stands : goal.load_ahead-value-requires-clause-stands
+load_ahead-value-requires-clause-stands g c =
+    let ended : c.loop-word-2.word ≡ 2 + c.args.extent.user_header_words + c.args.extent.payload_words = omega arith in
+    let some : c.loop-word-2.word < 3 + c.args.extent.user_header_words + c.args.extent.payload_words = omega arith in
+    subst (λ (word : ℕ). SubscriberStands (port_of c.loop-word-2.seat.me)
+    (subscriber_called (subscribing.Reading c.args.slot word c.args.extent) c.loop-word-2.lane)) ended
+    (subst (λ (call : SubscriberCall). SubscriberStands (port_of c.loop-word-2.seat.me) (subscriber_called call c.loop-word-2.lane))
+    (reads_at c.args.slot c.loop-word-2.word c.args.extent some) c.loop-word-2.invariant.2.stands)
 
 pub returns-clause-strode : goal.returns-clause-strode
 returns-clause-strode g c =
