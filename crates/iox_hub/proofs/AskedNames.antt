@@ -3,7 +3,6 @@ use Rattle.std.proofs.Common.{◌≡◌, ℕ, ◌+◌, suc, List, [], ◌∷◌,
 use Rattle.std.specs.List.{AllByRecursion, IsAmong}
 use Rattle.iox_command.specs.declared.command.Command.{Command}
 use Rattle.iox_command.specs.declared.command.Command.TheVariants as command
-use Rattle.iox_hub.specs.Recording.{SendsNoLoan}
 use Rattle.iox_hub_machine.specs.RunLaws.{AsksAmong, all_asked, names_in}
 
 first_among : (name : List ℕ) (names : List (List ℕ)) → IsAmong (name ∷ names) name
@@ -66,9 +65,3 @@ module _ {T : Type 0} where
       → AllByRecursion P first × AllByRecursion P rest
   both_all P [] rest all = (tt, all)
   both_all P (asked ∷ first) rest all = let (before, behind) = both_all P first rest all.1 in ((all.0, before), behind)
-
-  -- where no loan was sent by commands, nor by one more, none was sent
-  pub loanless_too : (first : List (Command T)) (one : Command T) → AllByRecursion (λ it. SendsNoLoan it) first → SendsNoLoan one
-      → AllByRecursion (λ it. SendsNoLoan it) (first ++ one ∷ [])
-  loanless_too [] one all so = (so, tt)
-  loanless_too (asked ∷ first) one all so = (all.0, loanless_too first one all.1 so)

@@ -14,11 +14,10 @@ use Rattle.iox_hub_commands.specs.Numbering.{removed_if}
 use Rattle.iox_hub_commands.specs.Tables.{no_numbers}
 use Rattle.iox_hub_commands.specs.declared.ports.made.Made.{Made}
 use Rattle.iox_hub_commands.specs.declared.ports.made.MadeSample.{MadeSample}
-use Rattle.iox_hub.proofs.AskedNames.{loanless_too}
-use Rattle.iox_hub.specs.Recording.{HasCome, HaveTold, SendsNoLoan}
+use Rattle.iox_hub.specs.Recording.{HasCome, HaveTold}
 
 pub told_none : {T : Type 0} → HaveTold {T = T} no_numbers [] []
-told_none = record { long = refl; loanless = tt; came = λ number held is. cc }
+told_none = record { long = refl; came = λ number held is. cc }
 
 as_long : {T : Type 0} (asked : List (Command T)) (answers : List (Reply T)) (one : Command T) (answer : Reply T)
     → length answers ≡ length asked → length (answers ++ answer ∷ []) ≡ length (asked ++ one ∷ [])
@@ -42,22 +41,21 @@ module _ {T : Type 0} {asked : List (Command T)} {answers : List (Reply T)} wher
   }
 
   -- one call more
-  pub told_too : {samples : NumberTable MadeSample} (one : Command T) (answer : Reply T) → HaveTold samples asked answers → SendsNoLoan one
+  pub told_too : {samples : NumberTable MadeSample} (one : Command T) (answer : Reply T) → HaveTold samples asked answers
       → HaveTold samples (asked ++ one ∷ []) (answers ++ answer ∷ [])
-  told_too one answer told so = record {
+  told_too one answer told = record {
     long = as_long asked answers one answer told.long;
-    loanless = loanless_too asked one told.loanless so;
     came = λ number held is. came_on one answer (told.came number held is);
   }
 
   -- a port that leaves, if it does, leaves the samples
   pub told_left : (left : Bool) (leaves : Made → Made) (made : Made) → ((it : Made) → (leaves it).samples ≡ it.samples) → (one : Command T)
-      (answer : Reply T) → HaveTold made.samples asked answers → SendsNoLoan one
+      (answer : Reply T) → HaveTold made.samples asked answers
       → HaveTold (removed_if left leaves made).samples (asked ++ one ∷ []) (answers ++ answer ∷ [])
-  told_left true leaves made same one answer told so =
+  told_left true leaves made same one answer told =
       subst (λ (samples : NumberTable MadeSample). HaveTold samples (asked ++ one ∷ []) (answers ++ answer ∷ [])) (sym (same made))
-      (told_too one answer told so)
-  told_left false leaves made same one answer told so = told_too one answer told so
+      (told_too one answer told)
+  told_left false leaves made same one answer told = told_too one answer told
 
   -- a sample that comes goes by the next number
   pub told_received : {samples : NumberTable MadeSample} (subscriber : ℕ) (values : Vec T) (it : MadeSample)
@@ -65,7 +63,6 @@ module _ {T : Type 0} {asked : List (Command T)} {answers : List (Reply T)} wher
       → HaveTold (inserted samples it) (asked ++ command.Receive subscriber ∷ []) (answers ++ reply.Received samples.next values ∷ [])
   told_received {samples} subscriber values it told = record {
     long = as_long asked answers (command.Receive subscriber) (reply.Received samples.next values) told.long;
-    loanless = loanless_too asked (command.Receive subscriber) told.loanless tt;
     came = λ number held is. elim (cases_Bool (number == samples.next)) [
       | inl same ↦ subst (λ (n : ℕ). HasCome n (asked ++ command.Receive subscriber ∷ [])
           (answers ++ reply.Received samples.next values ∷ [])) (sym (eqb-true number samples.next same)) (record {
@@ -90,7 +87,6 @@ module _ {T : Type 0} {asked : List (Command T)} {answers : List (Reply T)} wher
       → HaveTold (removed samples sample) (asked ++ command.Release sample ∷ []) (answers ++ answer ∷ [])
   told_released {samples} sample answer rises told = record {
     long = as_long asked answers (command.Release sample) answer told.long;
-    loanless = loanless_too asked (command.Release sample) told.loanless tt;
     came = λ number held is. elim (cases_Bool (number == sample)) [
       | inl same ↦
           let gone = lookup-removed sample 1 samples.next samples.entries rises in

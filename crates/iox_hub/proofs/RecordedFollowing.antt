@@ -66,7 +66,7 @@ module _ {T U B D : Type 0} (payload user_header : Detail) (is_default : T → T
   publisher_updated {fit} goes_on steps old hub after number follower None there (never, same) was =
       subst (λ (it : Hub T U B D). Kept fit (asked_too (command.Update (port.Publisher number)) reply.Skipped old) it) (sym same)
       (skipped_on payload user_header is_default is_default_header fixed degrades decides fixed_reader reader_degrades goes_on old hub hub
-      (command.Update (port.Publisher number)) tt refl
+      (command.Update (port.Publisher number)) refl
       (λ names most state it. (
         (
           None,
@@ -80,7 +80,7 @@ module _ {T U B D : Type 0} (payload user_header : Detail) (is_default : T → T
       )) was)
   publisher_updated goes_on steps old hub after number follower (Some answer) there (may, follows) was =
       plain_on payload user_header is_default is_default_header fixed degrades decides fixed_reader reader_degrades goes_on old hub after
-      (command.Update (port.Publisher number)) (updated_reply (Some answer)) tt
+      (command.Update (port.Publisher number)) (updated_reply (Some answer))
       (at_keeps follower.domain (UpdatesBy (publisher_may_degrade degrades follower.domain follower.number hub) follower.number)
       (hub_ports follower.domain hub) hub after (Some answer) follows)
       (steps number follower (numbered old hub) after answer there follows) was
@@ -96,10 +96,10 @@ module _ {T U B D : Type 0} (payload user_header : Detail) (is_default : T → T
       → Kept fit old hub → Kept fit (asked_too (command.Update (port.Subscriber number)) (updated_reply answer) old) after
   subscriber_updated goes_on steps may_use old hub after number follower None there (never, same) was =
       absent_on payload user_header is_default is_default_header fixed degrades decides fixed_reader reader_degrades goes_on may_use old hub
-      after (command.Update (port.Subscriber number)) tt number follower there never same was
+      after (command.Update (port.Subscriber number)) number follower there never same was
   subscriber_updated goes_on steps may_use old hub after number follower (Some answer) there (may, follows) was =
       plain_on payload user_header is_default is_default_header fixed degrades decides fixed_reader reader_degrades goes_on old hub after
-      (command.Update (port.Subscriber number)) (updated_reply (Some answer)) tt
+      (command.Update (port.Subscriber number)) (updated_reply (Some answer))
       (at_keeps follower.domain (FollowsBy (subscriber_may_degrade reader_degrades follower.domain follower.number hub) follower.number)
       (hub_ports follower.domain hub) hub after (Some answer) follows)
       (steps number follower (numbered old hub) after answer there follows) was
@@ -114,10 +114,10 @@ module _ {T U B D : Type 0} (payload user_header : Detail) (is_default : T → T
       → Kept fit old hub → Kept fit (asked_too (command.Has number) (has_reply answer) old) after
   samples_told goes_on steps may_use old hub after number asker None there (never, same) was =
       absent_on payload user_header is_default is_default_header fixed degrades decides fixed_reader reader_degrades goes_on may_use old hub
-      after (command.Has number) tt number asker there never same was
+      after (command.Has number) number asker there never same was
   samples_told goes_on steps may_use old hub after number asker (Some answer) there (may, tells) was =
       plain_on payload user_header is_default is_default_header fixed degrades decides fixed_reader reader_degrades goes_on old hub after
-      (command.Has number) (has_reply (Some answer)) tt
+      (command.Has number) (has_reply (Some answer))
       (at_keeps asker.domain (TellsBy (subscriber_may_degrade reader_degrades asker.domain asker.number hub) asker.number)
       (hub_ports asker.domain hub) hub after (Some answer) tells)
       (steps number asker (numbered old hub) after answer there tells) was

@@ -104,7 +104,7 @@ use Rattle.iox_hub.specs.Recorded.{AreFollowed, Calls, asked_too}
 use Rattle.iox_hub.specs.RecordedNames.{received_by}
 use Rattle.iox_hub.specs.declared.recorded.named.Number.{Number}
 use Rattle.iox_hub.specs.Recording.{IsDoneIf, IsDoneOrBack, IsRecorded, IsRun, newest_is_known, numbered}
-use Rattle.iox_hub.specs.Recording.{AllFit, SendsNoLoan, asked_with, no_calls, told_sent_if, values_there}
+use Rattle.iox_hub.specs.Recording.{AllFit, asked_with, no_calls, told_sent_if, values_there}
 use Rattle.iox_hub.proofs.RecordedIds.{at_keeps, drops_keeps, leaves_keeps, makes_keeps, receive_keeps, retry_keeps}
 use Rattle.iox_hub.proofs.RecordedIds.{slice_keeps}
 
@@ -275,25 +275,25 @@ module _ {T U B D : Type 0} (payload user_header : Detail) (is_default : T → T
   -- a call that leaves what the program holds as it was
   pub plain_on : {fit : Bool} → CallsGoOn payload user_header types is_default is_default_header fixed degrades decides fixed_reader
       reader_degrades
-      → (old : Calls T) (hub after : Hub T U B D) (asked : Command T) (answer : Reply T) → SendsNoLoan asked
+      → (old : Calls T) (hub after : Hub T U B D) (asked : Command T) (answer : Reply T)
       → after.table.id ≡ hub.table.id → Steps asked (numbered old hub) answer (numbered old after)
       → Recorded fit old hub → Recorded fit (asked_too asked answer old) after
-  plain_on goes_on old hub after asked answer so kept does was = record {
+  plain_on goes_on old hub after asked answer kept does was = record {
     rise = was.rise;
     id = kept ∙ was.id;
     all_fit = was.all_fit;
-    told = told_too asked answer was.told so;
+    told = told_too asked answer was.told;
     run = run_on goes_on old hub after asked answer old.made old.factories does was.run;
   }
 
   -- a call that isn't made is a command that is skipped
   pub skipped_on : {fit : Bool} → CallsGoOn payload user_header types is_default is_default_header fixed degrades decides fixed_reader
       reader_degrades
-      → (old : Calls T) (hub after : Hub T U B D) (asked : Command T) → SendsNoLoan asked → after.table.id ≡ hub.table.id
+      → (old : Calls T) (hub after : Hub T U B D) (asked : Command T) → after.table.id ≡ hub.table.id
       → ((names : List (List ℕ)) (most : ℕ) (state : State T) → Stood names most (numbered old hub) state → Skips asked old hub after)
       → Recorded fit old hub → Recorded fit (asked_too asked reply.Skipped old) after
-  skipped_on goes_on old hub after asked so kept skips was =
-      plain_on goes_on old hub after asked reply.Skipped so kept
+  skipped_on goes_on old hub after asked kept skips was =
+      plain_on goes_on old hub after asked reply.Skipped kept
       (by_step payload user_header Dynamic is_default is_default_header fixed degrades decides fixed_reader reader_degrades
       asked (numbered old hub) (numbered old after) reply.Skipped skips) was
 
@@ -301,12 +301,12 @@ module _ {T U B D : Type 0} (payload user_header : Detail) (is_default : T → T
   pub absent_on : {fit : Bool} → CallsGoOn payload user_header types is_default is_default_header fixed degrades decides fixed_reader
       reader_degrades
       → HeldMayBeUsed U types is_default degrades decides reader_degrades
-      → (old : Calls T) (hub after : Hub T U B D) (asked : Command T) → SendsNoLoan asked → (number : ℕ) (who : PortId)
+      → (old : Calls T) (hub after : Hub T U B D) (asked : Command T) → (number : ℕ) (who : PortId)
       → value_at old.made.subscribers number ≡ Some who → subscriber_stands who.number (hub_ports who.domain hub) ≡ false → after ≡ hub
       → Recorded fit old hub → Recorded fit (asked_too asked reply.Skipped old) after
-  absent_on {fit} goes_on may_use old hub after asked so number who there never same was =
+  absent_on {fit} goes_on may_use old hub after asked number who there never same was =
       subst (λ (it : Hub T U B D). Recorded fit (asked_too asked reply.Skipped old) it) (sym same)
-      (skipped_on goes_on old hub hub asked so refl
+      (skipped_on goes_on old hub hub asked refl
       (λ names most state it. never_so (subscriber_stands who.number (hub_ports who.domain hub))
       ((may_use names most (numbered old hub) state it).subscribers number who there) never) was)
 
@@ -372,7 +372,7 @@ module _ {T U B D : Type 0} (payload user_header : Detail) (is_default : T → T
       → after ≡ record hub { nodes = one_more hub.nodes }
       → Recorded fit old hub → Recorded fit (asked_too command.Node (told_node answer) old) after
   node_recorded goes_on steps old hub after answer is same was =
-      plain_on goes_on old hub after command.Node (told_node answer) tt (ap (λ hub. hub.table.id) same)
+      plain_on goes_on old hub after command.Node (told_node answer) (ap (λ hub. hub.table.id) same)
       (steps (numbered old hub) after answer is same) was
 
   pub put_recorded : {fit : Bool} → CallsGoOn payload user_header types is_default is_default_header fixed degrades decides fixed_reader
@@ -385,7 +385,7 @@ module _ {T U B D : Type 0} (payload user_header : Detail) (is_default : T → T
       → Recorded fit old hub → Recorded fit (asked_too (command.Put number values) (told_sent_if answer) old) after
   put_recorded {fit} goes_on steps old hub after number lender values None there (never, same) was =
       subst (λ (it : Hub T U B D). Recorded fit (asked_too (command.Put number values) reply.Skipped old) it) (sym same)
-      (skipped_on goes_on old hub hub (command.Put number values) tt refl
+      (skipped_on goes_on old hub hub (command.Put number values) refl
       (λ names most state it. (
         (
           None,
@@ -397,7 +397,7 @@ module _ {T U B D : Type 0} (payload user_header : Detail) (is_default : T → T
         refl,
       )) was)
   put_recorded goes_on steps old hub after number lender values (Some answer) there (may, sends) was =
-      plain_on goes_on old hub after (command.Put number values) (told_sent answer) tt
+      plain_on goes_on old hub after (command.Put number values) (told_sent answer)
       (slice_keeps degrades decides lender values hub after answer sends)
       (steps number lender values (numbered old hub) after answer there
       (not_waiting (publisher_stands lender.number (hub_ports lender.domain hub))
@@ -414,7 +414,7 @@ module _ {T U B D : Type 0} (payload user_header : Detail) (is_default : T → T
       → Recorded fit old hub → Recorded fit (asked_too (command.Retry number nanoseconds) (told_sent_if (result_ok answer)) old) after
   retry_recorded {fit} goes_on steps old hub after number nanoseconds sender waits (Err back) there (never, is, same) was =
       subst (λ (it : Hub T U B D). Recorded fit (asked_too (command.Retry number nanoseconds) reply.Skipped old) it) (sym same)
-      (skipped_on goes_on old hub hub (command.Retry number nanoseconds) tt refl
+      (skipped_on goes_on old hub hub (command.Retry number nanoseconds) refl
       (λ names most state it. (
         (
           None,
@@ -427,7 +427,7 @@ module _ {T U B D : Type 0} (payload user_header : Detail) (is_default : T → T
         refl,
       )) was)
   retry_recorded goes_on steps old hub after number nanoseconds sender waits (Ok answer) there tries was =
-      plain_on goes_on old hub after (command.Retry number nanoseconds) (told_sent answer) tt
+      plain_on goes_on old hub after (command.Retry number nanoseconds) (told_sent answer)
       (retry_keeps decides sender nanoseconds hub after answer tries)
       (steps number nanoseconds sender (numbered old hub) after answer there tries) was
 
@@ -439,7 +439,7 @@ module _ {T U B D : Type 0} (payload user_header : Detail) (is_default : T → T
       → EndsSend hub_ports with_hub_ports sender hub answer after
       → Recorded fit old hub → Recorded fit (asked_too (command.GiveUp number) (given_up_reply answer) old) after
   give_up_recorded goes_on steps old hub after number sender answer there ends was =
-      plain_on goes_on old hub after (command.GiveUp number) (given_up_reply answer) tt
+      plain_on goes_on old hub after (command.GiveUp number) (given_up_reply answer)
       (at_keeps sender.domain (GivesUpBy sender.number) (hub_ports sender.domain hub) hub after answer ends)
       (steps number sender (numbered old hub) after answer there ends) was
 
@@ -455,7 +455,7 @@ module _ {T U B D : Type 0} (payload user_header : Detail) (is_default : T → T
       → Recorded fit old hub → Recorded (fit && newest_is_known answer after) (calls_received after number answer old) after
   receive_recorded {fit} goes_on steps may_use old hub after number receiver None there (never, same) was =
       subst (λ (it : Bool). Recorded it (asked_too (command.Receive number) reply.Skipped old) after) (sym (and_true fit))
-      (absent_on goes_on may_use old hub after (command.Receive number) tt number receiver there never same was)
+      (absent_on goes_on may_use old hub after (command.Receive number) number receiver there never same was)
   receive_recorded {fit} goes_on steps may_use old hub after number receiver (Some (Ok (Some sample))) there (may, receives) was =
       let values : List T = values_there sample after in
       let it : MadeSample = record { port = sample.port; taken = sample.taken } in
@@ -486,13 +486,13 @@ module _ {T U B D : Type 0} (payload user_header : Detail) (is_default : T → T
       }
   receive_recorded {fit} goes_on steps may_use old hub after number receiver (Some (Ok None)) there (may, receives) was =
       subst (λ (it : Bool). Recorded it (asked_too (command.Receive number) reply.NothingWaits old) after) (sym (and_true fit))
-      (plain_on goes_on old hub after (command.Receive number) reply.NothingWaits tt
+      (plain_on goes_on old hub after (command.Receive number) reply.NothingWaits
       (receive_keeps reader_degrades receiver hub after (Ok None) receives)
       (steps number receiver (numbered old hub) after (Ok None) reply.NothingWaits there receives refl) was)
   receive_recorded {fit} goes_on steps may_use old hub after number receiver (Some (Err why)) there (may, receives) was =
       subst (λ (it : Bool). Recorded it (asked_too (command.Receive number) (reply.Refused (refusal.Receive why)) old) after)
       (sym (and_true fit))
-      (plain_on goes_on old hub after (command.Receive number) (reply.Refused (refusal.Receive why)) tt
+      (plain_on goes_on old hub after (command.Receive number) (reply.Refused (refusal.Receive why))
       (receive_keeps reader_degrades receiver hub after (Err why) receives)
       (steps number receiver (numbered old hub) after (Err why) (reply.Refused (refusal.Receive why)) there receives refl) was)
 
@@ -601,7 +601,7 @@ module _ {T U B D : Type 0} (payload user_header : Detail) (is_default : T → T
         (SubscriberLeaves leaver.number) (hub_ports leaver.domain hub) hub after left ends ∙ was.id;
     all_fit = was.all_fit;
     told = told_left left (without_subscriber number) old.made (λ it. refl)
-        (command.Leave (port.Subscriber number)) (done_reply left) was.told tt;
+        (command.Leave (port.Subscriber number)) (done_reply left) was.told;
     run = run_on goes_on old hub after (command.Leave (port.Subscriber number)) (done_reply left)
         (removed_if left (without_subscriber number) old.made) old.factories
         (steps number leaver (numbered old hub) after left there ends) was.run;
@@ -635,7 +635,7 @@ module _ {T U B D : Type 0} (payload user_header : Detail) (is_default : T → T
         (PublisherLeaves leaver.number) (hub_ports leaver.domain hub) hub after left ends ∙ was.id;
     all_fit = was.all_fit;
     told = told_left left (without_publisher number) old.made (λ it. refl)
-        (command.Leave (port.Publisher number)) (done_reply left) was.told tt;
+        (command.Leave (port.Publisher number)) (done_reply left) was.told;
     run = run_on goes_on old hub after (command.Leave (port.Publisher number)) (done_reply left)
         (removed_if left (without_publisher number) old.made) old.factories
         (steps number leaver (numbered old hub) after left there ends) was.run;
@@ -686,7 +686,7 @@ module _ {T U B D : Type 0} (payload user_header : Detail) (is_default : T → T
         (hub_ports (domain_of_factory parts) hub) hub answer after
         → Recorded fit old hub → Recorded fit (calls_publisher factory named (domain_of_factory parts) answer old) after
     publisher_recorded goes_on named steps header None default makes was =
-        skipped_on goes_on old hub after (command.Publisher factory named) tt (publisher_keeps named header None makes)
+        skipped_on goes_on old hub after (command.Publisher factory named) (publisher_keeps named header None makes)
         (λ names most state it. subst (λ (found : Option Opened). services.PublisherComes is_default_header fixed degrades found named
         (numbered old hub) reply.Skipped (numbered old after)) (sym there) (
           (header, default, None, (old.made, as_roomy old.made, (None, makes, (refl, refl))), refl),
@@ -704,13 +704,13 @@ module _ {T U B D : Type 0} (payload user_header : Detail) (is_default : T → T
           );
           id = publisher_keeps named header (Some (Ok number)) makes ∙ was.id;
           all_fit = was.all_fit;
-          told = told_too (command.Publisher factory named) (reply.PublisherMade old.made.publishers.next) was.told tt;
+          told = told_too (command.Publisher factory named) (reply.PublisherMade old.made.publishers.next) was.told;
           run = run_on goes_on old hub after (command.Publisher factory named) (reply.PublisherMade old.made.publishers.next)
               (with_publisher (domain_of_factory parts) true number old.made) old.factories (steps factory parts named header
               (numbered old hub) after (Ok number) there (λ worst_case slots is. is) default makes) was.run;
         }
     publisher_recorded goes_on named steps header (Some (Err why)) default makes was =
-        plain_on goes_on old hub after (command.Publisher factory named) (reply.Refused (refusal.Publisher why)) tt
+        plain_on goes_on old hub after (command.Publisher factory named) (reply.Refused (refusal.Publisher why))
         (publisher_keeps named header (Some (Err why)) makes)
         (steps factory parts named header (numbered old hub) after (Err why) there (λ worst_case slots is. is) default makes) was
 
@@ -739,7 +739,7 @@ module _ {T U B D : Type 0} (payload user_header : Detail) (is_default : T → T
         (hub_ports (domain_of_factory parts) hub) hub answer after
         → Recorded fit old hub → Recorded fit (calls_subscriber factory named (domain_of_factory parts) answer old) after
     subscriber_recorded goes_on steps named None makes was =
-        skipped_on goes_on old hub after (command.Subscriber factory named) tt (subscriber_keeps named None makes)
+        skipped_on goes_on old hub after (command.Subscriber factory named) (subscriber_keeps named None makes)
         (λ names most state it. subst (λ (found : Option Opened). services.SubscriberComes fixed_reader reader_degrades found named
         (numbered old hub) reply.Skipped (numbered old after)) (sym there) (
           (None, (old.made, as_roomy old.made, (None, makes, (refl, refl))), refl),
@@ -757,12 +757,12 @@ module _ {T U B D : Type 0} (payload user_header : Detail) (is_default : T → T
           );
           id = subscriber_keeps named (Some (Ok number)) makes ∙ was.id;
           all_fit = was.all_fit;
-          told = told_too (command.Subscriber factory named) (reply.SubscriberMade old.made.subscribers.next) was.told tt;
+          told = told_too (command.Subscriber factory named) (reply.SubscriberMade old.made.subscribers.next) was.told;
           run = run_on goes_on old hub after (command.Subscriber factory named) (reply.SubscriberMade old.made.subscribers.next)
               (with_subscriber (domain_of_factory parts) number old.made) old.factories
               (steps factory parts named (numbered old hub) after (Ok number) there makes) was.run;
         }
     subscriber_recorded goes_on steps named (Some (Err why)) makes was =
-        plain_on goes_on old hub after (command.Subscriber factory named) (reply.Refused (refusal.Subscriber why)) tt
+        plain_on goes_on old hub after (command.Subscriber factory named) (reply.Refused (refusal.Subscriber why))
         (subscriber_keeps named (Some (Err why)) makes)
         (steps factory parts named (numbered old hub) after (Err why) there makes) was

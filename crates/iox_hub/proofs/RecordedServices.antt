@@ -47,7 +47,7 @@ use Rattle.iox_hub.proofs.RecordedCame.{told_too}
 use Rattle.iox_hub.proofs.RecordedIds.{closes_keeps, creates_keeps, either_keeps, foreign_keeps, opens_keeps}
 use Rattle.iox_hub.proofs.RecordedRuns.{Recorded, Skips, Steps, plain_on, run_on, skipped_on}
 use Rattle.iox_hub.specs.Recorded.{Calls, asked_too}
-use Rattle.iox_hub.specs.Recording.{OpensIf, SendsNoLoan, calls_closed, calls_opened, numbered}
+use Rattle.iox_hub.specs.Recording.{OpensIf, calls_closed, calls_opened, numbered}
 
 module _ {T U B D : Type 0} (payload user_header : Detail) (is_default : T → Type 0)
     (is_default_header : U → Type 0) (fixed : BackpressureStrategy → Option BackpressureAction → DegradationAction → B)
@@ -67,7 +67,7 @@ module _ {T U B D : Type 0} (payload user_header : Detail) (is_default : T → T
       = Recorded payload user_header is_default is_default_header fixed degrades decides fixed_reader reader_degrades fit calls hub
 
   -- a node asks for a service by a command, which is a step
-  module _ {E : Type 0} (asked : Command T) (so : SendsNoLoan asked) (refused : E → Refusal) (node : ℕ)
+  module _ {E : Type 0} (asked : Command T) (refused : E → Refusal) (node : ℕ)
       (asks : FactoryTable → Hub T U B D → Result ℕ Refusal → FactoryTable → Hub T U B D → Type 0) (old : Calls T)
       (hub after : Hub T U B D)
       (keeps : (answer : Result ℕ Refusal) (table : FactoryTable) → asks old.factories hub answer table after
@@ -86,7 +86,7 @@ module _ {T U B D : Type 0} (payload user_header : Detail) (is_default : T → T
           subst (λ (it : Hub T U B D). Kept fit (asked_too asked reply.Skipped old) it) (sym same)
           (skipped_on payload user_header is_default is_default_header fixed degrades decides fixed_reader reader_degrades goes_on old hub
           hub
-          asked so refl (λ names most state it. skips never) was)
+          asked refl (λ names most state it. skips never) was)
       asked_recorded goes_on (Some (Ok factory)) (there, opens) was =
           let (factories, publishers, subscribers, loans, samples) = was.rise in record {
             rise = (
@@ -98,7 +98,7 @@ module _ {T U B D : Type 0} (payload user_header : Detail) (is_default : T → T
             );
             id = keeps (Ok old.factories.next) (inserted old.factories factory) opens ∙ was.id;
             all_fit = was.all_fit;
-            told = told_too asked (reply.FactoryMade old.factories.next) was.told so;
+            told = told_too asked (reply.FactoryMade old.factories.next) was.told;
             run = run_on payload user_header is_default is_default_header fixed degrades decides fixed_reader reader_degrades goes_on old
                 hub
                 after asked (reply.FactoryMade old.factories.next) old.made (inserted old.factories factory)
@@ -107,7 +107,7 @@ module _ {T U B D : Type 0} (payload user_header : Detail) (is_default : T → T
       asked_recorded goes_on (Some (Err why)) (there, opens) was =
           plain_on payload user_header is_default is_default_header fixed degrades decides fixed_reader reader_degrades goes_on old hub
           after
-          asked (reply.Refused (refused why)) so (keeps (Err (refused why)) old.factories opens)
+          asked (reply.Refused (refused why)) (keeps (Err (refused why)) old.factories opens)
           (steps (Err (refused why)) old.factories there opens) was
 
   module _ (old : Calls T) (hub after : Hub T U B D) (node : ℕ) (name : List ℕ) (named : PublishSubscribeOptions) where
@@ -120,7 +120,7 @@ module _ {T U B D : Type 0} (payload user_header : Detail) (is_default : T → T
         → Kept fit (calls_opened (command.Create node name (options.PublishSubscribe named) attributes [])
         refusal.PublishSubscribeCreate answer old) after
     created_recorded goes_on steps attributes answer opens was =
-        asked_recorded (command.Create node name (options.PublishSubscribe named) attributes []) tt refusal.PublishSubscribeCreate node
+        asked_recorded (command.Create node name (options.PublishSubscribe named) attributes []) refusal.PublishSubscribeCreate node
         (CreatesAs (options.PublishSubscribe named) payload user_header types node name attributes []) old hub after
         (λ answer table creates. creates_keeps payload user_header types node name named attributes old.factories table hub after answer
         creates)
@@ -144,7 +144,7 @@ module _ {T U B D : Type 0} (payload user_header : Detail) (is_default : T → T
         → Kept fit (calls_opened (command.Open node name (options.PublishSubscribe named) required []) refusal.PublishSubscribeOpen answer
         old) after
     opened_recorded goes_on steps required answer opens was =
-        asked_recorded (command.Open node name (options.PublishSubscribe named) required []) tt refusal.PublishSubscribeOpen node
+        asked_recorded (command.Open node name (options.PublishSubscribe named) required []) refusal.PublishSubscribeOpen node
         (OpensAs (options.PublishSubscribe named) payload user_header types node name required []) old hub after
         (λ answer table does. opens_keeps payload user_header types node name named required old.factories table hub after answer does)
         (λ answer table there does. steps node name (options.PublishSubscribe named) required [] (numbered old hub) after answer table
@@ -167,7 +167,7 @@ module _ {T U B D : Type 0} (payload user_header : Detail) (is_default : T → T
         → Kept fit (calls_opened (command.OpenOrCreate node name (options.PublishSubscribe named) required [])
         refusal.PublishSubscribeOpenOrCreate answer old) after
     either_recorded goes_on steps required answer opens was =
-        asked_recorded (command.OpenOrCreate node name (options.PublishSubscribe named) required []) tt
+        asked_recorded (command.OpenOrCreate node name (options.PublishSubscribe named) required [])
         refusal.PublishSubscribeOpenOrCreate node
         (EitherAs (options.PublishSubscribe named) payload user_header types node name required []) old hub after
         (λ answer table does. either_keeps payload user_header types node name named required old.factories table hub after answer does)
@@ -187,7 +187,7 @@ module _ {T U B D : Type 0} (payload user_header : Detail) (is_default : T → T
       → Kept fit old hub → Kept fit (asked_too (command.Foreign kind name steps) (foreign_reply answer) old) after
   foreign_recorded goes_on old hub after kind name steps answer acts was =
       plain_on payload user_header is_default is_default_header fixed degrades decides fixed_reader reader_degrades goes_on old hub after
-      (command.Foreign kind name steps) (foreign_reply answer) tt (foreign_keeps kind name types steps hub after answer acts)
+      (command.Foreign kind name steps) (foreign_reply answer) (foreign_keeps kind name types steps hub after answer acts)
       (by_step payload user_header Dynamic is_default is_default_header fixed degrades decides fixed_reader reader_degrades
       (command.Foreign kind name steps) (numbered old hub) (numbered old after) (foreign_reply answer)
       (λ names most state it. (answer, acts, refl, refl))) was
@@ -212,7 +212,7 @@ module _ {T U B D : Type 0} (payload user_header : Detail) (is_default : T → T
         id = closes_keeps (in_use (parts_of made).0.service.number (parts_of made).1 hub) (parts_of made).0 factory hub after answer closes
             ∙ was.id;
         all_fit = was.all_fit;
-        told = told_too (command.Close number) (told_closed answer) was.told tt;
+        told = told_too (command.Close number) (told_closed answer) was.told;
         run = run_on payload user_header is_default is_default_header fixed degrades decides fixed_reader reader_degrades goes_on old hub
             after (command.Close number) (told_closed answer) old.made (factories_then answer number old.factories)
             (steps number made factory (numbered old hub) after answer there closes) was.run;

@@ -1,5 +1,5 @@
--- What a program reads of a sample is what it received, and what was put.
-use Rattle.std.specs.Prelude.{ℕ, ◌≡◌, ◌⊎◌, ◌+◌, ◌<◌, ◌^◌, ◌++◌, ◌∷◌, [], List, length, take, find, slice_get, Option, Some, is_some, false}
+-- What a program reads of a sample is what it received, and what was sent.
+use Rattle.std.specs.Prelude.{ℕ, ◌≡◌, ◌⊎◌, ◌+◌, ◌<◌, ◌^◌, ◌++◌, ◌∷◌, [], List, length, take, find, map, slice_get, Option, Some, is_some, false}
 use Rattle.std.specs.Global.{Vec}
 use Rattle.std.specs.List.{AllByRecursion}
 use Rattle.std.specs.Vec.{vec_items}
@@ -28,6 +28,7 @@ use Rattle.iox_negotiate.specs.Laws.{IsMet}
 use Rattle.iox_negotiate_base.specs.declared.request.Opened.{Opened}
 use Rattle.iox_negotiate_machine.specs.Laws.{HaveOwnHashes}
 use Rattle.iox_machine.specs.Choices.{Choices}
+use Rattle.iox_machine.specs.Message.{Loan}
 use Rattle.iox_machine.specs.Ports.{subscriber_in}
 use Rattle.iox_machine.specs.Run.{Answers, Runs}
 use Rattle.iox_machine.specs.Service.{Service}
@@ -81,10 +82,11 @@ abbrev pub AsAskedIsMet : Type 0
 AsAskedIsMet = (types : MessageTypeDetails) (name : List ℕ) (named : PublishSubscribeOptions) (required : Required) (service : Opened)
     → HasForm service.description → IsAsAsked types name named required service → IsMetOrMade types name named required service
 
--- A sample has values that were put. Among the commands, by their places, is one to receive that was answered with the sample, with these
--- values; and before that a put of them. That send began: it waited, went to so many, or didn't reach all. In the machine's state before
--- the sample was received, the publisher that put them is one of the subscriber's own service.
-pub record WasPut {T : Type 0} (types : MessageTypeDetails) (choices : Choices T) (buffer sample : ℕ) (values : List T)
+-- A sample has values that were sent. Among the commands, by their places, is one to receive that was answered with the sample, with these
+-- values; and before that one that began their send: a put of them, or the send of a loan, which has just these values in the machine's state
+-- before. It waited, went to so many, or didn't reach all. In the machine's state before the sample was received, the publisher that sent
+-- them is one of the subscriber's own service.
+pub record WasSentBefore {T : Type 0} (types : MessageTypeDetails) (choices : Choices T) (buffer sample : ℕ) (values : List T)
     (asked : List (Command T)) (answers : List (Reply T)) : Type 0 where
   pub received : ℕ
   pub subscriber : ℕ
@@ -92,12 +94,17 @@ pub record WasPut {T : Type 0} (types : MessageTypeDetails) (choices : Choices T
   pub is_received : slice_get asked received ≡ Some (command.Receive subscriber)
   pub is_told : slice_get answers received ≡ Some (reply.Received sample told)
   pub same : vec_items told ≡ values
-  pub put : ℕ
+  pub sent : ℕ
   pub publisher : ℕ
   pub answer : Reply T
-  pub before : put < received
-  pub is_put : slice_get asked put ≡ Some (command.Put publisher values)
-  pub is_answered : slice_get answers put ≡ Some answer
+  pub before : sent < received
+  pub sending : State T
+  pub ran_first : Runs types choices buffer (take sent asked) new_state (take sent answers) sending
+  pub is_sent : (slice_get asked sent ≡ Some (command.Put publisher values))
+      ⊎ ((loan : ℕ) × (lender : Service T) × (one : Loan T) × (slice_get asked sent ≡ Some (command.Send loan))
+      × (find (λ other. is_some (at loan other.loans)) sending.services ≡ Some lender) × (at loan lender.loans ≡ Some one)
+      × (one.publisher ≡ publisher) × (one.values ≡ map Some values))
+  pub is_answered : slice_get answers sent ≡ Some answer
   pub begun : (answer ≡ reply.Blocked) ⊎ (answer ≡ reply.Refused (refusal.Send UnableToDeliver))
       ⊎ ((count : ℕ) × (answer ≡ reply.Delivered count))
   pub state : State T

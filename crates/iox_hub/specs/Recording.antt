@@ -70,11 +70,6 @@ no_calls config = record {
 abbrev pub asked_with : {T : Type 0} → Made → Command T → Reply T → Calls T → Calls T
 asked_with made asked answer calls = record (asked_too asked answer calls) { made = made }
 
--- A command isn't the send of a loan: a recorded hub lends none.
-abbrev pub SendsNoLoan : {T : Type 0} → Command T → Type 0
-SendsNoLoan (command.Send loan) = ⊥
-SendsNoLoan other = Unit {0}
-
 -- A sample of this number came: a command to receive was answered with it.
 pub record HasCome {T : Type 0} (sample : ℕ) (asked : List (Command T)) (answers : List (Reply T)) : Type 0 where
   pub before : List (Command T)
@@ -87,10 +82,9 @@ pub record HasCome {T : Type 0} (sample : ℕ) (asked : List (Command T)) (answe
   pub are : asked ≡ before ++ command.Receive subscriber ∷ later
   pub answered : answers ≡ first ++ reply.Received sample values ∷ told
 
--- Each command was answered, none is the send of a loan, and each sample that the program holds came.
+-- Each command was answered, and each sample that the program holds came.
 pub record HaveTold {T : Type 0} (samples : NumberTable MadeSample) (asked : List (Command T)) (answers : List (Reply T)) : Type 0 where
   pub long : length answers ≡ length asked
-  pub loanless : AllByRecursion (λ one. SendsNoLoan one) asked
   pub came : (number : ℕ) (held : MadeSample) → value_at samples number ≡ Some held → HasCome number asked answers
 
 -- Each message that was received fits in a vector.
@@ -211,7 +205,7 @@ module _ {T U B D : Type 0} (payload user_header : Detail) (types : MessageTypeD
       × (fit ≡ true)
 
   -- That, and the numbers of what the program holds rise; the hub is told apart as it was made; if this is true, each message that was
-  -- received fits in a vector; and no loan was sent, and what the program holds came.
+  -- received fits in a vector; and what the program holds came.
   pub record IsRecorded (fit : Bool) (calls : Calls T) (hub : Hub T U B D) : Type 0 where
     pub rise : NumbersRise (numbered calls hub)
     pub id : hub.table.id ≡ calls.config.id

@@ -7,7 +7,7 @@ ghost use Rattle.iox_hub_commands.specs.Asked.{types_of};
 ghost use Rattle.iox_hub_commands.specs.declared.services.made.MadeFactory.TheVariants as made_factory;
 ghost use Rattle.iox_hub.specs.Machine.Choices.{as_named};
 ghost use Rattle.iox_hub.specs.Recorded.{AreFollowed};
-ghost use Rattle.iox_hub.specs.RecordedLaws.{WasPut};
+ghost use Rattle.iox_hub.specs.RecordedLaws.{WasSentBefore};
 
 use iox_command::{ForeignStep, PublishSubscribeOptions, PublisherOptions, SubscriberOptions};
 use iox_hub::prelude::*;
@@ -101,7 +101,7 @@ fn put_values<'a, B: PublisherHandlers, D: SubscriberHandler>(
     ensures put { IfSome result (λ values. AreFollowed B.fixed (λ handlers. B.degrades handlers) (λ handlers. B.decides handlers)
         D.fixed (λ handler. D.degrades handler)
         (record hub.now.calls { asked = hub.now.calls.asked ++ command.Read sample.now.number.value ∷ [] })
-        → WasPut (types_of (codes "u64") 8 8 (codes "()") 0 1) (as_named (λ value. value ≡ 0))
+        → WasSentBefore (types_of (codes "u64") 8 8 (codes "()") 0 1) (as_named (λ value. value ≡ 0))
         hub.now.calls.config.expired_connection_buffer sample.now.number.value values.now hub.now.calls.asked hub.now.calls.answers) }
 {
     let values = hub.payload(sample)?;

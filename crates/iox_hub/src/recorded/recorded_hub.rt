@@ -27,7 +27,7 @@ ghost use Rattle.iox_machine.specs.Choices.{as_named};
 ghost use Rattle.iox_machine.specs.Run.{Answers};
 ghost use Rattle.iox_hub.specs.Recorded.{AreFollowed, asked_too};
 ghost use Rattle.iox_hub.specs.RecordedCalls.{IsAsAsked, IsReceived, KeepNumbers, answered_as, told_send};
-ghost use Rattle.iox_hub.specs.RecordedLaws.{WasPut};
+ghost use Rattle.iox_hub.specs.RecordedLaws.{WasSentBefore};
 
 use crate::recorded::history::History;
 use crate::recorded::named::{Named, Number};
@@ -629,8 +629,8 @@ impl<
         calls::received_with_number(answer, number)
     }
 
-    /// The values of a sample that is held: what the command `Read` is answered. They were put before, by a publisher of the subscriber's
-    /// own service, and that send began. None where the sample isn't held: never by `AreFollowed`, whatever ports left. No call is
+    /// The values of a sample that is held: what the command `Read` is answered. They were put before, or sent as a loan, by a publisher of the
+    /// subscriber's own service, and that send began. None where the sample isn't held: never by `AreFollowed`, whatever ports left. No call is
     /// recorded.
     /// Example: `let values = hub.payload(&sample)?;`
     pub fn payload(&self, sample: &Named<slice::Sample<T, U>>) -> Option<&[T]>
@@ -646,10 +646,10 @@ impl<
             (as_named T.is_default) self.now.calls.config.expired_connection_buffer
             (self.now.calls.asked ++ command.Read sample.now.number.value ∷ []) false
             (self.now.calls.answers ++ reply.Values told ∷ [])) }
-        ensures put { IfSome result (λ values. AreFollowed B.fixed (λ handlers. B.degrades handlers) (λ handlers. B.decides handlers)
+        ensures sent { IfSome result (λ values. AreFollowed B.fixed (λ handlers. B.degrades handlers) (λ handlers. B.decides handlers)
             D.fixed (λ handler. D.degrades handler)
             (record self.now.calls { asked = self.now.calls.asked ++ command.Read sample.now.number.value ∷ [] })
-            → length values.now < 2 ^ 63 → WasPut (types_of T.name T.size T.alignment U.name U.size U.alignment)
+            → length values.now < 2 ^ 63 → WasSentBefore (types_of T.name T.size T.alignment U.name U.size U.alignment)
             (as_named T.is_default) self.now.calls.config.expired_connection_buffer sample.now.number.value values.now
             self.now.calls.asked self.now.calls.answers) }
         ensures held { AreFollowed B.fixed (λ handlers. B.degrades handlers) (λ handlers. B.decides handlers) D.fixed

@@ -1,7 +1,7 @@
 use Rattle.std.proofs.Common.{◌∙◌, None, subst, sym}
 use Rattle.iox_domain.specs.Fitting.{asked_types}
-use Rattle.iox_hub.proofs.RecordedSent.{reads_as_put}
-use Rattle.iox_hub.specs.RecordedLaws.{WasPut}
+use Rattle.iox_hub.proofs.RecordedSent.{reads_as_sent}
+use Rattle.iox_hub.specs.RecordedLaws.{WasSentBefore}
 use Rattle.iox_machine.specs.Choices.{as_named}
 use Rattle.iox_hub.proofs.RecordedRuns.{may_be_used, read_so}
 use Rattle.iox_hub.proofs.RecordedSkips.{never_so}
@@ -28,8 +28,8 @@ returns-clause-reads g c = rw (← c.self.view_is)
     (record { port = c.args.sample.now.it.port; taken = c.args.sample.now.it.taken })
     c.payload.result.now (rw (← c.self.view_is) at c.requires) (sym c.payload.ensures) c.self.invariant followed small)
 
-pub returns-clause-put : goal.returns-clause-put
-returns-clause-put g c = rw (← c.self.view_is)
+pub returns-clause-sent : goal.returns-clause-sent
+returns-clause-sent g c = rw (← c.self.view_is)
     (λ followed small. let (told, are, answers) = read_so
     (detail FixedSize g.T.ZeroCopySend.name g.T.ZeroCopySend.size g.T.ZeroCopySend.alignment)
     (detail FixedSize g.U.ZeroCopySend.name g.U.ZeroCopySend.size g.U.ZeroCopySend.alignment)
@@ -40,18 +40,18 @@ returns-clause-put g c = rw (← c.self.view_is)
     c.self.inside.history.calls c.self.inside.hub c.args.sample.now.number.value
     (record { port = c.args.sample.now.it.port; taken = c.args.sample.now.it.taken })
     c.payload.result.now (rw (← c.self.view_is) at c.requires) (sym c.payload.ensures) c.self.invariant followed small in
-    subst (λ values. WasPut (asked_types Dynamic
+    subst (λ values. WasSentBefore (asked_types Dynamic
     (detail FixedSize g.T.ZeroCopySend.name g.T.ZeroCopySend.size g.T.ZeroCopySend.alignment)
     (detail FixedSize g.U.ZeroCopySend.name g.U.ZeroCopySend.size g.U.ZeroCopySend.alignment))
     (as_named (λ value. g.T.Default.is_default value)) c.self.inside.history.calls.config.expired_connection_buffer
     c.args.sample.now.number.value values c.self.inside.history.calls.asked c.self.inside.history.calls.answers) are
-    (reads_as_put (as_named (λ value. g.T.Default.is_default value))
+    (reads_as_sent (as_named (λ value. g.T.Default.is_default value))
     (c.received_was_sent.ensures (record { publishers = λ number. None; subscribers = λ number. None }))
     (c.samples_read_the_same.ensures (record { publishers = λ number. None; subscribers = λ number. None }))
     (asked_types Dynamic (detail FixedSize g.T.ZeroCopySend.name g.T.ZeroCopySend.size g.T.ZeroCopySend.alignment)
     (detail FixedSize g.U.ZeroCopySend.name g.U.ZeroCopySend.size g.U.ZeroCopySend.alignment))
     c.self.inside.history.calls.config.expired_connection_buffer c.self.inside.history.calls.asked c.self.inside.history.calls.answers
-    c.args.sample.now.number.value told c.self.invariant.told.loanless
+    c.args.sample.now.number.value told
     (c.self.invariant.told.came c.args.sample.now.number.value
     (record { port = c.args.sample.now.it.port; taken = c.args.sample.now.it.taken }) (rw (← c.self.view_is) at c.requires)) answers))
 
