@@ -33,7 +33,7 @@ module _ {V : Type 0} where
       by true is later = is
       by false is later = later is
 
-  one_more_keeps : (table : NumberTable V) (value : V) → KeepNumbers table (inserted table value)
+  pub one_more_keeps : (table : NumberTable V) (value : V) → KeepNumbers table (inserted table value)
   one_more_keeps table value number held is = found_ahead (nat_eq number) table.entries ((table.next, value) ∷ []) held is
 
 module _ {T : Type 0} (factory : ℕ) (domain : DomainId) (calls : Calls T) where

@@ -26,3 +26,5 @@ pub mod RecordedOpening
 pub mod AskedWords
 pub mod AskedServices
 pub mod KeptNumbers
+pub mod LoanSkips
+pub mod RecordedLoans

@@ -6,9 +6,11 @@ use Rattle.iox_command.specs.declared.service.PublishSubscribeOptions.{PublishSu
 use Rattle.iox_command.specs.declared.service.ServiceOptions.TheVariants as options
 use Rattle.iox_command.specs.declared.step.ForeignStep.{ForeignStep}
 use Rattle.iox_delivery.specs.Publishing.{RetriesSend, changed_at}
-use Rattle.iox_delivery.specs.Slices.{SendsSlice}
+use Rattle.iox_delivery.specs.Slices.{LendsDefaults, SendsSlice}
 use Rattle.iox_delivery.specs.Subscribing.{DropsAt, ReceivesSample}
 use Rattle.iox_delivery.specs.declared.kind.Slice.{Slice}
+use Rattle.iox_delivery.specs.declared.loan.Loan.{Loan as Lent}
+use Rattle.iox_delivery.specs.declared.loan.Written.{Written}
 use Rattle.iox_delivery.specs.declared.port_id.PortId.{PortId}
 use Rattle.iox_delivery.specs.declared.sample.Sample.{Sample}
 use Rattle.iox_delivery.specs.declared.sent.Sent.{Sent}
@@ -35,6 +37,7 @@ use Rattle.iox_hub_commands.specs.DomainValues.declared.backpressure.Backpressur
 use Rattle.iox_hub_commands.specs.DomainValues.declared.degradation.DegradationAction.{DegradationAction}
 use Rattle.iox_hub_commands.specs.DomainValues.declared.degradation.DegradationCause.{DegradationCause}
 use Rattle.iox_hub_commands.specs.DomainValues.declared.degradation.DegradationInfo.{DegradationInfo}
+use Rattle.iox_hub_commands.specs.DomainValues.declared.port_error.LoanError.{LoanError}
 use Rattle.iox_hub_commands.specs.DomainValues.declared.port_error.ReceiveError.{ReceiveError}
 use Rattle.iox_hub_commands.specs.DomainValues.declared.port_error.SendError.{SendError}
 use Rattle.iox_hub_commands.specs.Either.{EitherAs}
@@ -56,7 +59,7 @@ module _ {T U B D : Type 0} where
   at_keeps domain step None old new answer (none, is) = same_id is
   at_keeps domain step (Some ports) old new answer (after, did, is) = ap (λ hub. hub.table.id) is
 
-  changed_keeps : (domain : DomainId) (change : ServicePorts T U → ServicePorts T U) (found : Option (ServicePorts T U)) (old : Hub T U B D)
+  pub changed_keeps : (domain : DomainId) (change : ServicePorts T U → ServicePorts T U) (found : Option (ServicePorts T U)) (old : Hub T U B D)
       → (changed_at (λ after. with_hub_ports domain after old) change found old).table.id ≡ old.table.id
   changed_keeps domain change None old = refl
   changed_keeps domain change (Some ports) old = refl
@@ -105,6 +108,16 @@ module _ {T U B D : Type 0} where
   slice_keeps degrades decides port values old new answer (Err why, middle, lends, (is, same)) =
       same_id same ∙ at_keeps port.domain (LoansBy port.number (length values) (length values)) (hub_ports port.domain old) old middle
       (Some (Err why)) lends
+
+  -- defaults that are lent
+  pub defaults_keep : (is_default : T → Type 0) (port : PortId) (len : ℕ) (old new : Hub T U B D)
+      (answer : Result (Lent T U Slice Written) LoanError)
+      → LendsDefaults hub_ports with_hub_ports is_default port len old answer new → new.table.id ≡ old.table.id
+  defaults_keep is_default port len old new answer (value, default, lent, (Ok slot, middle, lends, ((writes, has), told)), is) =
+      ap (λ hub. hub.table.id) writes ∙ (changed_keeps port.domain _ (hub_ports port.domain middle) middle
+      ∙ at_keeps port.domain (LoansBy port.number len len) (hub_ports port.domain old) old middle (Some (Ok slot)) lends)
+  defaults_keep is_default port len old new answer (value, default, lent, (Err why, middle, lends, (told, same)), is) =
+      same_id same ∙ at_keeps port.domain (LoansBy port.number len len) (hub_ports port.domain old) old middle (Some (Err why)) lends
 
   pub retry_keeps : (decides : B → BackpressureInfo → BackpressureDecision → Type 0) (port : PortId) (elapsed : ℕ) (old new : Hub T U B D)
       (answer : Result (Sent T U) SendError)

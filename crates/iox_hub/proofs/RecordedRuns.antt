@@ -161,7 +161,7 @@ one_fits (other ∷ first) values all small = (all.0, one_fits first values all.
 
 module _ {T U B D : Type 0} where
   -- ports that are put into a domain that is here are there
-  put_there : (id : DomainId) (ports : ServicePorts T U) (hub : Hub T U B D) → IsSome (hub_ports id hub)
+  pub put_there : (id : DomainId) (ports : ServicePorts T U) (hub : Hub T U B D) → IsSome (hub_ports id hub)
       → hub_ports id (with_hub_ports id ports hub) ≡ Some ports
   put_there id ports hub there =
       put_is_there hub_state hub_changed (λ (id : DomainId) step (hub : Hub T U B D). changed_found id step hub.services) id ports hub there

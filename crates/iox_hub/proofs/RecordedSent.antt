@@ -1,5 +1,6 @@
 -- What is read of a sample was sent before, by a publisher of the subscriber's own service.
 use Rattle.std.proofs.Common.{◌≡◌, ◌∙◌, ◌<◌, ◌⊎◌, ℕ, zero, suc, true, false, List, [], ◌∷◌, ◌++◌, length, take, Some, refl, sym, ap, subst}
+use Rattle.std.proofs.Common.{Option, None}
 use Rattle.std.proofs.Common.{append-nil, append_assoc, arith, inl, inr, ⊎_elim}
 use Rattle.std.specs.Global.{Vec}
 use Rattle.std.specs.List.{list_all}
@@ -103,8 +104,16 @@ module _ {T : Type 0} (choices : Choices T) (types : MessageTypeDetails) (buffer
     answer = answer;
     sending = old;
     ran_first = (refl, refl);
-    is_sent = inr (loan, service, one, refl, found, is, own,
-        all_written one.values written ∙ ap (λ (all : List T). map Some all) are);
+    is_sent = inr (
+      loan,
+      service,
+      one,
+      refl,
+      found,
+      is,
+      own,
+      all_written one.values written ∙ ap (λ (all : List T). map Some all) are,
+    );
     is_answered = refl;
     begun = begun;
   }
@@ -144,8 +153,16 @@ module _ {T : Type 0} (choices : Choices T) (types : MessageTypeDetails) (buffer
       inl (subst (λ (it : List T). slice_get (asked ++ more) place ≡ Some (command.Put publisher it)) same
       (found_ahead asked more place (command.Put publisher values) put))
   sent_ahead publisher values others asked more place sending same (inr (loan, lender, one, send, found, is, own, are)) =
-      inr (loan, lender, one, found_ahead asked more place (command.Send loan) send, found, is, own,
-      are ∙ ap (λ (it : List T). map Some it) same)
+      inr (
+        loan,
+        lender,
+        one,
+        found_ahead asked more place (command.Send loan) send,
+        found,
+        is,
+        own,
+        are ∙ ap (λ (it : List T). map Some it) same,
+      )
 
   module _ (received : ReceivedWasSent choices) (the_same : SamplesReadTheSame choices) (asked : List (Command T))
       (answers : List (Reply T)) (sample : ℕ) (read : Vec T) (came : HasCome sample asked answers) where

@@ -87,7 +87,7 @@ module _ (T U : Type 0) (port : PortId) where
   sent_waits (Ok sending.Blocked) = refl
   sent_waits (Err why) = tt
 
-  outcome_waits : (answer : Result (Sent T U) SendError) (outcome : Result Sending SendError) → answer ≡ sent_of port outcome
+  pub outcome_waits : (answer : Result (Sent T U) SendError) (outcome : Result Sending SendError) → answer ≡ sent_of port outcome
       → IfOk answer (λ sent. WaitsAt port sent)
   outcome_waits answer outcome is =
       subst (λ (it : Result (Sent T U) SendError). IfOk it (λ sent. WaitsAt port sent)) (sym is) (sent_waits outcome)

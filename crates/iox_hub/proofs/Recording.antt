@@ -6,20 +6,23 @@ use Rattle.std.proofs.lemmas.Bool.Decides.{nat_tests}
 use Rattle.std.specs.Global.{Vec}
 use denote.RawPtr.{null_ptr}
 use Rattle.std.specs.Prelude.{nat_lt}
+use Rattle.iox_command.specs.declared.command.Command.{Command}
 use Rattle.iox_command.specs.declared.command.Command.TheVariants as command
 use Rattle.iox_command.specs.declared.port.PublisherOptions.{PublisherOptions}
 use Rattle.iox_command.specs.declared.port.SubscriberOptions.{SubscriberOptions}
 use Rattle.iox_command.specs.declared.refusal.Refusal.TheVariants as refusal
 use Rattle.iox_command.specs.declared.reply.Reply.TheVariants as reply
 use Rattle.iox_delivery.specs.declared.kind.Slice.{Slice}
+use Rattle.iox_delivery.specs.declared.loan.Loan.{Loan as Lent}
 use Rattle.iox_delivery.specs.declared.sample.Sample.{Sample}
 use Rattle.iox_domain.specs.declared.domain_id.DomainId.{DomainId}
 use Rattle.iox_hub_base.specs.declared.hub.Hub.{Hub}
 use Rattle.iox_hub_commands.specs.DomainValues.declared.create_error.PublisherCreateError.{PublisherCreateError}
 use Rattle.iox_hub_commands.specs.DomainValues.declared.create_error.SubscriberCreateError.{SubscriberCreateError}
+use Rattle.iox_hub_commands.specs.DomainValues.declared.port_error.LoanError.{LoanError}
 use Rattle.iox_hub_commands.specs.DomainValues.declared.port_error.ReceiveError.{ReceiveError}
 use Rattle.iox_hub_commands.specs.Making.{with_publisher, with_subscriber}
-use Rattle.iox_hub_commands.specs.Numbering.{with_sample}
+use Rattle.iox_hub_commands.specs.Numbering.{with_loan, with_sample}
 use Rattle.iox_hub.specs.Recorded.{Calls, asked_too}
 use Rattle.iox_hub.specs.Recording.{asked_with, values_there}
 
@@ -77,3 +80,11 @@ module _ {T : Type 0} where
       (reply.SubscriberMade calls.made.subscribers.next) calls
   calls_subscriber factory named domain (Some (Err why)) calls
       = asked_too (command.Subscriber factory named) (reply.Refused (refusal.Subscriber why)) calls
+
+module _ {T U K S : Type 0} where
+  -- the calls, where a loan was asked for
+  abbrev pub calls_lent : Command T → Option (Result (Lent T U K S) LoanError) → Calls T → Calls T
+  calls_lent asked None calls = asked_too asked reply.Skipped calls
+  calls_lent asked (Some (Ok loan)) calls =
+      asked_with (with_loan loan.port loan.slot calls.made) asked (reply.LoanMade calls.made.loans.next) calls
+  calls_lent asked (Some (Err why)) calls = asked_too asked (reply.Refused (refusal.Loan why)) calls

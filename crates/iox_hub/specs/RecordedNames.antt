@@ -32,8 +32,8 @@ received_by number (Some (Ok None)) = Some (Ok None)
 received_by number (Some (Err why)) = Some (Err why)
 
 -- what was handed back, with its number
-abbrev pub back_by : {S : Type 0} → Number → Result (Unit {0}) S → Result (Unit {0}) (Named S)
-back_by number (Ok done) = Ok done
+abbrev pub back_by : {A S : Type 0} → Number → Result A S → Result A (Named S)
+back_by number (Ok answer) = Ok answer
 back_by number (Err it) = Err (record { it = it; number = number })
 
 -- a factory that was handed back, with its number

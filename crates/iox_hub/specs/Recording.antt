@@ -1,7 +1,11 @@
 -- What ties a hub to what was asked of it, and what calls make of that. No clause that a caller reads cites this.
 use Rattle.std.specs.Prelude.{ℕ, ◌≡◌, ◌-◌, ◌^◌, ◌<◌, ◌&&◌, Bool, true, false, List, [], ◌∷◌, ◌++◌, length, nat_lt, Option, None, Some}
-use Rattle.std.specs.Prelude.{Result, Ok, Err}
-use Rattle.iox_delivery.specs.Holding.{holds_message}
+use Rattle.std.specs.Prelude.{Result, Ok, Err, not, ◌==◌}
+use Rattle.iox_delivery.specs.Holding.{holds_message, loan_found, publisher_blocked}
+use Rattle.iox_delivery.specs.DomainPorts.Messages.{Loan}
+use Rattle.iox_delivery.specs.DomainPorts.MessagesSending.{is_written_loan}
+use Rattle.iox_delivery.specs.DomainPorts.Writing.{values_at}
+use Rattle.iox_delivery.specs.declared.port_id.PortId.{PortId}
 use Rattle.iox_hub_base.specs.AsHome.{hub_ports}
 use Rattle.std.specs.Global.{Vec}
 use Rattle.std.specs.List.{AllByRecursion}
@@ -133,6 +137,15 @@ newest_is_known None hub = true
 newest_is_known (Some (Ok (Some sample))) hub = is_known sample hub
 newest_is_known (Some (Ok None)) hub = true
 newest_is_known (Some (Err why)) hub = true
+
+-- whether a loan is written, with so many values
+abbrev pub is_written_with : {T U : Type 0} → Option (Loan T U) → ℕ → Bool
+is_written_with loan count = is_written_loan loan && (length (unwrap_or (values_at loan) []) == count)
+
+-- whether a loan may be sent: it is written, and no send of its publisher waits
+abbrev pub may_send : {T U B D : Type 0} → PortId → ℕ → Hub T U B D → Bool
+may_send port slot hub = is_written_loan (loan_found port.number slot (hub_ports port.domain hub))
+    && not (publisher_blocked port.number (hub_ports port.domain hub))
 
 -- The answer to a node that asked for a service: the number of its factory, or why there is none.
 abbrev pub told_opened : {E : Type 0} → (E → Refusal) → ℕ → Result MadeFactory E → Result ℕ Refusal

@@ -3,7 +3,8 @@
 //! | Module | What it has |
 //! |---|---|
 //! | `laws` | what it comes to in other words |
-//! | `named` | ports, factories and samples with the numbers by which the machine has them |
+//! | `loans` | loans are lent, written, given up and sent |
+//! | `named` | ports, factories, loans and samples with the numbers by which the machine has them |
 //! | `recorded_hub` | the hub |
 //!
 //! At run time it is a hub, and nothing more: neither record nor numbers take memory. Messages are slices.
@@ -18,6 +19,7 @@
 mod calls;
 mod history;
 pub mod laws;
+pub mod loans;
 pub mod named;
 pub mod recorded_hub;
 mod services;

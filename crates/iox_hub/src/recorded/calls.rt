@@ -378,11 +378,11 @@ pub(crate) fn received_with_number<S, E>(
 }
 
 // What was handed back, with the number by which it goes.
-pub(crate) fn back_with_number<S>(left: Result<(), S>, number: Number) -> Result<(), Named<S>>
+pub(crate) fn back_with_number<A, S>(left: Result<A, S>, number: Number) -> Result<A, Named<S>>
     ensures { result ≡ back_by number left }
 {
     match left {
-        Ok(()) => Ok(()),
+        Ok(answer) => Ok(answer),
         Err(it) => Err(Named { it, number }),
     }
 }
@@ -401,9 +401,9 @@ fn put_came<T: Copy, U: Copy>(
     }
 }
 
-// What a retry came to, without the send that waits.
-pub(crate) fn retry_came<T: Copy, U: Copy>(
-    answer: &Result<Result<Sent<T, U>, SendError>, BlockedSend<T, U>>,
+// What a send came to that was begun or tried again, without the send that waits; None where what it spends was handed back.
+pub(crate) fn sent_came<T: Copy, U: Copy, W>(
+    answer: &Result<Result<Sent<T, U>, SendError>, W>,
 ) -> Option<Result<Option<usize>, SendError>>
     ensures { told_came result ≡ told_sent_if (result_ok answer.now) }
 {
@@ -415,8 +415,8 @@ pub(crate) fn retry_came<T: Copy, U: Copy>(
     }
 }
 
-// Whether a port left.
-pub(crate) fn has_left<S>(left: &Result<(), S>) -> bool
+// Whether a port left, or a loan was sent.
+pub(crate) fn has_left<A, S>(left: &Result<A, S>) -> bool
     ensures { result ≡ is_ok left.now }
 {
     left.is_ok()

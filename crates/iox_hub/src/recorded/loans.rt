@@ -1,23 +1,314 @@
 //! Loans of a recorded hub: they are lent, written, given up and sent.
+ghost use Rattle.std.specs.Prelude.{◌≡◌, List, false, Some, IfSome, IfOk, IfErr, MatchResult, length, if◌then◌else◌};
+ghost use Rattle.std.specs.Option.{option_map};
+ghost use Rattle.iox_command.specs.declared.command.Command.TheVariants as command;
+ghost use Rattle.iox_command.specs.declared.refusal.Refusal.TheVariants as refusal;
+ghost use Rattle.iox_command.specs.declared.reply.Reply.TheVariants as reply;
+ghost use Rattle.iox_container.specs.NumberTable.{inserted, removed, value_at};
+ghost use Rattle.iox_delivery.specs.Holding.{loan_found};
+ghost use Rattle.iox_delivery.specs.Publishing.{SendsSample, sample_mut_of};
+ghost use Rattle.iox_delivery.specs.Slices.{LendsDefaults, LendsSlice, WritesAll};
+ghost use Rattle.iox_delivery.specs.declared.sent.Sent.TheVariants as sent;
+ghost use Rattle.iox_hub_base.specs.AsHome.{hub_ports, with_hub_ports};
+ghost use Rattle.iox_hub_commands.specs.Calls.{may_lend};
+ghost use Rattle.iox_hub_commands.specs.CommandSteps.{publisher_may_decide, publisher_may_degrade};
+ghost use Rattle.iox_hub_commands.specs.Replies.{done_reply};
+ghost use Rattle.iox_hub.specs.Recorded.{Calls, asked_too};
+ghost use Rattle.iox_hub.specs.RecordedCalls.{KeepNumbers, answered_as, told_send};
+ghost use Rattle.iox_hub.specs.Recording.{IsDoneIf, is_written_with, may_send};
+
+use crate::recorded::calls;
 use crate::recorded::history::History;
 use crate::recorded::named::{Named, Number};
 use crate::recorded::recorded_hub::RecordedHub;
+use iox_delivery::kind::Slice;
+use iox_delivery::loan::{Loan, LoanState};
 use iox_delivery::{Sent, slices as slice};
 use iox_describe_base::ZeroCopySend;
 use iox_domain_values::{LoanError, SendError};
+use iox_hub_base::Hub;
 use iox_hub_commands::{PublisherHandlers, SubscriberHandler};
+use iox_hub_machine::typed::{
+    typed_calls_are_a_run, typed_defaults_are_steps, typed_loans_are_steps,
+    typed_loans_end_by_steps, typed_writes_are_steps,
+};
 use iox_queues_base::Words;
 use std::alloc::Global;
 
-// What is to be here, with its proofs; each says its command as the calls of `recorded_hub` do.
-//
-// - `loan_slice_uninit(publisher, len)`: `LoanUninit`; None where the publisher may not lend (`may_lend`). Its skip needs that a publisher
-//   that isn't free lends nothing, as `follows_none` of RecordedSkips says of following.
-// - `loan_slice(publisher, len)`: `Loan`, in the same way; its skip is `ready`, which is None there, as for `Put`.
-// - `write_from_slice(loan, values)`, where `length values` is `loan.it.state.len`: `Fill`. Done is known after the write: the loan is written
-//   then (`holds`), and its `payload` has as many values. For if it has as many before, both are so; if not, nothing changed, and its length
-//   differs still.
-// - `set(sample, place, value)`: `Set`, done where the loan is written (`holds`) and `value_mut` gives a place.
-// - `drop_loan(loan)`: `Drop`, always done.
-// - `send(sample)`: `Send`; it is handed back, and the command is skipped, where the loan isn't written or a send waits. That skip needs a
-//   list for `SendsOne` at `ready_loan` None.
+impl<
+    T: Words + ZeroCopySend + Default,
+    U: Copy + ZeroCopySend + Default,
+    B: PublisherHandlers,
+    D: SubscriberHandler,
+> RecordedHub<T, U, B, D> {
+    /// A publisher lends so many values to be written: the command `LoanUninit`. None, and the command is skipped, where the publisher
+    /// doesn't stand, or a send of it waits. Other loans keep their numbers.
+    ///
+    /// Refused as the machine refuses it.
+    /// Example: `let Some(Ok(loan)) = hub.loan_slice_uninit(alloc, &publisher, 4) else { return None; };`
+    pub fn loan_slice_uninit(
+        &mut self,
+        alloc: Global,
+        publisher: &Named<slice::Publisher<T, U>>,
+        len: usize,
+    ) -> Option<Result<Named<slice::SampleMutUninit<T, U>>, LoanError>>
+        requires { option_map (λ made. made.port) (value_at self.old.calls.made.publishers publisher.now.number.value)
+            ≡ Some publisher.now.it.port }
+        ensures lent { self.new.calls ≡ answered_as result (command.LoanUninit publisher.now.number.value len)
+            (λ loan. reply.LoanMade self.old.calls.made.loans.next) refusal.Loan
+            (λ loan calls. record calls {
+              made = record calls.made { loans = inserted calls.made.loans (record { port = loan.it.port; slot = loan.it.slot }) };
+            }) self.old.calls }
+        ensures others { KeepNumbers self.old.calls.made.loans self.new.calls.made.loans }
+        ensures number { IfSome result (λ answer. IfOk answer (λ loan. (loan.number.value ≡ self.old.calls.made.loans.next)
+            × (value_at self.new.calls.made.loans loan.number.value ≡ Some (record { port = loan.it.port; slot = loan.it.slot })))) }
+        ensures lends { IfSome result (λ answer. IfOk answer (λ loan. (loan.it.port ≡ publisher.now.it.port) × (loan.it.state.len ≡ len))) }
+    {
+        typed_calls_are_a_run::<T, U, B, D>();
+        typed_loans_are_steps::<T, U, Slice, B, D>();
+        let number = Number::given(&self.history);
+        let answer = lend_uninit_if(&mut self.hub, alloc, &publisher.it, len);
+        self.history = told_lent(&self.history, &publisher.number, &answer, len);
+        calls::with_number(answer, number)
+    }
+
+    /// A publisher lends so many values that are written, each a default: the command `Loan`. None, and the command is skipped, where the
+    /// publisher doesn't stand, or a send of it waits. Other loans keep their numbers.
+    ///
+    /// Refused as the machine refuses it.
+    /// Example: `let Some(Ok(sample)) = hub.loan_slice(alloc, &publisher, 4) else { return None; };`
+    pub fn loan_slice(
+        &mut self,
+        alloc: Global,
+        publisher: &Named<slice::Publisher<T, U>>,
+        len: usize,
+    ) -> Option<Result<Named<slice::SampleMut<T, U>>, LoanError>>
+        requires { option_map (λ made. made.port) (value_at self.old.calls.made.publishers publisher.now.number.value)
+            ≡ Some publisher.now.it.port }
+        ensures lent { self.new.calls ≡ answered_as result (command.Loan publisher.now.number.value len)
+            (λ loan. reply.LoanMade self.old.calls.made.loans.next) refusal.Loan
+            (λ loan calls. record calls {
+              made = record calls.made { loans = inserted calls.made.loans (record { port = loan.it.port; slot = loan.it.slot }) };
+            }) self.old.calls }
+        ensures others { KeepNumbers self.old.calls.made.loans self.new.calls.made.loans }
+        ensures number { IfSome result (λ answer. IfOk answer (λ loan. (loan.number.value ≡ self.old.calls.made.loans.next)
+            × (value_at self.new.calls.made.loans loan.number.value ≡ Some (record { port = loan.it.port; slot = loan.it.slot })))) }
+        ensures lends { IfSome result (λ answer. IfOk answer (λ loan. loan.it.port ≡ publisher.now.it.port)) }
+    {
+        typed_calls_are_a_run::<T, U, B, D>();
+        typed_defaults_are_steps::<T, U, Slice, B, D>();
+        let number = Number::given(&self.history);
+        let answer = lend_if(&mut self.hub, alloc, &publisher.it, len);
+        self.history = told_lent(&self.history, &publisher.number, &answer, len);
+        calls::with_number(answer, number)
+    }
+
+    /// All values of a loan are written: the command `Fill`. There are as many as were lent. The answer is the loan, and whether it is
+    /// written: where it isn't, the command is skipped.
+    /// Example: `let (sample, is_written) = hub.write_from_slice(loan, &[7, 8]);`
+    pub fn write_from_slice(
+        &mut self,
+        loan: Named<slice::SampleMutUninit<T, U>>,
+        values: &[T],
+    ) -> (Named<slice::SampleMut<T, U>>, bool)
+        requires made { value_at self.old.calls.made.loans loan.number.value
+            ≡ Some (record { port = loan.it.port; slot = loan.it.slot }) }
+        requires long { length values.now ≡ loan.it.state.len }
+        ensures written { self.new.calls ≡ asked_too (command.Fill loan.number.value values.now)
+            (if result.1 then reply.Done else reply.Skipped) self.old.calls }
+        ensures same { (result.0.number ≡ loan.number) × (result.0.it.port ≡ loan.it.port) × (result.0.it.slot ≡ loan.it.slot) }
+    {
+        typed_calls_are_a_run::<T, U, B, D>();
+        typed_writes_are_steps::<T, U, Slice, B, D>();
+        let Named { it, number } = loan;
+        let (sample, filled) = write_all(&mut self.hub, it, values);
+        self.history = told_filled(&self.history, &number, filled, values);
+        (Named { it: sample, number }, filled)
+    }
+
+    /// A loan is given up: the command `Drop`. It is told as done, and its number is spent.
+    /// Example: `hub.drop_loan(loan);`
+    pub fn drop_loan<S: LoanState<T, U, Slice> + Copy>(&mut self, loan: Named<Loan<T, U, Slice, S>>)
+        requires { value_at self.old.calls.made.loans loan.number.value ≡ Some (record { port = loan.it.port; slot = loan.it.slot }) }
+        ensures { self.new.calls ≡ record (asked_too (command.Drop loan.number.value) reply.Done self.old.calls) {
+          made = record self.old.calls.made { loans = removed self.old.calls.made.loans loan.number.value };
+        } }
+    {
+        typed_calls_are_a_run::<T, U, B, D>();
+        typed_loans_end_by_steps::<T, U, Slice, B, D>();
+        let Named { it, number } = loan;
+        it.drop_with(&mut self.hub);
+        self.history = History::told(&self.history, &number, &(), &());
+    }
+
+    /// A loan is sent: the command `Send`. Its number is spent, also where the send waits or is refused. It is handed back, and the command
+    /// is skipped, where some value of it isn't written, or a send of its publisher waits.
+    ///
+    /// Refused as the machine refuses it.
+    /// Example: `let sent = hub.send(alloc, sample).ok()?;`
+    pub fn send(
+        &mut self,
+        alloc: Global,
+        sample: Named<slice::SampleMut<T, U>>,
+    ) -> Result<Result<Sent<T, U>, SendError>, Named<slice::SampleMut<T, U>>>
+        requires { value_at self.old.calls.made.loans sample.number.value
+            ≡ Some (record { port = sample.it.port; slot = sample.it.slot }) }
+        ensures sent { MatchResult result
+            (λ answer. self.new.calls ≡ record (asked_too (command.Send sample.number.value) (told_send (Some answer)) self.old.calls) {
+              made = record self.old.calls.made { loans = removed self.old.calls.made.loans sample.number.value };
+            })
+            (λ back. self.new.calls ≡ asked_too (command.Send sample.number.value) reply.Skipped self.old.calls) }
+        ensures back { IfErr result (λ back. back ≡ sample) }
+        ensures waits { IfOk result (λ answer. IfOk answer (λ came. elim came [
+          | sent.Delivered count ↦ Unit {0}
+          | sent.Blocked blocked ↦ blocked.port ≡ sample.it.port
+        ])) }
+    {
+        typed_calls_are_a_run::<T, U, B, D>();
+        typed_loans_end_by_steps::<T, U, Slice, B, D>();
+        let Named { it, number } = sample;
+        let answer = send_if(&mut self.hub, alloc, it);
+        let came = calls::sent_came(&answer);
+        let gone = calls::has_left(&answer);
+        self.history = History::told(&self.history, &number, &came, &gone);
+        calls::back_with_number(answer, number)
+    }
+}
+
+// A publisher lends so many values to be written, if it may lend.
+fn lend_uninit_if<
+    T: Words + ZeroCopySend + Default,
+    U: Copy + ZeroCopySend + Default,
+    B: PublisherHandlers,
+    D: SubscriberHandler,
+>(
+    hub: &mut Hub<T, U, B, D>,
+    alloc: Global,
+    publisher: &slice::Publisher<T, U>,
+    len: usize,
+) -> Option<Result<slice::SampleMutUninit<T, U>, LoanError>>
+    ensures { IsDoneIf (may_lend hub_ports publisher.now.port hub.old) (LendsSlice hub_ports with_hub_ports publisher.now.port len)
+        hub.old result hub.new }
+{
+    if !publisher.holds(hub) {
+        return None;
+    }
+    if publisher.is_blocked(hub) {
+        return None;
+    }
+    Some(publisher.loan_slice_uninit(alloc, hub, len))
+}
+
+// A publisher lends so many defaults, if it may lend.
+fn lend_if<
+    T: Words + ZeroCopySend + Default,
+    U: Copy + ZeroCopySend + Default,
+    B: PublisherHandlers,
+    D: SubscriberHandler,
+>(
+    hub: &mut Hub<T, U, B, D>,
+    alloc: Global,
+    publisher: &slice::Publisher<T, U>,
+    len: usize,
+) -> Option<Result<slice::SampleMut<T, U>, LoanError>>
+    ensures lends { IsDoneIf (may_lend hub_ports publisher.now.port hub.old)
+        (LendsDefaults hub_ports with_hub_ports T.is_default publisher.now.port len) hub.old result hub.new }
+    ensures default { (value : T) × T.is_default value }
+{
+    let _value = T::default();
+    if !publisher.holds(hub) {
+        return None;
+    }
+    if publisher.is_blocked(hub) {
+        return None;
+    }
+    Some(publisher.loan_slice(alloc, hub, len))
+}
+
+// All values of a loan are written, if it has as many; it is told whether it is written so.
+fn write_all<
+    T: Words + ZeroCopySend + Default,
+    U: Copy + ZeroCopySend + Default,
+    B: PublisherHandlers,
+    D: SubscriberHandler,
+>(
+    hub: &mut Hub<T, U, B, D>,
+    loan: slice::SampleMutUninit<T, U>,
+    values: &[T],
+) -> (slice::SampleMut<T, U>, bool)
+    requires { length values.now ≡ loan.state.len }
+    ensures writes { WritesAll hub_ports with_hub_ports loan.port loan.slot values.now hub.old hub.new }
+    ensures same { result.0 ≡ sample_mut_of loan.port loan.slot }
+    ensures told { result.1 ≡ is_written_with (loan_found loan.port.number loan.slot (hub_ports loan.port.domain hub.new))
+        (length values.now) }
+{
+    let sample = loan.write_from_slice(hub, values);
+    let filled = is_written_with(&sample, hub, values.len());
+    (sample, filled)
+}
+
+// Whether a loan is written, with so many values.
+fn is_written_with<
+    T: Words + ZeroCopySend + Default,
+    U: Copy + ZeroCopySend + Default,
+    B: PublisherHandlers,
+    D: SubscriberHandler,
+>(sample: &slice::SampleMut<T, U>, hub: &Hub<T, U, B, D>, count: usize) -> bool
+    ensures { result ≡ is_written_with (loan_found sample.now.port.number sample.now.slot (hub_ports sample.now.port.domain hub.now))
+        count }
+{
+    sample.holds(hub) && sample.payload(hub).len() == count
+}
+
+// The history that its caller says, where a publisher of this number was asked for a loan of so many values.
+fn told_lent<T: Words + ZeroCopySend + Default, U: Copy + ZeroCopySend + Default, S>(
+    history: &History<T>,
+    number: &Number,
+    _answer: &Option<Result<Loan<T, U, Slice, S>, LoanError>>,
+    _len: usize,
+) -> History<T>
+    ghost calls: { Calls T }
+    ensures { result.calls ≡ calls }
+{
+    History::told(history, number, &(), &())
+}
+
+// The history, where a loan of this number was to be filled with these values.
+fn told_filled<T: Words + ZeroCopySend + Default>(
+    history: &History<T>,
+    number: &Number,
+    filled: bool,
+    values: &[T],
+) -> History<T>
+    ghost given: { List T }
+    requires { values.now ≡ given }
+    ensures { result.calls ≡ asked_too (command.Fill number.now.value values.now) (done_reply filled) history.now.calls }
+{
+    let _values = values;
+    History::told(history, number, &filled, &())
+}
+
+// A loan is sent if it is written, and no send of its publisher waits; else it is handed back.
+fn send_if<
+    T: Words + ZeroCopySend + Default,
+    U: Copy + ZeroCopySend + Default,
+    B: PublisherHandlers,
+    D: SubscriberHandler,
+>(
+    hub: &mut Hub<T, U, B, D>,
+    alloc: Global,
+    sample: slice::SampleMut<T, U>,
+) -> Result<Result<Sent<T, U>, SendError>, slice::SampleMut<T, U>>
+    ensures { MatchResult result
+        (λ answer. SendsSample hub_ports with_hub_ports (publisher_may_degrade (λ handlers. B.degrades handlers))
+        (publisher_may_decide (λ handlers. B.decides handlers)) sample.port sample.slot hub.old answer hub.new)
+        (λ back. (back ≡ sample) × (hub.new ≡ hub.old) × (may_send sample.port sample.slot hub.old ≡ false)) }
+{
+    if !sample.holds(hub) {
+        return Err(sample);
+    }
+    if sample.is_blocked(hub) {
+        return Err(sample);
+    }
+    Ok(sample.send(alloc, hub))
+}

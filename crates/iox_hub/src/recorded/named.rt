@@ -1,4 +1,4 @@
-//! Ports, factories and samples with the numbers by which the machine has them.
+//! Ports, factories, loans and samples with the numbers by which the machine has them.
 ghost use Rattle.std.specs.Prelude.{ℕ, ◌≡◌};
 
 use std::marker::Model;
@@ -27,7 +27,7 @@ impl Number {
     }
 }
 
-/// A port, a factory or a sample of a recorded hub, and its number there, which only proofs read.
+/// A port, a factory, a loan or a sample of a recorded hub, and its number there, which only proofs read.
 ///
 /// This port's own.
 #[derive(Drop)]

@@ -78,8 +78,8 @@ pub struct RecordedHub<
     B: PublisherHandlers = FixedHandlers,
     D: SubscriberHandler = FixedDegradation,
 > {
-    hub: Hub<T, U, B, D>,
-    history: History<T>,
+    pub(crate) hub: Hub<T, U, B, D>,
+    pub(crate) history: History<T>,
     // Whether it is known that each message that was received fits in a vector.
     fit: bool,
 }
@@ -503,7 +503,7 @@ impl<
         typed_calls_are_a_run::<T, U, B, D>();
         typed_sends_go_on_by_steps::<T, U, Slice, B, D>();
         let answer = calls::retry_if(&mut self.hub, blocked, elapsed_ns);
-        let came = calls::retry_came(&answer);
+        let came = calls::sent_came(&answer);
         self.history = History::told(&self.history, &publisher.number, &came, &elapsed_ns);
         answer
     }

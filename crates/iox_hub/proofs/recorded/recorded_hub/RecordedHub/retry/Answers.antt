@@ -9,7 +9,7 @@ use Rattle.std.specs.Result.{result_ok}
 use Rattle.iox_hub.proofs.recorded.recorded_hub.RecordedHub.retry.Goals as goal
 
 pub invariant_of-self : goal.invariant_of-self
-invariant_of-self g c = rw (c.told-self-inside.ensures, c.retry_came-came.ensures)
+invariant_of-self g c = rw (c.told-self-inside.ensures, c.sent_came-came.ensures)
     (retry_recorded (detail FixedSize g.T.ZeroCopySend.name g.T.ZeroCopySend.size g.T.ZeroCopySend.alignment)
     (detail FixedSize g.U.ZeroCopySend.name g.U.ZeroCopySend.size g.U.ZeroCopySend.alignment)
     (λ value. g.T.Default.is_default value) (λ header. g.U.Default.is_default header) g.B.PublisherHandlers.fixed
@@ -21,7 +21,7 @@ invariant_of-self g c = rw (c.told-self-inside.ensures, c.retry_came-came.ensure
     c.retry_if-answer.ensures c.self.invariant)
 
 pub returns-clause-sent : goal.returns-clause-sent
-returns-clause-sent g c = rw (← c.self.view_is, c.told-self-inside.ensures, c.retry_came-came.ensures)
+returns-clause-sent g c = rw (← c.self.view_is, c.told-self-inside.ensures, c.sent_came-came.ensures)
     (sent_so c.self.inside.history.calls (command.Retry c.args.publisher.now.number.value c.args.elapsed_ns)
     (result_ok c.retry_if-answer.result))
 

@@ -1,0 +1,29 @@
+use Rattle.iox_hub_commands.specs.DescribeBase.Detail.{detail}
+use Rattle.iox_hub_commands.specs.DescribeBase.declared.type_detail.TypeVariant.TheVariants.{FixedSize, Dynamic}
+use Rattle.iox_hub.proofs.RecordedLoans.{sample_back, sample_waits, sends_so, sent_recorded}
+use Rattle.iox_hub.proofs.recorded.recorded_hub.RecordedHub.send.Goals as goal
+
+pub invariant_of-self : goal.invariant_of-self
+invariant_of-self g c = rw (c.told-self-inside.ensures, c.sent_came-came.ensures, c.has_left-gone.ensures)
+    (sent_recorded (detail FixedSize g.T.ZeroCopySend.name g.T.ZeroCopySend.size g.T.ZeroCopySend.alignment)
+    (detail FixedSize g.U.ZeroCopySend.name g.U.ZeroCopySend.size g.U.ZeroCopySend.alignment)
+    (λ value. g.T.Default.is_default value) (λ header. g.U.Default.is_default header) g.B.PublisherHandlers.fixed
+    (λ handlers. g.B.Degrades.degrades handlers) (λ handlers. g.B.Decides.decides handlers) g.D.SubscriberHandler.fixed
+    (λ handler. g.D.Degrades.degrades handler) (c.typed_calls_are_a_run.ensures.goes_on Dynamic)
+    (c.typed_loans_end_by_steps.ensures.sends Dynamic)
+    c.self.inside.history.calls c.self.inside.hub c.send_if-answer.new.hub c.args.sample.number.value c.args.sample.it
+    c.send_if-answer.result (rw (← c.self.view_is) at c.requires) c.send_if-answer.ensures c.self.invariant)
+
+pub returns-clause-sent : goal.returns-clause-sent
+returns-clause-sent g c = rw (c.back_with_number.ensures, ← c.self.view_is, c.told-self-inside.ensures, c.sent_came-came.ensures, c.has_left-gone.ensures)
+    (sends_so c.self.inside.history.calls c.args.sample.number c.send_if-answer.result)
+
+pub returns-clause-back : goal.returns-clause-back
+returns-clause-back g c = rw c.back_with_number.ensures
+    (sample_back (λ handlers. g.B.Degrades.degrades handlers) (λ handlers. g.B.Decides.decides handlers) c.args.sample
+    c.self.inside.hub c.send_if-answer.new.hub c.send_if-answer.result c.send_if-answer.ensures)
+
+pub returns-clause-waits : goal.returns-clause-waits
+returns-clause-waits g c = rw c.back_with_number.ensures
+    (sample_waits (λ handlers. g.B.Degrades.degrades handlers) (λ handlers. g.B.Decides.decides handlers) c.args.sample
+    c.self.inside.hub c.send_if-answer.new.hub c.send_if-answer.result c.send_if-answer.ensures)
