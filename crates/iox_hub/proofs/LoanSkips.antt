@@ -1,6 +1,7 @@
 -- What a hub does where a loan can't be made or sent: nothing, as for a command that is skipped. And what a loan has that was written.
 use Rattle.std.proofs.Common.{◌≡◌, ◌∙◌, ◌==◌, ◌&&◌, ◌||◌, ◌-◌, ℕ, suc, Bool, true, false, not, cond, Option, None, Some, Result}
-use Rattle.std.proofs.Common.{List, [], ◌∷◌, ◌++◌, length, map, replicate, eqb, refl, sym, ap, subst, arith, append-nil, is_some, inl, inr, ⊎_elim}
+use Rattle.std.proofs.Common.{List, [], ◌∷◌, ◌++◌, length, map, replicate, eqb, refl, sym, ap, subst, arith, append-nil, is_some}
+use Rattle.std.proofs.Common.{inl, inr, ⊎_elim}
 use Rattle.std.proofs.lemmas.Bool.{cases_Bool}
 use Rattle.std.proofs.lemmas.Bool.Decides.{eqb_tells}
 use Rattle.std.proofs.lemmas.List.{length-map}
@@ -63,7 +64,8 @@ module _ {T U B D : Type 0} where
   pub lends_none : (elements : ℕ) (who : PortId) (hub : Hub T U B D) (found : Option (ServicePorts T U))
       → hub_ports who.domain hub ≡ found
       → (publisher_stands who.number found && not (publisher_blocked who.number found)) ≡ false
-      → AtDomain (λ (after : ServicePorts T U). with_hub_ports who.domain after hub) (LoansBy who.number elements elements) found hub None hub
+      → AtDomain (λ (after : ServicePorts T U). with_hub_ports who.domain after hub) (LoansBy who.number elements elements) found
+      hub None hub
   lends_none elements who hub None is never = (refl, refl)
   lends_none elements who hub (Some ports) is never = (
     ports,
@@ -111,8 +113,8 @@ module _ {T U B D : Type 0} where
   sends_none_at : (may_degrade : DegradationInfo → DegradationAction → Type 0) (may : BackpressureInfo → BackpressureDecision → Type 0)
       (who : PortId) (slot : ℕ) (hub : Hub T U B D) (found : Option (ServicePorts T U)) → hub_ports who.domain hub ≡ found
       → (is_written_loan (loan_found who.number slot found) && not (publisher_blocked who.number found)) ≡ false
-      → AtDomain (λ (after : ServicePorts T U). with_hub_ports who.domain after hub) (SendsBy may_degrade may who.number slot) found hub None
-      hub
+      → AtDomain (λ (after : ServicePorts T U). with_hub_ports who.domain after hub) (SendsBy may_degrade may who.number slot) found
+      hub None hub
   sends_none_at may_degrade may who slot hub None is never = (refl, refl)
   sends_none_at may_degrade may who slot hub (Some ports) is never = (
     ports,

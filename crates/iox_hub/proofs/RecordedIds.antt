@@ -59,7 +59,8 @@ module _ {T U B D : Type 0} where
   at_keeps domain step None old new answer (none, is) = same_id is
   at_keeps domain step (Some ports) old new answer (after, did, is) = ap (λ hub. hub.table.id) is
 
-  pub changed_keeps : (domain : DomainId) (change : ServicePorts T U → ServicePorts T U) (found : Option (ServicePorts T U)) (old : Hub T U B D)
+  pub changed_keeps : (domain : DomainId) (change : ServicePorts T U → ServicePorts T U) (found : Option (ServicePorts T U))
+      (old : Hub T U B D)
       → (changed_at (λ after. with_hub_ports domain after old) change found old).table.id ≡ old.table.id
   changed_keeps domain change None old = refl
   changed_keeps domain change (Some ports) old = refl

@@ -1,5 +1,6 @@
 -- Calls on loans keep a recorded hub tied to what was asked of it, and are told in the words of their contracts.
-use Rattle.std.proofs.Common.{◌≡◌, ◌∙◌, ◌||◌, ◌==◌, ℕ, Bool, true, false, not, length, List, ◌++◌, ◌∷◌, [], Option, None, Some, Result, Ok, Err}
+use Rattle.std.proofs.Common.{◌≡◌, ◌∙◌, ◌||◌, ◌==◌, ℕ, Bool, true, false, not, length, List, ◌++◌, ◌∷◌, [], Option, None, Some}
+use Rattle.std.proofs.Common.{Result, Ok, Err}
 use Rattle.std.proofs.Common.{IfOk, IfErr, IfSome, MatchResult, refl, sym, ap, subst, is_ok, if◌then◌else◌}
 use Rattle.std.specs.Result.{result_ok}
 use Rattle.iox_command.specs.declared.command.Command.{Command}
@@ -169,11 +170,13 @@ SendsOrBack degrades decides sample old answer new =
 module _ {T U : Type 0} (calls : Calls T) (number : Number) where
   pub sends_so : {S : Type 0} (answer : Result (Result (Sent T U) SendError) S)
       → MatchResult (back_by number answer)
-      (λ sent. asked_with (removed_if (is_ok answer) (without_loan number.value) calls.made) (command.Send number.value) (told_sent_if (result_ok answer)) calls
+      (λ sent. asked_with (removed_if (is_ok answer) (without_loan number.value) calls.made) (command.Send number.value)
+      (told_sent_if (result_ok answer)) calls
       ≡ record (asked_too (command.Send number.value) (told_send (Some sent)) calls) {
         made = record calls.made { loans = removed calls.made.loans number.value };
       })
-      (λ back. asked_with (removed_if (is_ok answer) (without_loan number.value) calls.made) (command.Send number.value) (told_sent_if (result_ok answer)) calls
+      (λ back. asked_with (removed_if (is_ok answer) (without_loan number.value) calls.made) (command.Send number.value)
+      (told_sent_if (result_ok answer)) calls
       ≡ asked_too (command.Send number.value) reply.Skipped calls)
   sends_so (Ok (Ok (sent.Delivered count))) = refl
   sends_so (Ok (Ok (sent.Blocked blocked))) = refl
@@ -351,7 +354,8 @@ module _ {T U B D : Type 0} (payload user_header : Detail) (is_default : T → T
       → value_at old.made.loans number ≡ Some (record { port = sample.port; slot = sample.slot })
       → SendsOrBack degrades decides sample hub answer after
       → Kept fit old hub
-      → Kept fit (asked_with (removed_if (is_ok answer) (without_loan number) old.made) (command.Send number) (told_sent_if (result_ok answer)) old) after
+      → Kept fit (asked_with (removed_if (is_ok answer) (without_loan number) old.made) (command.Send number)
+      (told_sent_if (result_ok answer)) old) after
   sent_recorded goes_on steps old hub after number sample (Ok answer) there (outcome, sends, is) was =
       spent_on goes_on old hub after (command.Send number) (told_sent answer) number
       (at_keeps sample.port.domain (SendsBy (publisher_may_degrade degrades sample.port.domain sample.port.number hub)

@@ -629,9 +629,9 @@ impl<
         calls::received_with_number(answer, number)
     }
 
-    /// The values of a sample that is held: what the command `Read` is answered. They were put before, or sent as a loan, by a publisher of the
-    /// subscriber's own service, and that send began. None where the sample isn't held: never by `AreFollowed`, whatever ports left. No call is
-    /// recorded.
+    /// The values of a sample that is held: what the command `Read` is answered. They were put before, or sent as a loan, by a publisher of
+    /// the subscriber's own service, and that send began. None where the sample isn't held: never by `AreFollowed`, whatever ports left.
+    /// No call is recorded.
     /// Example: `let values = hub.payload(&sample)?;`
     pub fn payload(&self, sample: &Named<slice::Sample<T, U>>) -> Option<&[T]>
         requires { value_at self.now.calls.made.samples sample.now.number.value
