@@ -1,5 +1,5 @@
 -- What a hub does where a loan can't be made or sent: nothing, as for a command that is skipped. And what a loan has that was written.
-use Rattle.std.proofs.Common.{◌≡◌, ◌∙◌, ◌==◌, ◌&&◌, ◌||◌, ◌-◌, ℕ, suc, Bool, true, false, not, cond, Option, None, Some, Result}
+use Rattle.std.proofs.Common.{◌≡◌, ◌∙◌, ◌==◌, ◌&&◌, ◌||◌, ◌-◌, ℕ, suc, Bool, true, false, not, cond, Option, None, Some}
 use Rattle.std.proofs.Common.{List, [], ◌∷◌, ◌++◌, length, map, replicate, eqb, refl, sym, ap, subst, arith, append-nil, is_some}
 use Rattle.std.proofs.Common.{inl, inr, ⊎_elim}
 use Rattle.std.proofs.lemmas.Bool.{cases_Bool}
@@ -7,7 +7,6 @@ use Rattle.std.proofs.lemmas.Bool.Decides.{eqb_tells}
 use Rattle.std.proofs.lemmas.List.{length-map}
 use Rattle.std.specs.List.{find, list_all, list_any}
 use Rattle.std.specs.Prelude.{position}
-use Rattle.std.specs.Option.{unwrap_or}
 use Rattle.iox_delivery.proofs.Lent.{stepped}
 use Rattle.iox_delivery.specs.Holding.{loan_found, publisher_blocked, publisher_stands}
 use Rattle.iox_delivery.specs.Slices.{WritesAll}
@@ -19,19 +18,17 @@ use Rattle.iox_domain.specs.DomainPorts.Loaning as loaning
 use Rattle.iox_domain.specs.DomainPorts.Messages.{Loan, is_written, write_all, written_of}
 use Rattle.iox_domain.specs.DomainPorts.MessagesSending.{has_length, is_written_loan}
 use Rattle.iox_domain.specs.DomainPorts.Publishers.{changed_at_port, port_of}
-use Rattle.iox_domain.specs.DomainPorts.Sending.{ready_at, ready_loan}
-use Rattle.iox_domain.specs.DomainPorts.Writing.{changed_if, loan_of, values_at}
+use Rattle.iox_domain.specs.DomainPorts.Sending.{ready_at}
+use Rattle.iox_domain.specs.DomainPorts.Writing.{changed_if, loan_of}
 use Rattle.iox_domain.specs.DomainPorts.declared.publisher_port.PublisherPort.{PublisherPort}
 use Rattle.iox_domain.specs.Lending as lending
 use Rattle.iox_domain.specs.Lending.{LoansOne, loan_at_port, passes_port, written_in}
 use Rattle.iox_domain.specs.Ports.{AtPublisher}
 use Rattle.iox_domain.specs.PortsPublishing.{SendsOne, is_blocked}
 use Rattle.iox_domain.specs.Steps.{LoansBy, SendsBy}
-use Rattle.iox_domain.specs.declared.domain_id.DomainId.{DomainId}
 use Rattle.iox_domain.specs.declared.ports.service_ports.ServicePorts.{ServicePorts}
 use Rattle.iox_hub_base.specs.AsHome.{hub_ports, with_hub_ports}
 use Rattle.iox_hub_base.specs.declared.hub.Hub.{Hub}
-use Rattle.iox_hub_commands.specs.Calls.{may_lend}
 use Rattle.iox_hub_commands.specs.DomainValues.declared.backpressure.BackpressureDecision.{BackpressureDecision}
 use Rattle.iox_hub_commands.specs.DomainValues.declared.backpressure.BackpressureInfo.{BackpressureInfo}
 use Rattle.iox_hub_commands.specs.DomainValues.declared.degradation.DegradationAction.{DegradationAction}

@@ -1,5 +1,5 @@
 -- Calls on loans keep a recorded hub tied to what was asked of it, and are told in the words of their contracts.
-use Rattle.std.proofs.Common.{◌≡◌, ◌∙◌, ◌||◌, ◌==◌, ℕ, Bool, true, false, not, length, List, ◌++◌, ◌∷◌, [], Option, None, Some}
+use Rattle.std.proofs.Common.{◌≡◌, ◌∙◌, ◌||◌, ◌==◌, ℕ, Bool, true, false, length, List, Option, None, Some}
 use Rattle.std.proofs.Common.{Result, Ok, Err}
 use Rattle.std.proofs.Common.{IfOk, IfErr, IfSome, MatchResult, refl, sym, ap, subst, is_ok, if◌then◌else◌}
 use Rattle.std.specs.Result.{result_ok}
@@ -10,10 +10,10 @@ use Rattle.iox_command.specs.declared.reply.Reply.{Reply}
 use Rattle.iox_command.specs.declared.reply.Reply.TheVariants as reply
 use Rattle.iox_container.proofs.Rising.{Rises-push, Rises-removed}
 use Rattle.iox_container.proofs.Telling.{put as found_next}
-use Rattle.iox_container.specs.NumberTable.{NumberTable, Rises, inserted, removed, value_at}
+use Rattle.iox_container.specs.NumberTable.{Rises, inserted, removed, value_at}
 use Rattle.iox_delivery.specs.Holding.{loan_found, publisher_blocked, publisher_stands}
 use Rattle.iox_delivery.specs.Publishing.{GivesUpLoan, SendsSample, lent_of, written_of}
-use Rattle.iox_delivery.specs.Slices.{LendsDefaults, LendsFilled, LendsSlice, WritesAll}
+use Rattle.iox_delivery.specs.Slices.{LendsDefaults, LendsSlice, WritesAll}
 use Rattle.iox_delivery.specs.declared.kind.Slice.{Slice}
 use Rattle.iox_delivery.specs.declared.loan.Loan.{Loan as Lent}
 use Rattle.iox_delivery.specs.declared.loan.Uninit.{Uninit}

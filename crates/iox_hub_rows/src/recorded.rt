@@ -259,6 +259,105 @@ fn exchange(
     is_received(alloc, hub, subscriber, &[9])
 }
 
+// Whether a loan of these values is written and sent to one subscriber.
+fn is_lent_and_sent(
+    alloc: Global,
+    hub: &mut Recorded,
+    publisher: &Named<slice::Publisher<u64, ()>>,
+    values: &[u64],
+) -> bool
+    requires { option_map (λ made. made.port) (value_at hub.old.calls.made.publishers publisher.now.number.value)
+        ≡ Some publisher.now.it.port }
+    ensures publishers { hub.new.calls.made.publishers ≡ hub.old.calls.made.publishers }
+    ensures subscribers { hub.new.calls.made.subscribers ≡ hub.old.calls.made.subscribers }
+{
+    let Some(Ok(loan)) = hub.loan_slice_uninit(alloc, publisher, values.len()) else {
+        return false;
+    };
+    let (sample, is_written) = hub.write_from_slice(loan, values);
+    match hub.send(alloc, sample) {
+        Ok(Ok(Sent::Delivered(delivered))) => is_written && delivered == 1,
+        Ok(Ok(Sent::Blocked(blocked))) => {
+            let _ = hub.give_up(publisher, blocked);
+            false
+        }
+        Ok(Err(_)) => false,
+        Err(sample) => {
+            hub.drop_loan(sample);
+            false
+        }
+    }
+}
+
+// Whether a loan of defaults is given up.
+fn is_given_up(
+    alloc: Global,
+    hub: &mut Recorded,
+    publisher: &Named<slice::Publisher<u64, ()>>,
+) -> bool
+    requires { option_map (λ made. made.port) (value_at hub.old.calls.made.publishers publisher.now.number.value)
+        ≡ Some publisher.now.it.port }
+    ensures publishers { hub.new.calls.made.publishers ≡ hub.old.calls.made.publishers }
+    ensures subscribers { hub.new.calls.made.subscribers ≡ hub.old.calls.made.subscribers }
+{
+    match hub.loan_slice(alloc, publisher, 3) {
+        Some(Ok(sample)) => {
+            hub.drop_loan(sample);
+            true
+        }
+        Some(Err(_)) => false,
+        None => false,
+    }
+}
+
+// Whether a loan is refused that is longer than the publisher's slots.
+fn is_too_long(
+    alloc: Global,
+    hub: &mut Recorded,
+    publisher: &Named<slice::Publisher<u64, ()>>,
+) -> bool
+    requires { option_map (λ made. made.port) (value_at hub.old.calls.made.publishers publisher.now.number.value)
+        ≡ Some publisher.now.it.port }
+    ensures publishers { hub.new.calls.made.publishers ≡ hub.old.calls.made.publishers }
+    ensures subscribers { hub.new.calls.made.subscribers ≡ hub.old.calls.made.subscribers }
+{
+    match hub.loan_slice_uninit(alloc, publisher, 65) {
+        Some(Err(LoanError::ExceedsMaxLoanSize)) => true,
+        Some(Err(_)) => false,
+        Some(Ok(loan)) => {
+            hub.drop_loan(loan);
+            false
+        }
+        None => false,
+    }
+}
+
+// Whether loans are sent and received, given up, and refused.
+fn lends(
+    alloc: Global,
+    hub: &mut Recorded,
+    publisher: &Named<slice::Publisher<u64, ()>>,
+    subscriber: &Named<slice::Subscriber<u64, ()>>,
+    values: &[u64],
+) -> bool
+    requires publisher { option_map (λ made. made.port) (value_at hub.old.calls.made.publishers publisher.now.number.value)
+        ≡ Some publisher.now.it.port }
+    requires subscriber { value_at hub.old.calls.made.subscribers subscriber.now.number.value ≡ Some subscriber.now.it.port }
+    ensures publishers { hub.new.calls.made.publishers ≡ hub.old.calls.made.publishers }
+    ensures subscribers { hub.new.calls.made.subscribers ≡ hub.old.calls.made.subscribers }
+{
+    if !is_given_up(alloc, hub, publisher) {
+        return false;
+    }
+    if !is_too_long(alloc, hub, publisher) {
+        return false;
+    }
+    if !is_lent_and_sent(alloc, hub, publisher, values) {
+        return false;
+    }
+    is_received(alloc, hub, subscriber, values)
+}
+
 // Whether a publisher leaves.
 fn publisher_leaves(hub: &mut Recorded, publisher: Named<slice::Publisher<u64, ()>>) -> bool
     requires { option_map (λ made. made.port) (value_at hub.old.calls.made.publishers publisher.number.value) ≡ Some publisher.it.port }
@@ -288,7 +387,7 @@ fn subscriber_leaves(hub: &mut Recorded, subscriber: Named<slice::Subscriber<u64
     }
 }
 
-// Whether ports of the service are made as the options ask, exchange messages, and leave.
+// Whether ports of the service are made as the options ask, exchange messages, lend, and leave.
 fn converse(
     alloc: Global,
     hub: &mut Recorded,
@@ -306,10 +405,11 @@ fn converse(
     };
     let is_asked = publisher.it.initial_max_slice_len() == 64 && subscriber.it.buffer_size() == 1;
     let goes = exchange(alloc, hub, &publisher, &subscriber, values);
+    let lends = lends(alloc, hub, &publisher, &subscriber, values);
     let fits = hub.received_fit();
     let publisher_left = publisher_leaves(hub, publisher);
     let subscriber_left = subscriber_leaves(hub, subscriber);
-    is_asked && goes && fits && publisher_left && subscriber_left
+    is_asked && goes && lends && fits && publisher_left && subscriber_left
 }
 
 // Whether a service is opened, and messages go through it.
