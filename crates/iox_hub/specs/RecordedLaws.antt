@@ -84,9 +84,9 @@ AsAskedIsMet = (types : MessageTypeDetails) (name : List ℕ) (named : PublishSu
     → HasForm service.description → IsAsAsked types name named required service → IsMetOrMade types name named required service
 
 -- A sample has values that were sent. Among the commands, by their places, is one to receive that was answered with the sample, with these
--- values; and before that one that began their send: a put of them, or the send of a loan, which has just these values in the machine's state
--- before. It waited, went to so many, or didn't reach all. In the machine's state before the sample was received, the publisher that sent
--- them is one of the subscriber's own service.
+-- values; and before that one that began their send: a put of them, or the send of a loan, which has just these values in the machine's
+-- state before. It waited, went to so many, or didn't reach all. In the machine's state before the sample was received, the publisher that
+-- sent them is one of the subscriber's own service.
 pub record WasSentBefore {T : Type 0} (types : MessageTypeDetails) (choices : Choices T) (buffer sample : ℕ) (values : List T)
     (asked : List (Command T)) (answers : List (Reply T)) : Type 0 where
   pub received : ℕ

@@ -15,7 +15,8 @@ invariant_of-self g c = rw c.told_lent-self-inside.ensures
     (λ handler. g.D.Degrades.degrades handler) (c.typed_calls_are_a_run.ensures.goes_on Dynamic)
     (c.typed_defaults_are_steps.ensures.slices Dynamic)
     c.self.inside.history.calls c.self.inside.hub c.lend_if-answer.new.hub c.args.publisher.now.number.value c.args.len
-    c.args.publisher.now.it.port c.lend_if-answer.result (rw (← c.self.view_is) at c.requires) c.lend_if-answer.ensures.lends c.lend_if-answer.ensures.default c.self.invariant)
+    c.args.publisher.now.it.port c.lend_if-answer.result (rw (← c.self.view_is) at c.requires) c.lend_if-answer.ensures.lends
+    c.lend_if-answer.ensures.default c.self.invariant)
 
 pub returns-clause-lent : goal.returns-clause-lent
 returns-clause-lent g c = rw (c.with_number.ensures, ← c.self.view_is, c.told_lent-self-inside.ensures)
@@ -29,7 +30,8 @@ returns-clause-number g c = rw (c.with_number.ensures, ← c.self.view_is, c.tol
 
 pub returns-clause-lends : goal.returns-clause-lends
 returns-clause-lends g c = rw c.with_number.ensures
-    (defaults_so c.args.publisher.now.it.port c.args.len c.given-number.result c.self.inside.hub c.lend_if-answer.new.hub (λ value. g.T.Default.is_default value)
+    (defaults_so c.args.publisher.now.it.port c.args.len c.given-number.result c.self.inside.hub c.lend_if-answer.new.hub
+    (λ value. g.T.Default.is_default value)
     (may_lend hub_ports c.args.publisher.now.it.port c.self.inside.hub) c.lend_if-answer.result c.lend_if-answer.ensures.lends)
 
 pub returns-clause-others : goal.returns-clause-others

@@ -15,7 +15,8 @@ invariant_of-self g c = rw c.told_lent-self-inside.ensures
     (λ handler. g.D.Degrades.degrades handler) (c.typed_calls_are_a_run.ensures.goes_on Dynamic)
     (c.typed_loans_are_steps.ensures Dynamic)
     c.self.inside.history.calls c.self.inside.hub c.lend_uninit_if-answer.new.hub c.args.publisher.now.number.value c.args.len
-    c.args.publisher.now.it.port c.lend_uninit_if-answer.result (rw (← c.self.view_is) at c.requires) c.lend_uninit_if-answer.ensures c.self.invariant)
+    c.args.publisher.now.it.port c.lend_uninit_if-answer.result (rw (← c.self.view_is) at c.requires)
+    c.lend_uninit_if-answer.ensures c.self.invariant)
 
 pub returns-clause-lent : goal.returns-clause-lent
 returns-clause-lent g c = rw (c.with_number.ensures, ← c.self.view_is, c.told_lent-self-inside.ensures)

@@ -15,7 +15,13 @@ invariant_of-self g c = rw (c.told-self-inside.ensures, c.sent_came-came.ensures
     c.send_if-answer.result (rw (← c.self.view_is) at c.requires) c.send_if-answer.ensures c.self.invariant)
 
 pub returns-clause-sent : goal.returns-clause-sent
-returns-clause-sent g c = rw (c.back_with_number.ensures, ← c.self.view_is, c.told-self-inside.ensures, c.sent_came-came.ensures, c.has_left-gone.ensures)
+returns-clause-sent g c = rw (
+  c.back_with_number.ensures,
+  ← c.self.view_is,
+  c.told-self-inside.ensures,
+  c.sent_came-came.ensures,
+  c.has_left-gone.ensures,
+)
     (sends_so c.self.inside.history.calls c.args.sample.number c.send_if-answer.result)
 
 pub returns-clause-back : goal.returns-clause-back
