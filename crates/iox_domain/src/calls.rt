@@ -11,7 +11,7 @@ ghost use Rattle.iox_domain.specs.Homes.{ports_of, with_ports, with_publisher, w
 ghost use Rattle.iox_domain.specs.Homes.{publisher_degrades, publisher_decides, subscriber_degrades};
 
 use crate::domain_id::DomainId;
-use crate::home::Home;
+use crate::home::{Home, LendsDomains};
 use crate::ports::{PublisherConfig, ServicePorts, SubscriberConfig};
 use iox_domain_ports::{Sent, Taken};
 use iox_domain_values::{

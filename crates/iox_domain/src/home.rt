@@ -4,8 +4,6 @@ ghost use Rattle.std.specs.Borrow.{sem, LendsIf};
 ghost use Rattle.std.specs.Option.{option_copied_mut};
 ghost use Rattle.iox_domain.specs.AsHome.{same_id, own_state, own_changed};
 ghost use Rattle.iox_domain.specs.HomeLaws as homely;
-ghost use Rattle.iox_domain.specs.contracts.state.DomainState as lent;
-ghost use Rattle.iox_domain.specs.declared.state.DomainState.{DomainState};
 ghost use Rattle.iox_domain.specs.declared.domain_id.DomainId.{DomainId};
 
 use crate::domain::Domain;
@@ -13,68 +11,65 @@ use crate::domain_id::DomainId;
 use crate::state::DomainState;
 use iox_domain_values::{Decides, Degrades};
 
-/// What holds domains, and with them the ports of their services: one domain, or those of a hub. Each call of a port is handed it.
+/// What lends something of each domain by its id, as its state.
 ///
-/// It lends a domain by its id, and repeats none of its calls: a call of a port is one look-up, and then one of what was lent. Who decides
-/// is part of that, and a type of the home's own.
-pub trait Home<T, U> {
-    /// Who decides for publishers.
-    type ForPublishers: Decides + Degrades;
-    /// Who decides for subscribers.
-    type ForSubscribers: Degrades;
-
+/// It is over the type of what is lent, so that a call in a function over any home costs the prover nothing.
+pub trait LendsDomains<S> {
     // what the domain of an id lends, if it is here
-    ghost domain_of: { DomainId → Self → Option (DomainState T U Self.ForPublishers Self.ForSubscribers) };
+    ghost domain_of: { DomainId → Self → Option S };
 
     // a home after one step of what the domain of an id lends, if it is here
-    ghost changed: { DomainId → (DomainState T U Self.ForPublishers Self.ForSubscribers
-        → DomainState T U Self.ForPublishers Self.ForSubscribers) → Self → Self };
+    ghost changed: { DomainId → (S → S) → Self → Self };
 
     /// The state of the domain of this id, if it is here.
-    fn domain(
-        &self,
-        id: DomainId,
-    ) -> Option<&DomainState<T, U, Self::ForPublishers, Self::ForSubscribers>>
+    fn domain(&self, id: DomainId) -> Option<&S>
         ensures { option_copied result ≡ domain_of id self.now };
 
     /// The state of the domain of this id, if it is here, to be changed in its place.
-    fn domain_mut(
-        &mut self,
-        id: DomainId,
-    ) -> Option<&mut DomainState<T, U, Self::ForPublishers, Self::ForSubscribers>>
-        ensures* writes_back { sem 𝓛 (LendsIf Self.row (lent.the_row T.row U.row Self.ForPublishers.row Self.ForSubscribers.row)
+    fn domain_mut(&mut self, id: DomainId) -> Option<&mut S>
+        ensures* writes_back { sem 𝓛 (LendsIf Self.row S.row
             self.entry result (λ last. changed id (λ before. last) self.old) self.old) }
         ensures value { option_copied_mut result ≡ domain_of id self.old };
 
     // what was changed is found so
-    ghost changed_found: { (id : DomainId) (step : DomainState T U Self.ForPublishers Self.ForSubscribers
-        → DomainState T U Self.ForPublishers Self.ForSubscribers) (home : Self)
+    ghost changed_found: { (id : DomainId) (step : S → S) (home : Self)
         → domain_of id (changed id step home) ≡ option_map step (domain_of id home) };
 
     // the other domains stay as they were
-    ghost others_stay: { (id other : DomainId) (step : DomainState T U Self.ForPublishers Self.ForSubscribers
-        → DomainState T U Self.ForPublishers Self.ForSubscribers) (home : Self) → (id ≡ other → ⊥)
+    ghost others_stay: { (id other : DomainId) (step : S → S) (home : Self) → (id ≡ other → ⊥)
         → domain_of other (changed id step home) ≡ domain_of other home };
 
     // steps that make the same of what is there are one
-    ghost alike: { (id : DomainId) (one other : DomainState T U Self.ForPublishers Self.ForSubscribers
-        → DomainState T U Self.ForPublishers Self.ForSubscribers) (home : Self)
+    ghost alike: { (id : DomainId) (one other : S → S) (home : Self)
         → option_map one (domain_of id home) ≡ option_map other (domain_of id home) → changed id one home ≡ changed id other home };
 
     // a step that changes nothing
     ghost unchanged: { (id : DomainId) (home : Self) → changed id (λ state. state) home ≡ home };
 
     // two steps are one
-    ghost again: { (id : DomainId) (first second : DomainState T U Self.ForPublishers Self.ForSubscribers
-        → DomainState T U Self.ForPublishers Self.ForSubscribers) (home : Self)
+    ghost again: { (id : DomainId) (first second : S → S) (home : Self)
         → changed id second (changed id first home) ≡ changed id (λ state. second (first state)) home };
+}
+
+/// What holds domains, and with them the ports of their services: one domain, or those of a hub. Each call of a port is handed it.
+///
+/// It lends a domain by its id, and repeats none of its calls: a call of a port is one look-up, and then one of what was lent. Who decides
+/// is part of that, and a type of the home's own.
+pub trait Home<T, U>: LendsDomains<DomainState<T, U, Self::ForPublishers, Self::ForSubscribers>> {
+    /// Who decides for publishers.
+    type ForPublishers: Decides + Degrades;
+    /// Who decides for subscribers.
+    type ForSubscribers: Degrades;
 }
 
 impl<T: Copy, U: Copy, B: Decides + Degrades, D: Degrades> Home<T, U> for Domain<T, U, B, D> {
     type ForPublishers = B;
 
     type ForSubscribers = D;
+}
 
+impl<T: Copy, U: Copy, B: Decides + Degrades, D: Degrades> LendsDomains<DomainState<T, U, B, D>>
+    for Domain<T, U, B, D> {
     ghost domain_of = { own_state };
 
     ghost changed = { own_changed };

@@ -52,7 +52,7 @@ pub mod subscribing;
 
 pub use domain::Domain;
 pub use domain_id::DomainId;
-pub use home::Home;
+pub use home::{Home, LendsDomains};
 pub use kept::Kept;
 pub use nobody::Nobody;
 pub use parts::DomainParts;

@@ -4,24 +4,27 @@ ghost use Rattle.iox_hub_base.specs.AsHome.{with_services, hub_state, hub_change
 ghost use Rattle.iox_hub_base.specs.HomeLaws as homely;
 
 use crate::hub::Hub;
-use iox_domain::{DomainId, DomainState, Home};
+use iox_domain::{DomainId, DomainState, Home, LendsDomains};
 use iox_domain_values::{Decides, Degrades};
 
 impl<T: Copy, U: Copy, B: Decides + Degrades, D: Degrades> Home<T, U> for Hub<T, U, B, D> {
     type ForPublishers = B;
 
     type ForSubscribers = D;
+}
 
+impl<T: Copy, U: Copy, B: Decides + Degrades, D: Degrades> LendsDomains<DomainState<T, U, B, D>>
+    for Hub<T, U, B, D> {
     ghost domain_of = { hub_state };
 
     ghost changed = { hub_changed };
 
     fn domain(&self, id: DomainId) -> Option<&DomainState<T, U, B, D>> {
-        Home::domain(&self.services, id)
+        LendsDomains::domain(&self.services, id)
     }
 
     fn domain_mut(&mut self, id: DomainId) -> Option<&mut DomainState<T, U, B, D>> {
-        Home::domain_mut(&mut self.services, id)
+        LendsDomains::domain_mut(&mut self.services, id)
     }
 
     ghost changed_found = { λ id step hub. homely.changed_found id step hub.services };

@@ -4,7 +4,7 @@ ghost use Rattle.iox_hub_base.specs.ServicesAsHome.{state_at, changed_at};
 ghost use Rattle.iox_hub_base.specs.HomeLaws as homely;
 
 use crate::services::Services;
-use iox_domain::{DomainId, DomainState, Home};
+use iox_domain::{DomainId, DomainState, Home, LendsDomains};
 use iox_domain_values::{Decides, Degrades};
 
 // Whether an id is of a hub.
@@ -18,7 +18,10 @@ impl<T: Copy, U: Copy, B: Decides + Degrades, D: Degrades> Home<T, U> for Servic
     type ForPublishers = B;
 
     type ForSubscribers = D;
+}
 
+impl<T: Copy, U: Copy, B: Decides + Degrades, D: Degrades> LendsDomains<DomainState<T, U, B, D>>
+    for Services<T, U, B, D> {
     ghost domain_of = { state_at };
 
     ghost changed = { changed_at };

@@ -4,7 +4,7 @@ use Rattle.iox_delivery.proofs.lending.send.Goals as goal
 
 pub unreachable-requires : goal.unreachable-requires
 unreachable-requires g c =
-    let home = g.H.Home in
+    let home = g.H.LendsDomains in
     let port = c.args.port in
     sample_sends (λ after. homes.with_ports home.changed port.domain after c.args.home.now)
     (homes.publisher_degrades (λ kept. g.H.ForPublishers.Degrades.degrades kept) home.domain_of port.domain port.number

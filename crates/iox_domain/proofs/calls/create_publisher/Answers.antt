@@ -7,7 +7,7 @@ use Rattle.iox_domain.proofs.calls.create_publisher.Goals as goal
 
 pub returns : goal.returns
 returns g c =
-    comes_here g.H.Home.domain_of g.H.Home.changed g.met.H.Home.alike g.met.H.Home.again g.met.H.Home.unchanged c.args.id
+    comes_here g.H.LendsDomains.domain_of g.H.LendsDomains.changed g.met.H.LendsDomains.alike g.met.H.LendsDomains.again g.met.H.LendsDomains.unchanged c.args.id
     (λ number. publisher_kept number c.args.handlers)
     (PublisherComes (g.O.Overrides.overrides c.args.overriding.now)
     (g.H.ForPublishers.Degrades.degrades c.args.handlers FailedToEstablishConnection) c.args.config c.args.user_header)

@@ -7,7 +7,7 @@ use Rattle.iox_domain.proofs.calls.has_samples.Goals as goal
 
 pub returns : goal.returns
 returns g c =
-    at_here g.H.Home.domain_of g.H.Home.changed g.met.H.Home.alike c.args.id
+    at_here g.H.LendsDomains.domain_of g.H.LendsDomains.changed g.met.H.LendsDomains.alike c.args.id
     (λ found. TellsBy (kept_degrades (λ kept. g.H.ForSubscribers.Degrades.degrades kept)
     (subscriber_handler_in c.args.number found)) c.args.number) c.args.home.now c.in_ok-domain.domain.now c.has_samples.new.self
     c.has_samples.result (search (rules, c.in_ok-domain.ensures.value)) c.has_samples.ensures.has c.has_samples.ensures.rest

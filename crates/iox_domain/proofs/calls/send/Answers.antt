@@ -7,7 +7,7 @@ use Rattle.iox_domain.proofs.calls.send.Goals as goal
 
 pub returns : goal.returns
 returns g c =
-    at_here g.H.Home.domain_of g.H.Home.changed g.met.H.Home.alike c.args.id
+    at_here g.H.LendsDomains.domain_of g.H.LendsDomains.changed g.met.H.LendsDomains.alike c.args.id
     (λ found. SendsBy (kept_degrades (λ kept. g.H.ForPublishers.Degrades.degrades kept) (publisher_handlers_in c.args.number found))
     (kept_decides (λ kept. g.H.ForPublishers.Decides.decides kept) (publisher_handlers_in c.args.number found)) c.args.number
     c.args.slot) c.args.home.now c.in_ok-domain.domain.now c.send.new.self c.send.result

@@ -7,7 +7,7 @@ use Rattle.iox_domain.proofs.calls.update_subscriber.Goals as goal
 
 pub returns : goal.returns
 returns g c =
-    at_here g.H.Home.domain_of g.H.Home.changed g.met.H.Home.alike c.args.id
+    at_here g.H.LendsDomains.domain_of g.H.LendsDomains.changed g.met.H.LendsDomains.alike c.args.id
     (λ found. FollowsBy (kept_degrades (λ kept. g.H.ForSubscribers.Degrades.degrades kept)
     (subscriber_handler_in c.args.number found)) c.args.number) c.args.home.now c.in_ok-domain.domain.now
     c.update_subscriber.new.self c.update_subscriber.result (search (rules, c.in_ok-domain.ensures.value))

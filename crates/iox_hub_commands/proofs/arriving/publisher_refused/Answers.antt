@@ -14,10 +14,10 @@ returns g c = λ made handlers. (
   (
     made,
     ((refl, refl, le_refl _), (refl, refl, le_refl _), (refl, refl, le_refl _), (refl, refl, le_refl _)),
-    refused (λ after. homes.with_ports g.H.Home.changed c.args.domain after c.args.home.now)
-        (λ number held. homes.with_publisher g.H.Home.changed c.args.domain number handlers held) _
+    refused (λ after. homes.with_ports g.H.LendsDomains.changed c.args.domain after c.args.home.now)
+        (λ number held. homes.with_publisher g.H.LendsDomains.changed c.args.domain number handlers held) _
         (λ ports. why_no_publisher (publisher_config c.args.owner c.args.options.now) ports)
-        (homes.ports_of g.H.Home.domain_of c.args.domain c.args.home.now) (with_publisher c.args.domain true) made c.args.home.now
+        (homes.ports_of g.H.LendsDomains.domain_of c.args.domain c.args.home.now) (with_publisher c.args.domain true) made c.args.home.now
         c.why_no_publisher.result made.publishers.next
         (rw c.publisher_config-config.ensures at c.why_no_publisher.ensures),
   ),

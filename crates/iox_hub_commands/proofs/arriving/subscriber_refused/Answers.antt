@@ -12,10 +12,10 @@ returns g c = λ made handler. (
   (
     made,
     ((refl, refl, le_refl _), (refl, refl, le_refl _), (refl, refl, le_refl _), (refl, refl, le_refl _)),
-    refused (λ after. homes.with_ports g.H.Home.changed c.args.domain after c.args.home.now)
-        (λ number held. homes.with_subscriber g.H.Home.changed c.args.domain number handler held) _
+    refused (λ after. homes.with_ports g.H.LendsDomains.changed c.args.domain after c.args.home.now)
+        (λ number held. homes.with_subscriber g.H.LendsDomains.changed c.args.domain number handler held) _
         (λ ports. why_no_subscriber (subscriber_config c.args.owner c.args.options.now) ports)
-        (homes.ports_of g.H.Home.domain_of c.args.domain c.args.home.now) (with_subscriber c.args.domain) made c.args.home.now
+        (homes.ports_of g.H.LendsDomains.domain_of c.args.domain c.args.home.now) (with_subscriber c.args.domain) made c.args.home.now
         c.why_no_subscriber.result made.subscribers.next
         (rw c.subscriber_config-config.ensures at c.why_no_subscriber.ensures),
   ),

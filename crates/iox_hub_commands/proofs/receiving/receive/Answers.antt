@@ -12,19 +12,19 @@ returns-in-Ok-Some-Ok-Some-clause-receives g c = (
   Ok (Some (Ok (Some c.in-Ok-Some-Ok-Some.field-0-0-0-0))),
   (rw (c.in-Ok-Some-Ok-Some.field-0-is, c.in-Ok-Some-Ok-Some.field-0-0-is, c.in-Ok-Some-Ok-Some.field-0-0-0-is) at
       c.in-Ok-Some-Ok-Some.ensures.grows),
-  came_is_told (λ sample. values_under (homes.ports_of g.H.Home.domain_of) (value_at c.receive_growing.new.self.samples sample)
+  came_is_told (λ sample. values_under (homes.ports_of g.H.LendsDomains.domain_of) (value_at c.receive_growing.new.self.samples sample)
       c.receive_growing.new.home) c.in-Ok-Some-Ok-Some.field-0-0-0-0 c.next_number-sample.result c.arrival.result
-      (came_is_next (homes.ports_of g.H.Home.domain_of) (homes.with_ports g.H.Home.changed)
-      (homes.subscriber_degrades (λ kept. g.H.ForSubscribers.Degrades.degrades kept) g.H.Home.domain_of)
-      (put_is_there g.H.Home.domain_of g.H.Home.changed g.met.H.Home.changed_found) _ c.args.made.now c.receive_growing.new.self
+      (came_is_next (homes.ports_of g.H.LendsDomains.domain_of) (homes.with_ports g.H.LendsDomains.changed)
+      (homes.subscriber_degrades (λ kept. g.H.ForSubscribers.Degrades.degrades kept) g.H.LendsDomains.domain_of)
+      (put_is_there g.H.LendsDomains.domain_of g.H.LendsDomains.changed g.met.H.LendsDomains.changed_found) _ c.args.made.now c.receive_growing.new.self
       c.args.home.now c.receive_growing.new.home
       c.in-Ok-Some-Ok-Some.field-0-0-0-0 (rw
       (c.in-Ok-Some-Ok-Some.field-0-is, c.in-Ok-Some-Ok-Some.field-0-0-is, c.in-Ok-Some-Ok-Some.field-0-0-0-is) at
       c.in-Ok-Some-Ok-Some.ensures.grows) ∙ sym c.next_number-sample.ensures.value)
       (c.arrival.ensures (rw c.next_number-sample.ensures.value
-      (came_is_read (homes.ports_of g.H.Home.domain_of) (homes.with_ports g.H.Home.changed)
-      (homes.subscriber_degrades (λ kept. g.H.ForSubscribers.Degrades.degrades kept) g.H.Home.domain_of)
-      (put_is_there g.H.Home.domain_of g.H.Home.changed g.met.H.Home.changed_found) _ c.args.made.now c.receive_growing.new.self
+      (came_is_read (homes.ports_of g.H.LendsDomains.domain_of) (homes.with_ports g.H.LendsDomains.changed)
+      (homes.subscriber_degrades (λ kept. g.H.ForSubscribers.Degrades.degrades kept) g.H.LendsDomains.domain_of)
+      (put_is_there g.H.LendsDomains.domain_of g.H.LendsDomains.changed g.met.H.LendsDomains.changed_found) _ c.args.made.now c.receive_growing.new.self
       c.args.home.now c.receive_growing.new.home
       c.in-Ok-Some-Ok-Some.field-0-0-0-0 c.next_number-sample.ensures.rises (rw
       (c.in-Ok-Some-Ok-Some.field-0-is, c.in-Ok-Some-Ok-Some.field-0-0-is, c.in-Ok-Some-Ok-Some.field-0-0-0-is) at

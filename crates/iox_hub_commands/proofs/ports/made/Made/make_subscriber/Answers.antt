@@ -16,9 +16,9 @@ returns-then-is_err g c =
     } in (
       roomier,
       ((refl, refl, le_refl _), c.room_for_one.ensures.same, (refl, refl, le_refl _), (refl, refl, le_refl _)),
-      refused (λ after. homes.with_ports g.H.Home.changed c.args.domain after c.args.home.now)
-          (λ number held. homes.with_subscriber g.H.Home.changed c.args.domain number c.args.handler held) _
-          (λ ports. why_no_subscriber c.args.config ports) (homes.ports_of g.H.Home.domain_of c.args.domain c.args.home.now)
+      refused (λ after. homes.with_ports g.H.LendsDomains.changed c.args.domain after c.args.home.now)
+          (λ number held. homes.with_subscriber g.H.LendsDomains.changed c.args.domain number c.args.handler held) _
+          (λ ports. why_no_subscriber c.args.config ports) (homes.ports_of g.H.LendsDomains.domain_of c.args.domain c.args.home.now)
           (with_subscriber c.args.domain) roomier c.args.home.now c.why_no_subscriber.result c.args.self.now.subscribers.next
           c.why_no_subscriber.ensures,
     )

@@ -1,7 +1,7 @@
 use Rattle.std.proofs.Common.{rules, refl}
 use Rattle.iox_domain.specs.Domains.{in_state}
 use Rattle.iox_hub_base.proofs.Own.{own_stepped}
-use Rattle.iox_hub_base.proofs.services_home.ServicesHome.domain_mut.Goals as goal
+use Rattle.iox_hub_base.proofs.services_home.ServicesLendsDomainsDomainState.domain_mut.Goals as goal
 
 pub invariant_of-self-lent : goal.invariant_of-self-lent
 invariant_of-self-lent g c = λ state.
