@@ -27,6 +27,7 @@ pub mod Fullness
 pub mod Holding
 pub mod InSlot
 pub mod Inside
+pub mod Linked
 pub mod Having
 pub mod Staying
 pub mod Lacking

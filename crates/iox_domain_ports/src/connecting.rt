@@ -5,9 +5,9 @@ ghost use Rattle.iox_domain_ports.specs.Ports.{connection_of, is_live, connectio
 ghost use Rattle.iox_domain_ports.specs.Ports.{detached_at, ended_at, welcomed_at};
 ghost use Rattle.iox_domain_ports.specs.Places.{reached};
 
-use crate::messages::Stage;
 use crate::publisher_port::PublisherPort;
 use crate::reader::Reader;
+use crate::reading::waiting_at;
 use std::alloc::{AllocError, Global};
 
 impl<T: Copy, U: Copy> PublisherPort<T, U> {
@@ -15,10 +15,10 @@ impl<T: Copy, U: Copy> PublisherPort<T, U> {
     pub fn is_live(&self, index: usize) -> bool
         ensures { result ≡ is_live index self.now }
     {
-        match self.sender.stage(index) {
-            Stage::Vacant => false,
-            Stage::Live => true,
-            Stage::Ended => false,
+        match self.sender.link(index) {
+            Some(link) if link.is_ended() => false,
+            Some(_) => true,
+            None => false,
         }
     }
 
@@ -116,7 +116,7 @@ impl<T: Copy, U: Copy> PublisherPort<T, U> {
         requires { is_live index self.now ≡ true }
         ensures { result ≡ (length (connection_of index self.now).waiting == 0) }
     {
-        self.sender.waiting(index) == 0
+        waiting_at(self, index) == 0
     }
 
     /// Gives the connection of this index as much of the history as may wait there, if it goes on and nothing waits there.

@@ -82,7 +82,7 @@ pub use attached::{Attached, Taken};
 pub use census::{Census, Share};
 pub use keys::Keys;
 pub use meeting::{Meeting, Sent};
-pub use messages::{Member, SenderConfig, Stage};
+pub use messages::{Member, SenderConfig};
 pub use places::Places;
 pub use progress::Progress;
 pub use publisher_entry::PublisherEntry;

@@ -11,7 +11,7 @@ pub fn living_of_publisher<T: Copy, U: Copy>(port: &PublisherPort<T, U>) -> u64
     ensures { result ≡ min (living_of_publisher port.now) (2 ^ 64 - 1) }
 {
     let sending = u64::from(port.sender.is_sending());
-    let loans = (port.sender.loans() as u64).saturating_add(sending);
+    let loans = (port.sender.slots().loans() as u64).saturating_add(sending);
     u64::from(port.stands).saturating_add(loans)
 }
 

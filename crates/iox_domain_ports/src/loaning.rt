@@ -78,7 +78,7 @@ impl<T: Copy, U: Copy> PublisherPort<T, U> {
         if self.is_too_long(values, elements, allocation) {
             return Some(LoanError::ExceedsMaxLoanSize);
         }
-        if !self.sender.may_loan() {
+        if !self.sender.slots().may_loan() {
             return Some(LoanError::ExceedsMaxLoans);
         }
         None

@@ -11,7 +11,7 @@
 //! First calls. `PublisherPort` makes them.
 //!
 //! ```
-//! if sender.may_loan() {
+//! if sender.slots().may_loan() {
 //!     let slot = sender.loan(values, elements);
 //! }
 //! ```
@@ -24,7 +24,7 @@ pub mod sender;
 pub mod sender_config;
 pub mod slot_header;
 
-pub use iox_domain_slots::{Member, Stage};
+pub use iox_domain_slots::Member;
 pub use payloads::Payloads;
 pub use sender::Sender;
 pub use sender_config::SenderConfig;

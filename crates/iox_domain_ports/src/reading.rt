@@ -5,15 +5,15 @@ ghost use Rattle.iox_domain_slots.specs.Uses.{is_there};
 ghost use Rattle.iox_domain_ports.specs.Ports.{connection_of};
 ghost use Rattle.iox_domain_ports.specs.Reading.{borrowed_in, is_over, place_of, taken_at, given_back_at};
 
-use crate::{PublisherPort, Stage};
+use crate::PublisherPort;
 
 /// How many messages wait at the connection of this index; none where there is none.
 pub fn waiting_at<T: Copy, U: Copy>(port: &PublisherPort<T, U>, index: usize) -> usize
     ensures { result ≡ length (connection_of index port.now).waiting }
 {
-    match port.sender.stage(index) {
-        Stage::Vacant => 0,
-        Stage::Live | Stage::Ended => port.sender.waiting(index),
+    match port.sender.link(index) {
+        Some(link) => link.waiting(),
+        None => 0,
     }
 }
 
@@ -21,9 +21,19 @@ pub fn waiting_at<T: Copy, U: Copy>(port: &PublisherPort<T, U>, index: usize) ->
 pub fn borrowed_at<T: Copy, U: Copy>(port: &PublisherPort<T, U>, index: usize) -> usize
     ensures { result ≡ length (connection_of index port.now).borrowed }
 {
-    match port.sender.stage(index) {
-        Stage::Vacant => 0,
-        Stage::Live | Stage::Ended => port.sender.borrowed(index),
+    match port.sender.link(index) {
+        Some(link) => link.borrowed(),
+        None => 0,
+    }
+}
+
+/// How many messages may wait at the connection of this index; none where there is none.
+pub fn limit_at<T: Copy, U: Copy>(port: &PublisherPort<T, U>, index: usize) -> usize
+    ensures { result ≡ (connection_of index port.now).limit }
+{
+    match port.sender.link(index) {
+        Some(link) => link.limit(),
+        None => 0,
     }
 }
 
@@ -44,9 +54,9 @@ fn is_there_with_data<T: Copy, U: Copy>(port: &PublisherPort<T, U>, index: usize
     requires { 0 < length (connection_of index port.now).waiting }
     ensures { is_there (connection_of index port.now) ≡ true }
 {
-    match port.sender.stage(index) {
-        Stage::Vacant => unreachable!(),
-        Stage::Live | Stage::Ended => {}
+    match port.sender.link(index) {
+        Some(_) => {}
+        None => unreachable!(),
     }
 }
 
@@ -71,9 +81,9 @@ fn has_at<T: Copy, U: Copy>(port: &PublisherPort<T, U>, index: usize, slot: usiz
     ensures answer { result ≡ is_some (place_of slot (connection_of index port.now)) }
     ensures inside { result ≡ true → slot < port.now.sender.uses.first + port.now.sender.uses.size }
 {
-    match port.sender.stage(index) {
-        Stage::Vacant => false,
-        Stage::Live | Stage::Ended => port.sender.has_borrowed(index, slot),
+    match port.sender.link(index) {
+        Some(_) => port.sender.has_borrowed(index, slot),
+        None => false,
     }
 }
 
@@ -138,7 +148,10 @@ pub fn sequence_at<T: Copy, U: Copy>(
 pub fn is_over<T: Copy, U: Copy>(port: &PublisherPort<T, U>) -> bool
     ensures { result ≡ is_over port.now }
 {
-    !port.stands && port.sender.loans() == 0 && !port.sender.is_sending() && !has_connections(port)
+    !port.stands
+        && port.sender.slots().loans() == 0
+        && !port.sender.is_sending()
+        && !has_connections(port)
 }
 
 // Whether the publisher has a connection: one that goes on, or ended and holds something.
@@ -157,8 +170,8 @@ fn has_connections<T: Copy, U: Copy>(port: &PublisherPort<T, U>) -> bool
 fn is_there_at<T: Copy, U: Copy>(port: &PublisherPort<T, U>, index: usize) -> bool
     ensures { result ≡ is_there (connection_of index port.now) }
 {
-    match port.sender.stage(index) {
-        Stage::Vacant => false,
-        Stage::Live | Stage::Ended => true,
+    match port.sender.link(index) {
+        Some(_) => true,
+        None => false,
     }
 }

@@ -14,7 +14,7 @@
 //! First calls. `Sender` of `iox_domain_ports` makes them.
 //!
 //! ```
-//! if uses.may_loan() {
+//! if uses.slots().may_loan() {
 //!     let slot = uses.loan();
 //! }
 //! ```

@@ -1,6 +1,6 @@
 //! The connections of one publisher.
 ghost use Rattle.std.specs.Prelude.{◌≡◌, ℕ, ◌+◌, ◌*◌, ◌^◌, ◌<◌, ◌≤◌, ◌++◌, ◌∷◌, [], length, map, set, drop, take, get_or, remove};
-ghost use Rattle.std.specs.Prelude.{is_some, slice_get, IfOk, IsOk, OnErr, Some, None, true, false};
+ghost use Rattle.std.specs.Prelude.{is_some, option_copied, slice_get, IfOk, IsOk, OnErr, Some, None, true, false};
 ghost use Rattle.iox_domain_slots.specs.Uses.{nobody, placed, accepts, offered, taken, given_back, settled, ended, emptied, held};
 ghost use Rattle.iox_domain_slots.specs.Uses.{connected, how_many};
 ghost use Rattle.iox_domain_slots.specs.declared.stage.Stage.TheVariants as stage;
@@ -11,7 +11,6 @@ ghost use Rattle.iox_domain_slots.specs.Links.{LinksState, LinkState, seen, all_
 
 use crate::link::Link;
 use crate::slots::Slots;
-use crate::stage::Stage;
 use std::alloc::{AllocError, Global};
 use std::marker::Model;
 
@@ -335,74 +334,14 @@ impl Links {
         }
     }
 
-    /// How many may wait at the connection.
-    pub fn limit(&self, index: usize) -> usize
-        requires there { is_some (get_or self.now.links index None) ≡ true }
-        ensures { result ≡ (seen (get_or self.now.links index None)).limit }
+    /// The connection of an index, if there is one.
+    pub fn get(&self, index: usize) -> Option<&Link>
+        ensures { option_copied result ≡ get_or self.now.links index None }
     {
-        let Some(link) = &self.items[index] else {
-            return 0;
-        };
-        link.limit()
-    }
-
-    /// How many wait at the connection.
-    pub fn waiting(&self, index: usize) -> usize
-        requires there { is_some (get_or self.now.links index None) ≡ true }
-        ensures { result ≡ length (seen (get_or self.now.links index None)).waiting }
-    {
-        let Some(link) = &self.items[index] else {
-            return 0;
-        };
-        link.waiting()
-    }
-
-    /// The slot of the message that waits at this place of the connection, the oldest at 0.
-    pub fn waiting_slot(&self, index: usize, at: usize) -> usize
-        requires there { is_some (get_or self.now.links index None) ≡ true }
-        requires waits { at < length (seen (get_or self.now.links index None)).waiting }
-        ensures { slice_get (seen (get_or self.now.links index None)).waiting at ≡ Some result }
-    {
-        let Some(link) = &self.items[index] else {
-            return 0;
-        };
-        link.waiting_slot(at)
-    }
-
-    /// How many are borrowed of the connection.
-    pub fn borrowed(&self, index: usize) -> usize
-        requires there { is_some (get_or self.now.links index None) ≡ true }
-        ensures { result ≡ length (seen (get_or self.now.links index None)).borrowed }
-    {
-        let Some(link) = &self.items[index] else {
-            return 0;
-        };
-        link.borrowed()
-    }
-
-    /// Whether a slot is borrowed of the connection.
-    pub fn has_borrowed(&self, index: usize, slot: usize) -> bool
-        requires there { is_some (get_or self.now.links index None) ≡ true }
-        ensures { result ≡ is_among slot (seen (get_or self.now.links index None)).borrowed }
-    {
-        let Some(link) = &self.items[index] else {
-            return false;
-        };
-        link.has_borrowed(slot)
-    }
-
-    /// How far the connection is; vacant where there is none.
-    pub fn stage(&self, index: usize) -> Stage
-        ensures stage { result ≡ (seen (get_or self.now.links index None)).stage }
-        ensures vacant { result ≡ stage.Vacant → seen (get_or self.now.links index None) ≡ nobody }
-    {
-        if index >= self.items.len() {
-            return Stage::Vacant;
-        }
-        match &self.items[index] {
-            None => Stage::Vacant,
-            Some(link) if link.is_ended() => Stage::Ended,
-            Some(_) => Stage::Live,
+        if index < self.items.len() {
+            self.items[index].as_ref()
+        } else {
+            None
         }
     }
 

@@ -1,18 +1,19 @@
 //! All that one publisher's slots are used for.
-ghost use Rattle.std.specs.Prelude.{◌≡◌, ℕ, ◌+◌, ◌^◌, ◌<◌, ◌≤◌, ◌++◌, ◌∷◌, [], length, map, set, drop, take, get_or, remove};
-ghost use Rattle.std.specs.Prelude.{nat_lt, is_some, option_to_list, slice_get, IfOk, IsOk, IsSome, OnErr, Some, None, true};
+ghost use Rattle.std.specs.Prelude.{◌≡◌, ℕ, ◌+◌, ◌^◌, ◌<◌, ◌≤◌, ◌++◌, ◌∷◌, [], length, map, set, drop, take, remove};
+ghost use Rattle.std.specs.Prelude.{is_some, option_copied, option_to_list, slice_get, IfOk, IsOk, IsSome, OnErr, Some, None, true};
 ghost use Rattle.std.specs.Prelude.{false};
 ghost use Rattle.iox_domain_slots.specs.declared.stage.Stage.TheVariants as stage;
 ghost use Rattle.iox_domain_slots.specs.Uses.{Uses, nobody, placed, accepts, offered, taken, given_back, settled, ended, emptied, held};
 ghost use Rattle.iox_domain_slots.specs.Uses.{in_use, newest, loaned, dropped, begun, finished, connection_at, with_connection};
 ghost use Rattle.iox_domain_slots.specs.Uses.{connected, worst_case, welcomed, is_there, segment_opened};
 ghost use Rattle.iox_domain_slots.specs.Counting.{times, LoanUse};
+ghost use Rattle.iox_domain_slots.specs.Links.{seen};
 ghost use Rattle.iox_domain_slots.specs.Loans.{place_in};
 ghost use Rattle.iox_container.specs.Unique.{is_among};
 
+use crate::link::Link;
 use crate::links::Links;
 use crate::slots::Slots;
-use crate::stage::Stage;
 use std::alloc::{AllocError, Global};
 use std::marker::Model;
 
@@ -244,9 +245,9 @@ impl SlotUses {
         requires empty { (connection_at index self.old).waiting ≡ [] }
         ensures { self.new ≡ with_connection index (welcomed self.old.history (connection_at index self.old)) self.old }
     {
-        let end = self.history();
+        let end = self.slots().history();
         for place in end.saturating_sub(self.limit(index))..end {
-            let slot = self.remembered(place);
+            let slot = self.slots().remembered(place);
             let _has_room = self.put(index, slot);
         }
     }
@@ -255,7 +256,7 @@ impl SlotUses {
     pub fn forget_history(&mut self)
         ensures { self.new ≡ record self.old { history = [] } }
     {
-        for _ in 0..self.history() {
+        for _ in 0..self.slots().history() {
             self.forget_oldest();
         }
     }
@@ -268,35 +269,43 @@ impl SlotUses {
         self.slots.forget_oldest();
     }
 
-    /// How long the history is.
-    pub fn history(&self) -> usize
-        ensures { result ≡ length self.now.history }
+    /// Its slots: how many there are, which of them are lent, and the history.
+    pub fn slots(&self) -> &Slots
+        ensures first { result.now.first ≡ self.now.first }
+        ensures size { result.now.size ≡ self.now.size }
+        ensures most_loans { result.now.most_loans ≡ self.now.most_loans }
+        ensures kept { result.now.kept ≡ self.now.kept }
+        ensures loans { result.now.loans ≡ self.now.loans }
+        ensures history { result.now.history ≡ self.now.history }
     {
-        self.slots.history()
+        &self.slots
     }
 
-    /// The slot at this place of the history, the oldest at 0.
-    pub fn remembered(&self, place: usize) -> usize
-        requires { place < length self.now.history }
-        ensures { result ≡ get_or self.now.history place 0 }
+    /// Its connections: how many indices they have, and how many messages may wait and be borrowed there.
+    pub fn links(&self) -> &Links
+        ensures most_waiting { result.now.most_waiting ≡ self.now.most_waiting }
+        ensures most_borrowed { result.now.most_borrowed ≡ self.now.most_borrowed }
+        ensures indices { length result.now.links ≡ length self.now.connections }
     {
-        self.slots.remembered(place)
+        &self.links
     }
 
-    /// How many messages may wait at the connection.
-    pub fn limit(&self, index: usize) -> usize
+    /// The connection of an index, if there is one.
+    pub fn link(&self, index: usize) -> Option<&Link>
+        ensures { seen (option_copied result) ≡ connection_at index self.now }
+    {
+        self.links.get(index)
+    }
+
+    // How many messages may wait at the connection.
+    fn limit(&self, index: usize) -> usize
         requires { is_there (connection_at index self.now) ≡ true }
         ensures { result ≡ (connection_at index self.now).limit }
     {
-        self.links.limit(index)
-    }
-
-    /// How many messages wait at the connection.
-    pub fn waiting(&self, index: usize) -> usize
-        requires { is_there (connection_at index self.now) ≡ true }
-        ensures { result ≡ length (connection_at index self.now).waiting }
-    {
-        self.links.waiting(index)
+        match self.link(index) {
+            Some(link) => link.limit(),
+            None => 0,
+        }
     }
 
     /// The slot of the message that waits at this place of the connection, the oldest at 0.
@@ -305,15 +314,10 @@ impl SlotUses {
         requires waits { at < length (connection_at index self.now).waiting }
         ensures { slice_get (connection_at index self.now).waiting at ≡ Some result }
     {
-        self.links.waiting_slot(index, at)
-    }
-
-    /// How many messages are borrowed of the connection.
-    pub fn borrowed(&self, index: usize) -> usize
-        requires { is_there (connection_at index self.now) ≡ true }
-        ensures { result ≡ length (connection_at index self.now).borrowed }
-    {
-        self.links.borrowed(index)
+        match self.link(index) {
+            Some(link) => link.waiting_slot(at),
+            None => 0,
+        }
     }
 
     /// Whether a message of this slot is borrowed of the connection.
@@ -321,29 +325,10 @@ impl SlotUses {
         requires { is_there (connection_at index self.now) ≡ true }
         ensures { result ≡ is_among slot (connection_at index self.now).borrowed }
     {
-        self.links.has_borrowed(index, slot)
-    }
-
-    /// How many indices the connections have: one more than the last that ever stood.
-    pub fn indices(&self) -> usize
-        ensures value { result ≡ length self.now.connections }
-        ensures few { result ≤ 2 ^ 29 }
-    {
-        self.links.len()
-    }
-
-    /// How many loans are out.
-    pub fn loans(&self) -> usize
-        ensures { result ≡ length self.now.loans }
-    {
-        self.slots.loans()
-    }
-
-    /// Whether a loan is in this slot.
-    pub fn has_loan(&self, slot: usize) -> bool
-        ensures { result ≡ is_among slot self.now.loans }
-    {
-        self.slots.has_loan(slot)
+        match self.link(index) {
+            Some(link) => link.has_borrowed(slot),
+            None => false,
+        }
     }
 
     /// The slot that is being sent, if one is.
@@ -351,62 +336,5 @@ impl SlotUses {
         ensures { result ≡ self.now.sending }
     {
         self.sending
-    }
-
-    /// The first slot of the current segment.
-    pub fn first(&self) -> usize
-        ensures { result ≡ self.now.first }
-    {
-        self.slots.first()
-    }
-
-    /// How many slots a segment has.
-    pub fn size(&self) -> usize
-        ensures { result ≡ self.now.size }
-    {
-        self.slots.size()
-    }
-
-    /// How many loans may be out.
-    pub fn most_loans(&self) -> usize
-        ensures { result ≡ self.now.most_loans }
-    {
-        self.slots.most_loans()
-    }
-
-    /// How long the history may be.
-    pub fn kept(&self) -> usize
-        ensures { result ≡ self.now.kept }
-    {
-        self.slots.kept()
-    }
-
-    /// Whether one more loan may be out: the condition of `loan`.
-    pub fn may_loan(&self) -> bool
-        ensures { result ≡ nat_lt (length self.now.loans) self.now.most_loans }
-    {
-        self.slots.may_loan()
-    }
-
-    /// How far the connection is; vacant where there is none.
-    pub fn stage(&self, index: usize) -> Stage
-        ensures stage { result ≡ (connection_at index self.now).stage }
-        ensures vacant { result ≡ stage.Vacant → connection_at index self.now ≡ nobody }
-    {
-        self.links.stage(index)
-    }
-
-    /// How many messages may be borrowed of a connection.
-    pub fn most_borrowed(&self) -> usize
-        ensures { result ≡ self.now.most_borrowed }
-    {
-        self.links.most_borrowed()
-    }
-
-    /// How many messages may wait at a connection at most.
-    pub fn most_waiting(&self) -> usize
-        ensures { result ≡ self.now.most_waiting }
-    {
-        self.links.most_waiting()
     }
 }

@@ -29,8 +29,8 @@ use crate::domain_lanes::Opened;
 use crate::finding::NewLanes;
 use crate::listed::{publishers_listed, subscribers_listed};
 use iox_domain::Domain;
-use iox_domain_ports::reading::waiting_at;
-use iox_domain_ports::{PublisherPort, Stage, SubscriberPort};
+use iox_domain_ports::reading::{limit_at, waiting_at};
+use iox_domain_ports::{PublisherPort, SubscriberPort};
 use iox_lanes_base::calls::Route;
 use iox_lanes_base::words::SlotWord;
 use iox_lanes_machine::{Found, LaneSizes, Lanes};
@@ -153,7 +153,7 @@ fn loans_at<T: Words, U: Words>(domain: &Domain<T, U>, number: u64) -> u64
     ensures { result ≡ loans_if (port_of number domain.now.state.ports.publishers) }
 {
     match domain.state.ports.publishers.get(number) {
-        Some(port) => port.sender.most_loans() as u64,
+        Some(port) => port.sender.slots().most_loans() as u64,
         None => 0,
     }
 }
@@ -184,7 +184,8 @@ fn slots_at<T: Words, U: Words>(domain: &Domain<T, U>, number: u64) -> u64
 fn slots_of<T: Words, U: Words>(port: &PublisherPort<T, U>) -> u64
     ensures { result ≡ slots_in port.now }
 {
-    (port.sender.first() as u64).saturating_add(port.sender.slots() as u64)
+    let slots = port.sender.slots();
+    (slots.first() as u64).saturating_add(slots.size() as u64)
 }
 
 fn find_publishers<T: Words, U: Words>(
@@ -245,7 +246,7 @@ fn find_publisher<T: Words, U: Words>(
     lanes.find(Found::Slots {
         publisher: place,
         slots: slots_of(port),
-        most_loans: port.sender.most_loans() as u64,
+        most_loans: port.sender.slots().most_loans() as u64,
     })?;
     lanes.find(Found::Sender {
         publisher: place,
@@ -280,7 +281,7 @@ fn find_history<T: Words, U: Words>(
         port.now.sender.uses.history)) }
     ensures alone { OnOk result (AreAlone port.now port.now.sender.uses.history) }
 {
-    for at in 0..port.sender.history() {
+    for at in 0..port.sender.slots().history() {
         let slot = port.sender.remembered(at);
         find_message(lanes, numbered, first, port, slot)?;
         lanes.find(Found::Newest {
@@ -341,16 +342,6 @@ fn tie_to<T: Words, U: Words>(
     }
 }
 
-/// How many messages may wait at a connection; none where there is none.
-pub(crate) fn limit_at<T: Words, U: Words>(port: &PublisherPort<T, U>, index: usize) -> usize
-    ensures { result ≡ (connection_of index port.now).limit }
-{
-    match port.sender.stage(index) {
-        Stage::Vacant => 0,
-        Stage::Live | Stage::Ended => port.sender.limit(index),
-    }
-}
-
 fn find_waiting<T: Words, U: Words>(
     lanes: &mut NewLanes,
     numbered: bool,
@@ -389,9 +380,9 @@ pub(crate) fn waiting_slot<T: Words, U: Words>(
     ensures slot { slice_get (map (λ message. message.slot) (connection_of index port.now).waiting) at ≡ Some result }
     ensures inside { result < port.now.sender.uses.first + port.now.sender.uses.size }
 {
-    match port.sender.stage(index) {
-        Stage::Vacant => unreachable!(),
-        Stage::Live | Stage::Ended => port.sender.waiting_slot(index, at),
+    match port.sender.link(index) {
+        Some(_) => port.sender.waiting_slot(index, at),
+        None => unreachable!(),
     }
 }
 

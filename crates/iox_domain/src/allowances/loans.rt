@@ -27,7 +27,8 @@ fn spare_loans<T: Copy, U: Copy>(port: &PublisherPort<T, U>) -> u64
     if !port.stands {
         return 0;
     }
-    port.sender.most_loans().saturating_sub(port.sender.loans()) as u64
+    let slots = port.sender.slots();
+    slots.most_loans().saturating_sub(slots.loans()) as u64
 }
 
 /// In a new service no loan may be made. After each call at most as many may still be made as before: one less for a loan that

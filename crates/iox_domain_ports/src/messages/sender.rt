@@ -1,5 +1,6 @@
 //! One publisher with its messages.
 ghost use Rattle.std.specs.Prelude.{◌≡◌, ℕ, ◌+◌, ◌<◌, ◌≤◌, length, get_or, set, map, is_some, option_copied, slice_get, nat_lt};
+ghost use Rattle.std.specs.Prelude.{if◌then◌else◌, IfNone, IfSome};
 ghost use Rattle.std.specs.Prelude.{IsSome, IfOk, OnErr, ◌-◌, ◌^◌, ◌++◌, ◌∷◌, [], true, false, None, Some, replicate};
 ghost use Rattle.iox_domain_slots.specs.declared.stage.Stage.TheVariants as stage;
 ghost use Rattle.iox_domain_slots.specs.Uses.{Uses, nobody, placed, connected, is_there, worst_case, accepts, offered, taken, given_back};
@@ -18,7 +19,8 @@ use crate::messages::payloads::Payloads;
 use crate::messages::rows::Rows;
 use crate::messages::sender_config::SenderConfig;
 use crate::messages::slot_header::SlotHeader;
-use iox_domain_slots::{SlotUses, Stage};
+use iox_domain_slots::link::Link;
+use iox_domain_slots::{SlotUses, Slots};
 use std::alloc::{AllocError, Global};
 use std::marker::Model;
 
@@ -165,7 +167,7 @@ impl<T: Copy, U: Copy> Sender<T, U> {
     pub fn has_loan(&self, slot: usize) -> bool
         ensures { result ≡ has_loan slot self.now.uses }
     {
-        self.uses.has_loan(slot)
+        self.uses.slots().has_loan(slot)
     }
 
     /// Whether a loan is in this slot and has this place: the condition of writing there.
@@ -471,28 +473,29 @@ impl<T: Copy, U: Copy> Sender<T, U> {
         self.uses.connect(alloc, limit)
     }
 
-    /// How far the connection is; vacant where there is none.
-    pub fn stage(&self, index: usize) -> Stage
-        ensures stage { result ≡ (connection_at index self.now.uses).stage }
-        ensures vacant { result ≡ stage.Vacant → connection_at index self.now.uses ≡ nobody }
+    /// The connection of an index, if there is one.
+    pub fn link(&self, index: usize) -> Option<&Link>
+        ensures none { IfNone result (connection_at index self.now.uses ≡ nobody) }
+        ensures there { IfSome result (λ link. is_there (connection_at index self.now.uses) ≡ true) }
+        ensures stage { IfSome result (λ link. (connection_at index self.now.uses).stage
+            ≡ (if link.now.ended then stage.Ended else stage.Live)) }
+        ensures limit { IfSome result (λ link. link.now.limit ≡ (connection_at index self.now.uses).limit) }
+        ensures waiting { IfSome result (λ link. length link.now.waiting ≡ length (connection_at index self.now.uses).waiting) }
+        ensures borrowed { IfSome result (λ link. length link.now.borrowed ≡ length (connection_at index self.now.uses).borrowed) }
     {
-        self.uses.stage(index)
+        self.uses.link(index)
     }
 
-    /// How many messages may wait at the connection.
-    pub fn limit(&self, index: usize) -> usize
-        requires { is_there (connection_at index self.now.uses) ≡ true }
-        ensures { result ≡ (connection_at index self.now.uses).limit }
+    /// Its slots: how many there are, how many loans are out, and how long the history is.
+    pub fn slots(&self) -> &Slots
+        ensures first { result.now.first ≡ self.now.uses.first }
+        ensures size { result.now.size ≡ self.now.uses.size }
+        ensures most_loans { result.now.most_loans ≡ self.now.uses.most_loans }
+        ensures kept { result.now.kept ≡ self.now.uses.kept }
+        ensures loans { length result.now.loans ≡ length self.now.uses.loans }
+        ensures history { length result.now.history ≡ length self.now.uses.history }
     {
-        self.uses.limit(index)
-    }
-
-    /// How many messages wait at the connection.
-    pub fn waiting(&self, index: usize) -> usize
-        requires { is_there (connection_at index self.now.uses) ≡ true }
-        ensures { result ≡ length (connection_at index self.now.uses).waiting }
-    {
-        self.uses.waiting(index)
+        self.uses.slots()
     }
 
     /// The slot of the message that waits at this place of the connection, the oldest at 0.
@@ -505,20 +508,13 @@ impl<T: Copy, U: Copy> Sender<T, U> {
         self.uses.waiting_slot(index, at)
     }
 
-    /// How long the history is.
-    pub fn history(&self) -> usize
-        ensures { result ≡ length self.now.uses.history }
-    {
-        self.uses.history()
-    }
-
     /// The slot of the message at this place of the history, the oldest at 0.
     pub fn remembered(&self, place: usize) -> usize
         requires { place < length self.now.uses.history }
         ensures slot { slice_get (map (λ message. message.slot) self.now.uses.history) place ≡ Some result }
         ensures inside { result < self.now.uses.first + self.now.uses.size }
     {
-        self.uses.remembered(place)
+        self.uses.slots().remembered(place)
     }
 
     /// Forgets the history: its messages are in use only where something else has them.
@@ -526,14 +522,6 @@ impl<T: Copy, U: Copy> Sender<T, U> {
         ensures { self.new ≡ with_uses (record self.old.uses { history = [] }) self.old }
     {
         self.uses.forget_history();
-    }
-
-    /// How many messages are borrowed of the connection.
-    pub fn borrowed(&self, index: usize) -> usize
-        requires { is_there (connection_at index self.now.uses) ≡ true }
-        ensures { result ≡ length (connection_at index self.now.uses).borrowed }
-    {
-        self.uses.borrowed(index)
     }
 
     /// Whether a message in this slot is borrowed of the connection.
@@ -550,49 +538,7 @@ impl<T: Copy, U: Copy> Sender<T, U> {
         ensures value { result ≡ length self.now.uses.connections }
         ensures few { result ≤ 2 ^ 29 }
     {
-        self.uses.indices()
-    }
-
-    /// The first slot of the current segment.
-    pub fn first(&self) -> usize
-        ensures { result ≡ self.now.uses.first }
-    {
-        self.uses.first()
-    }
-
-    /// How many slots a segment has.
-    pub fn slots(&self) -> usize
-        ensures { result ≡ self.now.uses.size }
-    {
-        self.uses.size()
-    }
-
-    /// How many loans may be out.
-    pub fn most_loans(&self) -> usize
-        ensures { result ≡ self.now.uses.most_loans }
-    {
-        self.uses.most_loans()
-    }
-
-    /// How long the history may be.
-    pub fn kept(&self) -> usize
-        ensures { result ≡ self.now.uses.kept }
-    {
-        self.uses.kept()
-    }
-
-    /// How many loans are out.
-    pub fn loans(&self) -> usize
-        ensures { result ≡ length self.now.uses.loans }
-    {
-        self.uses.loans()
-    }
-
-    /// Whether one more loan may be out: a condition of `loan`.
-    pub fn may_loan(&self) -> bool
-        ensures { result ≡ nat_lt (length self.now.uses.loans) self.now.uses.most_loans }
-    {
-        self.uses.may_loan()
+        self.uses.links().len()
     }
 
     /// How many values a new loan may have at most.
@@ -613,14 +559,14 @@ impl<T: Copy, U: Copy> Sender<T, U> {
     pub fn most_waiting(&self) -> usize
         ensures { result ≡ self.now.uses.most_waiting }
     {
-        self.uses.most_waiting()
+        self.uses.links().most_waiting()
     }
 
     /// How many messages may be borrowed of a connection.
     pub fn most_borrowed(&self) -> usize
         ensures { result ≡ self.now.uses.most_borrowed }
     {
-        self.uses.most_borrowed()
+        self.uses.links().most_borrowed()
     }
 
     /// Gives a new connection as much of the history as may wait there, the oldest first.

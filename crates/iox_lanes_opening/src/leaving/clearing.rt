@@ -8,7 +8,6 @@ ghost use Rattle.iox_lanes_opening.specs.Restored.{IsRested};
 ghost use Rattle.iox_lanes_opening.specs.Restoring.{IsQuiet};
 
 use iox_domain_ports::messages::Sender;
-use iox_domain_slots::Stage;
 
 /// Whether nothing of a publisher is out: it sends nothing, lends nothing, and nothing is borrowed of its connections; and
 /// whether it has room for a value in each slot.
@@ -30,7 +29,7 @@ fn is_quiet<T: Copy, U: Copy>(sender: &Sender<T, U>) -> bool
     ensures quiet { OnTrue result (IsQuiet sender.now) }
     ensures not { result ≡ false → IsQuiet sender.now → ⊥ }
 {
-    !sender.is_sending() && sender.loans() == 0 && sender.room() >= 1
+    !sender.is_sending() && sender.slots().loans() == 0 && sender.room() >= 1
 }
 
 /// A publisher forgets what waits at its connections, and its history. What is borrowed stays in use.
@@ -47,9 +46,9 @@ fn lends_nothing<T: Copy, U: Copy>(sender: &Sender<T, U>, index: usize) -> bool
     ensures none { OnTrue result ((connection_at index sender.now.uses).borrowed ≡ []) }
     ensures some { result ≡ false → (connection_at index sender.now.uses).borrowed ≡ [] → ⊥ }
 {
-    match sender.stage(index) {
-        Stage::Vacant => true,
-        Stage::Live | Stage::Ended => sender.borrowed(index) == 0,
+    match sender.link(index) {
+        Some(link) => link.borrowed() == 0,
+        None => true,
     }
 }
 
@@ -70,9 +69,9 @@ fn is_none_borrowed<T: Copy, U: Copy>(sender: &Sender<T, U>) -> bool
 fn lose_waiting_at<T: Copy, U: Copy>(sender: &mut Sender<T, U>, index: usize)
     ensures { sender.new ≡ with_uses (with_connection index (emptied (connection_at index sender.old.uses)) sender.old.uses) sender.old }
 {
-    match sender.stage(index) {
-        Stage::Vacant => {}
-        Stage::Live | Stage::Ended => sender.lose_waiting(index),
+    match sender.link(index) {
+        Some(_) => sender.lose_waiting(index),
+        None => {}
     }
 }
 

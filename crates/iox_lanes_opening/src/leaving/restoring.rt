@@ -12,7 +12,6 @@ ghost use Rattle.iox_lanes_machine.specs.Resting.{mail_at};
 
 use crate::leaving::words::{elements, middle, payload};
 use iox_domain_ports::messages::Sender;
-use iox_domain_slots::Stage;
 use iox_lanes_base::words::WordTable;
 use iox_lanes_machine::Lanes;
 use iox_queues_base::Words;
@@ -76,7 +75,8 @@ fn own_slot<T: Copy, U: Copy>(
         return None;
     }
     let own = (slot - slots.first) as usize;
-    if own < sender.first() || own - sender.first() >= sender.slots() {
+    let first = sender.slots().first();
+    if own < first || own - first >= sender.slots().size() {
         return None;
     }
     Some(own)
@@ -94,10 +94,13 @@ fn live_slot<T: Copy, U: Copy>(
     ensures none { result ≡ None → IsOwn slots.now.first slot slots.now.table.now.sizes.slots sender.now.uses
         → (connection_at index sender.now.uses).stage ≡ stage.Live → ⊥ }
 {
-    match sender.stage(index) {
-        Stage::Live => own_slot(slots, slot, sender),
-        Stage::Vacant | Stage::Ended => None,
+    let Some(link) = sender.link(index) else {
+        return None;
+    };
+    if link.is_ended() {
+        return None;
     }
+    own_slot(slots, slot, sender)
 }
 
 // The message that lies in a slot of the lanes waits at the connection of an index, behind those that wait there. Nothing happens where

@@ -8,7 +8,7 @@ ghost use Rattle.iox_lanes_opening.specs.Lingering.{has_left_over, is_listed_sub
 
 use crate::refusals::each_asked::{Question, has_such};
 use iox_domain::ports::ServicePorts;
-use iox_domain_ports::{PublisherPort, Publishers, Stage, SubscriberPort};
+use iox_domain_ports::{PublisherPort, Publishers, SubscriberPort};
 
 /// Whether a loan or a sample is out, a connection whose publisher left still stands, expired or at its place, or a port that left isn't
 /// gone.
@@ -47,7 +47,7 @@ fn is_listed_publisher<T: Copy, U: Copy>(
 fn has_out<T: Copy, U: Copy>(port: &PublisherPort<T, U>) -> bool
     ensures { result ≡ has_out port.now }
 {
-    0 < port.sender.loans() || has_lingering_connection(port)
+    0 < port.sender.slots().loans() || has_lingering_connection(port)
 }
 
 fn has_lingering_connection<T: Copy, U: Copy>(port: &PublisherPort<T, U>) -> bool
@@ -65,10 +65,10 @@ fn has_lingering_connection<T: Copy, U: Copy>(port: &PublisherPort<T, U>) -> boo
 fn connection_lingers<T: Copy, U: Copy>(port: &PublisherPort<T, U>, index: usize) -> bool
     ensures { result ≡ connection_lingers (connection_of index port.now) }
 {
-    match port.sender.stage(index) {
-        Stage::Vacant => false,
-        Stage::Live => 0 < port.sender.borrowed(index),
-        Stage::Ended => true,
+    match port.sender.link(index) {
+        Some(link) if link.is_ended() => true,
+        Some(link) => 0 < link.borrowed(),
+        None => false,
     }
 }
 

@@ -8,7 +8,8 @@ ghost use Rattle.iox_lanes_opening.specs.Slices.{is_dynamic, is_slice, is_slice_
 use crate::refusals::each_asked::{Question, has_such};
 use iox_describe_base::TypeVariant;
 use iox_domain::Domain;
-use iox_domain_ports::{PublisherPort, Stage};
+use iox_domain_ports::PublisherPort;
+use iox_domain_ports::reading::waiting_at;
 
 /// Whether the messages of a domain are slices, or some publisher deals in slices: an element of it has another number of values than one,
 /// its slots have room for another, or a message that waits or is kept has another.
@@ -44,7 +45,7 @@ fn keeps_slice<T: Copy, U: Copy>(port: &PublisherPort<T, U>) -> bool
 fn remembers_slice<T: Copy, U: Copy>(port: &PublisherPort<T, U>) -> bool
     ensures { result ≡ list_any is_slice port.now.sender.uses.history }
 {
-    for place in 0..port.sender.history() {
+    for place in 0..port.sender.slots().history() {
         if is_slice_remembered(port, place) {
             return true;
         }
@@ -75,9 +76,9 @@ fn has_slice_waiting<T: Copy, U: Copy>(port: &PublisherPort<T, U>) -> bool
 fn slice_waits_at<T: Copy, U: Copy>(port: &PublisherPort<T, U>, index: usize) -> bool
     ensures { result ≡ slice_waits (connection_of index port.now) }
 {
-    match port.sender.stage(index) {
-        Stage::Vacant => false,
-        Stage::Live | Stage::Ended => slice_waits(port, index),
+    match port.sender.link(index) {
+        Some(_) => slice_waits(port, index),
+        None => false,
     }
 }
 
@@ -86,7 +87,7 @@ fn slice_waits<T: Copy, U: Copy>(port: &PublisherPort<T, U>, index: usize) -> bo
     requires { is_there (connection_of index port.now) ≡ true }
     ensures { result ≡ slice_waits (connection_of index port.now) }
 {
-    for at in 0..port.sender.waiting(index) {
+    for at in 0..waiting_at(port, index) {
         if is_slice_waiting(port, index, at) {
             return true;
         }

@@ -12,8 +12,9 @@ ghost use Rattle.iox_lanes_opening.specs.Soundness.{share_slot, stands_again, wa
 
 use crate::refusals::each_asked::{Question, has_such};
 use iox_domain::ports::ServicePorts;
+use iox_domain_ports::reading::{limit_at, waiting_at};
 use iox_domain_ports::{
-    Attached, Member, PublisherEntry, PublisherPort, Stage, SubscriberEntry, SubscriberPort,
+    Attached, Member, PublisherEntry, PublisherPort, SubscriberEntry, SubscriberPort,
 };
 use iox_domain_values::ServiceSizes;
 
@@ -116,8 +117,8 @@ pub(crate) fn is_misfit<T: Copy, U: Copy>(sizes: ServiceSizes, port: &PublisherP
     ensures { result ≡ is_misfit sizes port.now }
 {
     is_misnumbered(sizes, port)
-        || 0 < port.sender.first()
-        || port.sender.kept() != sizes.history_size as usize
+        || 0 < port.sender.slots().first()
+        || port.sender.slots().kept() != sizes.history_size as usize
         || remembers_ill(sizes, port)
         || has_ill_connection(sizes, port)
 }
@@ -133,13 +134,13 @@ fn is_misnumbered<T: Copy, U: Copy>(sizes: ServiceSizes, port: &PublisherPort<T,
 fn remembers_ill<T: Copy, U: Copy>(sizes: ServiceSizes, port: &PublisherPort<T, U>) -> bool
     ensures { result ≡ remembers_ill sizes port.now }
 {
-    (sizes.history_size as usize) < port.sender.history() || remembers_twice(port)
+    (sizes.history_size as usize) < port.sender.slots().history() || remembers_twice(port)
 }
 
 fn remembers_twice<T: Copy, U: Copy>(port: &PublisherPort<T, U>) -> bool
     ensures { result ≡ has_twice port.now.sender.uses.history }
 {
-    for place in 0..port.sender.history() {
+    for place in 0..port.sender.slots().history() {
         if is_remembered_again(port, place) {
             return true;
         }
@@ -188,9 +189,9 @@ fn waits_ill_at<T: Copy, U: Copy>(
 ) -> bool
     ensures { result ≡ waits_ill sizes (connection_of index port.now) }
 {
-    match port.sender.stage(index) {
-        Stage::Vacant => false,
-        Stage::Live | Stage::Ended => waits_ill(sizes, port, index),
+    match port.sender.link(index) {
+        Some(_) => waits_ill(sizes, port, index),
+        None => false,
     }
 }
 
@@ -203,10 +204,10 @@ fn waits_ill<T: Copy, U: Copy>(
     requires { is_there (connection_of index port.now) ≡ true }
     ensures { result ≡ waits_ill sizes (connection_of index port.now) }
 {
-    let limit = port.sender.limit(index);
+    let limit = limit_at(port, index);
     limit == 0
         || (sizes.subscriber_max_buffer_size as usize) < limit
-        || limit < port.sender.waiting(index)
+        || limit < waiting_at(port, index)
         || waits_twice(port, index)
 }
 
@@ -214,7 +215,7 @@ fn waits_twice<T: Copy, U: Copy>(port: &PublisherPort<T, U>, index: usize) -> bo
     requires { is_there (connection_of index port.now) ≡ true }
     ensures { result ≡ has_twice (connection_of index port.now).waiting }
 {
-    for place in 0..port.sender.waiting(index) {
+    for place in 0..waiting_at(port, index) {
         if waits_again(port, index, place) {
             return true;
         }

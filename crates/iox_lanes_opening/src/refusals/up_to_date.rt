@@ -1,15 +1,12 @@
 //! Whether each port follows the others as they are, and is connected to them.
 ghost use Rattle.std.specs.Prelude.{◌≡◌, get_or, None};
-ghost use Rattle.iox_domain.specs.DomainPorts.Ports.{is_live};
 ghost use Rattle.iox_domain.specs.Rolls.{is_listed};
 ghost use Rattle.iox_lanes_opening.specs.Listed.{holds_at, of_each_listed};
 ghost use Rattle.iox_lanes_opening.specs.UpToDate.{is_reader, is_read_by, reads_from, is_joined_to, is_connected, is_current_publisher};
 ghost use Rattle.iox_lanes_opening.specs.UpToDate.{has_stray_tie, is_stray, is_current_subscriber, is_up_to_date};
 
 use iox_domain::ports::{Roll, ServicePorts};
-use iox_domain_ports::{
-    Member, PublisherEntry, PublisherPort, Stage, SubscriberEntry, SubscriberPort,
-};
+use iox_domain_ports::{Member, PublisherEntry, PublisherPort, SubscriberEntry, SubscriberPort};
 
 /// Whether each listed port followed the list of the others as it is, and each listed publisher is connected to each listed subscriber: a
 /// place is tied to a connection that goes on, and the subscriber reads there by the key that it has for the publisher's place. No place
@@ -132,16 +129,7 @@ fn is_joined_to<T: Copy, U: Copy>(
 fn is_read_by<T: Copy, U: Copy>(port: &PublisherPort<T, U>, reader: u64, index: usize) -> bool
     ensures { result ≡ is_read_by reader port.now index }
 {
-    is_live(port, index) && is_reader(port, reader, index)
-}
-
-fn is_live<T: Copy, U: Copy>(port: &PublisherPort<T, U>, index: usize) -> bool
-    ensures { result ≡ is_live index port.now }
-{
-    match port.sender.stage(index) {
-        Stage::Live => true,
-        Stage::Vacant | Stage::Ended => false,
-    }
+    port.is_live(index) && is_reader(port, reader, index)
 }
 
 fn is_reader<T: Copy, U: Copy>(port: &PublisherPort<T, U>, number: u64, index: usize) -> bool

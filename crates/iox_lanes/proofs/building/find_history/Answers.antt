@@ -31,5 +31,11 @@ loop-at-preserved g c = (
 pub returns-clause-alone : goal.returns-clause-alone
 returns-clause-alone g c
     = λ at message there. c.loop-at.invariant.3 at
-    (omega (arith, slice_get_within c.args.port.now.sender.uses.history at message there, c.loop-at-test.false, c.history-at-end.ensures))
+    (omega (
+      arith,
+      slice_get_within c.args.port.now.sender.uses.history at message there,
+      c.loop-at-test.false,
+      c.history-at-end.ensures,
+      c.slots.ensures.history,
+    ))
     message there

@@ -15,4 +15,4 @@ loop-place-preserved g c = slice_more c.args.port.now.sender.uses.history c.loop
 
 pub returns : goal.returns
 returns g c = sym (none_got is_slice c.args.port.now.sender.uses.history c.loop-place.place
-    (omega (arith, c.loop-place-test.false, c.history-place-end.ensures)) c.loop-place.invariant)
+    (omega (arith, c.loop-place-test.false, c.history-place-end.ensures, c.slots.ensures.history)) c.loop-place.invariant)

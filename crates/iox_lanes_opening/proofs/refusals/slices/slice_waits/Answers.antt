@@ -16,4 +16,4 @@ loop-at-preserved g c = slice_more (connection_of c.args.index c.args.port.now).
 
 pub returns : goal.returns
 returns g c = sym (none_got is_slice (connection_of c.args.index c.args.port.now).waiting c.loop-at.at
-    (omega (arith, c.loop-at-test.false, c.waiting-at-end.ensures)) c.loop-at.invariant)
+    (omega (arith, c.loop-at-test.false, c.waiting_at-at-end.ensures)) c.loop-at.invariant)

@@ -8,7 +8,7 @@ pub returns-then-waits_again : goal.returns-then-waits_again
 returns-then-waits_again g c
     = sym (any_at (stands_again (connection_of c.args.index c.args.port.now).waiting)
     (length (connection_of c.args.index c.args.port.now).waiting) c.loop-place.place
-    (omega (arith, c.loop-place-test.true, c.waiting-place-end.ensures))
+    (omega (arith, c.loop-place-test.true, c.waiting_at-place-end.ensures))
     (sym c.waits_again.ensures ∙ c.if-waits_again.true))
 
 pub loop-place-preserved : goal.loop-place-preserved
@@ -19,4 +19,4 @@ loop-place-preserved g c
 pub returns : goal.returns
 returns g c = sym (none_all (stands_again (connection_of c.args.index c.args.port.now).waiting)
     (length (connection_of c.args.index c.args.port.now).waiting) c.loop-place.place
-    (omega (arith, c.loop-place-test.false, c.waiting-place-end.ensures)) c.loop-place.invariant)
+    (omega (arith, c.loop-place-test.false, c.waiting_at-place-end.ensures)) c.loop-place.invariant)

@@ -1,4 +1,4 @@
-use Rattle.std.proofs.Common.{◌∙◌, map, slice_get, ap, sym}
+use Rattle.std.proofs.Common.{◌∙◌, map, slice_get, get_or, ap, sym}
 use Rattle.iox_domain_ports.proofs.Readings.{slot_named, stands_at, remembered_below}
 use Rattle.iox_domain_ports.proofs.Inside.{remembered_inside}
 use Rattle.iox_domain_ports.proofs.messages.sender.Sender.remembered.Goals as goal
@@ -20,7 +20,8 @@ returns-clause-slot g c =
       headers = c.self.inside.headers.items;
       blank
           = c.self.inside.blank;
-    }) c.self.inside.uses c.args.self.now c.args.place c.self.view_is c.requires) c.remembered.ensures)
+    }) c.self.inside.uses c.args.self.now c.args.place c.self.view_is c.requires)
+    (c.remembered.ensures ∙ ap (λ history. get_or history c.args.place 0) c.slots.ensures.history))
 
 pub returns-clause-inside : goal.returns-clause-inside
 returns-clause-inside g c =
@@ -39,4 +40,5 @@ returns-clause-inside g c =
       headers = c.self.inside.headers.items;
       blank
           = c.self.inside.blank;
-    }) c.self.inside.uses c.args.self.now c.args.place c.self.view_is c.requires) c.remembered.ensures))
+    }) c.self.inside.uses c.args.self.now c.args.place c.self.view_is c.requires)
+    (c.remembered.ensures ∙ ap (λ history. get_or history c.args.place 0) c.slots.ensures.history)))
