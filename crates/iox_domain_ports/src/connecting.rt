@@ -22,13 +22,6 @@ impl<T: Copy, U: Copy> PublisherPort<T, U> {
         }
     }
 
-    /// The index of the first connection that leads to this subscriber.
-    pub fn connection_to(&self, subscriber: u64) -> Option<usize>
-        ensures { result ≡ connection_to subscriber self.now }
-    {
-        self.readers.connection_to(subscriber)
-    }
-
     // Makes a connection for so many waiting messages.
     fn connect(&mut self, alloc: Global, limit: usize, reader: Reader) -> Result<usize, AllocError>
         requires { limit ≤ self.old.sender.uses.most_waiting }
@@ -59,7 +52,7 @@ impl<T: Copy, U: Copy> PublisherPort<T, U> {
         requires { limit ≤ self.old.sender.uses.most_waiting }
         ensures { Joins subscriber limit (connection_to subscriber self.old) self.old result self.new }
     {
-        match self.connection_to(subscriber) {
+        match self.readers.connection_to(subscriber) {
             Some(index) => Ok(index),
             None => self.connect(
                 alloc,

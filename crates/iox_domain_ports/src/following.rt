@@ -22,7 +22,7 @@ impl SubscriberPort {
     ) -> bool
         ensures { result ≡ is_unborrowed self.now publishers.now key }
     {
-        self.borrowed(key, publishers) == 0
+        self.seen(key, publishers).borrowed == 0
     }
 
     // An expired connection ends, and that of a key expires in its stead.

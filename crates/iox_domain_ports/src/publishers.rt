@@ -18,7 +18,7 @@ ghost use Rattle.iox_domain_ports.specs.Reading.{place_of, taken_at, given_back_
 use crate::PublisherPort;
 use crate::census::{Census, Share};
 use crate::living::{add, counted, living_of_publisher};
-use crate::reading::{borrowed_at, give_back_at, is_over, take_at, waiting_at};
+use crate::reading::{give_back_at, is_over, take_at};
 use std::alloc::{AllocError, Global};
 use std::collections::BTreeMap;
 use std::collections::btree_map::Iter;
@@ -96,36 +96,6 @@ impl<T: Copy, U: Copy> Publishers<T, U> {
         put_port(&mut self.ports, number, port)?;
         self.census.note(share);
         Ok(())
-    }
-
-    /// How many messages wait at a connection of a publisher; none where there is no such publisher or connection.
-    pub fn waiting(&self, number: u64, index: usize) -> usize
-        ensures { result ≡ length (connection_in number index self.now).waiting }
-    {
-        match self.get(number) {
-            Some(port) => waiting_at(port, index),
-            None => 0,
-        }
-    }
-
-    /// How many messages are borrowed of a connection of a publisher; none where there is no such publisher or connection.
-    pub fn borrowed(&self, number: u64, index: usize) -> usize
-        ensures { result ≡ length (connection_in number index self.now).borrowed }
-    {
-        match self.get(number) {
-            Some(port) => borrowed_at(port, index),
-            None => 0,
-        }
-    }
-
-    /// How many messages may be borrowed of a connection of a publisher; 0 where there is no such publisher.
-    pub fn most_borrowed(&self, number: u64) -> usize
-        ensures { result ≡ most_borrowed_in number self.now }
-    {
-        match self.get(number) {
-            Some(port) => port.sender.most_borrowed(),
-            None => 0,
-        }
     }
 
     /// Whether the publisher of a number is on the list of publishers: it is there, and didn't leave.

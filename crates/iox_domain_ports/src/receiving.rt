@@ -1,5 +1,5 @@
 //! A subscriber receives.
-ghost use Rattle.std.specs.Prelude.{◌≡◌, ◌+◌, ◌-◌, ◌<◌, ◌≤◌, ◌^◌, length, slice_get, IfSome, None, Some, true, false};
+ghost use Rattle.std.specs.Prelude.{◌≡◌, ◌+◌, ◌-◌, ◌<◌, ◌≤◌, ◌^◌, slice_get, IfSome, None, Some, true, false};
 ghost use Rattle.std.specs.Bool.{OnTrue, OnFalse};
 ghost use Rattle.iox_domain_slots.specs.Uses.{is_there};
 ghost use Rattle.iox_domain_ports.specs.Subscribing.{attached_at, connection_by, seen_of, has_data, gives, is_idle, ended_key};
@@ -23,32 +23,8 @@ impl SubscriberPort {
         self.connections.get(SlotMapKey::new(key)).copied()
     }
 
-    // How many messages wait at the connection of a key.
-    fn waiting<T: Copy, U: Copy>(&self, key: usize, publishers: &Publishers<T, U>) -> usize
-        ensures { result ≡ length (connection_by (attached_at key self.now) publishers.now).waiting }
-    {
-        match self.attached(key) {
-            Some(attached) => publishers.waiting(attached.publisher, attached.index),
-            None => 0,
-        }
-    }
-
-    // How many messages are borrowed of the connection of a key.
-    pub(crate) fn borrowed<T: Copy, U: Copy>(
-        &self,
-        key: usize,
-        publishers: &Publishers<T, U>,
-    ) -> usize
-        ensures { result ≡ length (connection_by (attached_at key self.now) publishers.now).borrowed }
-    {
-        match self.attached(key) {
-            Some(attached) => publishers.borrowed(attached.publisher, attached.index),
-            None => 0,
-        }
-    }
-
     // What is seen of the connection of a key: its publisher is looked up once.
-    fn seen<T: Copy, U: Copy>(&self, key: usize, publishers: &Publishers<T, U>) -> Seen
+    pub(crate) fn seen<T: Copy, U: Copy>(&self, key: usize, publishers: &Publishers<T, U>) -> Seen
         ensures { result ≡ seen_of (attached_at key self.now) publishers.now }
     {
         match self.attached(key) {
@@ -61,7 +37,7 @@ impl SubscriberPort {
     fn has_data<T: Copy, U: Copy>(&self, key: usize, publishers: &Publishers<T, U>) -> bool
         ensures { result ≡ has_data self.now publishers.now key }
     {
-        0 < self.waiting(key, publishers)
+        0 < self.seen(key, publishers).waiting
     }
 
     // Whether nothing waits and nothing is borrowed at the connection of a key.

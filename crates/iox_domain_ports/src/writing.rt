@@ -3,7 +3,7 @@ ghost use Rattle.std.specs.Prelude.{◌≡◌, length, is_some, option_copied, o
 ghost use Rattle.std.specs.Borrow.{sem};
 ghost use Rattle.std.specs.Option.{option_copied_mut};
 ghost use Rattle.iox_domain_ports.specs.Messages.{write_value, write_all, write_user_header};
-ghost use Rattle.iox_domain_ports.specs.MessagesSending.{has_loan, has_place, has_length, is_written_loan};
+ghost use Rattle.iox_domain_ports.specs.MessagesSending.{has_loan, has_place, has_length};
 ghost use Rattle.iox_domain_ports.specs.Writing.{place_of, loan_of, changed_if, value_at, values_at, given_up};
 
 use crate::publisher_port::PublisherPort;
@@ -138,13 +138,6 @@ impl<T: Copy, U: Copy> PublisherPort<T, U> {
         } else {
             None
         }
-    }
-
-    /// Whether a loan is in this slot of which each value is written: the condition of its send.
-    pub fn is_written(&self, slot: usize) -> bool
-        ensures { result ≡ is_written_loan (loan_of slot self.now) }
-    {
-        self.sender.is_written(slot)
     }
 
     /// Gives up the loan in this slot; answers whether one stood there.

@@ -176,7 +176,7 @@ impl<T: Copy, U: Copy> ServicePorts<T, U> {
         ensures { result ≡ is_written_loan (loan_in number slot self.now) }
     {
         match self.publishers.get(number) {
-            Some(port) => port.is_written(slot),
+            Some(port) => port.sender.is_written(slot),
             None => false,
         }
     }
