@@ -7,19 +7,6 @@ use Rattle.iox_domain_slots.specs.Counting.{SlotsState, times, uses_of}
 use Rattle.iox_domain_slots.specs.declared.stage.Stage.TheVariants as stage
 use Rattle.iox_domain_slots.specs.declared.mailbox.Put.{Put}
 use Rattle.iox_domain_slots.specs.declared.mailbox.Put.TheVariants.{Taken, TakenFor, Refused}
-use Rattle.iox_domain_slots.specs.declared.mailbox.Mailbox.{Mailbox}
-
--- whether a full mailbox lets its oldest go
-abbrev pub is_overflowing : Mailbox → Bool
-is_overflowing mailbox = mailbox.overflows
-
--- what waits, the oldest first
-abbrev pub waiting_in : Mailbox → List ℕ
-waiting_in mailbox = mailbox.waiting.items
-
--- how many may wait
-abbrev pub limit_of : Mailbox → ℕ
-limit_of mailbox = mailbox.waiting.capacity
 
 -- what waits after a put: with overflow the oldest leaves if they are too many then, without it a full mailbox stays as it is
 abbrev pub put_into : Bool → ℕ → List ℕ → ℕ → List ℕ

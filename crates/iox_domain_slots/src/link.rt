@@ -8,7 +8,7 @@ ghost use Rattle.iox_domain_slots.specs.Counting.{SlotsState, times, uses_of, le
 ghost use Rattle.iox_domain_slots.specs.Links.{LinkState, all_of, connection_of, room_of, IsSameLink, IsFit, put_into, put_answer};
 
 use crate::borrowed::Borrowed;
-use crate::mailbox::{Mailbox, Put};
+use crate::mailbox::{Put, put_behind};
 use crate::slots::Slots;
 use iox_container::queue::Queue;
 use std::alloc::{AllocError, Global};
@@ -19,7 +19,10 @@ use std::marker::Model;
 /// All its memory is taken when it is made.
 #[derive(Drop)]
 pub struct Link {
-    mailbox: Mailbox,
+    // The slots of the messages that wait, the oldest first.
+    waiting: Queue<u64>,
+    // Whether a full mailbox lets its oldest go; else it refuses.
+    overflows: bool,
     borrowed: Borrowed,
     returned: Queue<u64>,
     most_borrowed: usize,
@@ -30,26 +33,26 @@ pub struct Link {
 
 impl Model for Link {
     ghost use Rattle.std.specs.Prelude.{◌≡◌, ◌+◌, ◌<◌, ◌≤◌, length, cond};
-    ghost use Rattle.iox_domain_slots.specs.Links.{LinkState, is_overflowing, waiting_in, limit_of};
+    ghost use Rattle.iox_domain_slots.specs.Links.{LinkState};
 
     ghost Value = { LinkState };
 
     ghost view = { λ l. record {
       ended = l.ended;
-      overflows = is_overflowing l.mailbox;
-      limit = limit_of l.mailbox;
+      overflows = l.overflows;
+      limit = l.waiting.capacity;
       most_borrowed = l.most_borrowed;
-      waiting = waiting_in l.mailbox;
+      waiting = l.waiting.items;
       borrowed = l.borrowed.items;
       returned = l.returned.items;
       delivered = l.delivered;
     } };
 
     // A put since the last taking back may make one slot more of the connection than wait and are borrowed at most.
-    ghost invariant = { λ l. (length (waiting_in l.mailbox) ≤ limit_of l.mailbox)
+    ghost invariant = { λ l. (length l.waiting.items ≤ l.waiting.capacity)
         × (length l.borrowed.items ≤ l.most_borrowed) × (l.most_borrowed < l.borrowed.cells)
-        × (limit_of l.mailbox + l.most_borrowed < l.returned.capacity)
-        × (length (waiting_in l.mailbox) + (length l.borrowed.items + length l.returned.items) ≤ limit_of l.mailbox + l.most_borrowed +
+        × (l.waiting.capacity + l.most_borrowed < l.returned.capacity)
+        × (length l.waiting.items + (length l.borrowed.items + length l.returned.items) ≤ l.waiting.capacity + l.most_borrowed +
         cond l.delivered 1 0) };
 }
 
@@ -101,7 +104,7 @@ impl Link {
         ensures waiting { self.new.waiting ≡ put_into self.old.overflows self.old.limit self.old.waiting slot }
         ensures fits { IsFit self.new }
     {
-        let answer = self.mailbox.put(slot);
+        let answer = put_behind(&mut self.waiting, self.overflows, slot);
         self.delivered = answer != Put::Refused;
         answer
     }
@@ -142,7 +145,7 @@ impl Link {
         ensures fits { IsFit self.new }
         ensures uses { (k : ℕ) → times k (all_of self.new) ≡ times k (all_of self.old) }
     {
-        let Some(slot) = self.mailbox.pop() else {
+        let Some(slot) = self.waiting.pop() else {
             return 0;
         };
         self.borrowed.push(slot);
@@ -182,7 +185,7 @@ impl Link {
         ensures shorter { self.new ≡ record self.old { waiting = drop 1 self.old.waiting } }
         ensures moved { Moves slots.old (all_of self.old) slots.new (all_of self.new) }
     {
-        let Some(slot) = self.mailbox.pop() else {
+        let Some(slot) = self.waiting.pop() else {
             return;
         };
         slots.let_go(slot as usize);
@@ -195,7 +198,7 @@ impl Link {
         ensures fits { IsFit self.new }
         ensures moved { Moves slots.old (all_of self.old) slots.new (all_of self.new) }
     {
-        for _ in 0..self.mailbox.len() {
+        for _ in 0..self.waiting.len() {
             self.lose_one(slots);
         }
     }
@@ -234,7 +237,8 @@ impl Link {
         }) }
     {
         Ok(Link {
-            mailbox: Mailbox::new(alloc, overflows, limit)?,
+            waiting: Queue::new(alloc, limit)?,
+            overflows,
             borrowed: Borrowed::new(alloc, ring.saturating_mul(2))?,
             returned: Queue::new(alloc, ring)?,
             most_borrowed,
@@ -254,7 +258,7 @@ impl Link {
     pub fn waiting(&self) -> usize
         ensures { result ≡ length self.now.waiting }
     {
-        self.mailbox.len()
+        self.waiting.len()
     }
 
     /// The slot of the message that waits at this place, the oldest at 0.
@@ -262,7 +266,7 @@ impl Link {
         requires { at < length self.now.waiting }
         ensures { slice_get self.now.waiting at ≡ Some result }
     {
-        self.mailbox.at(at) as usize
+        self.waiting.get(at) as usize
     }
 
     /// How many are borrowed.
@@ -276,7 +280,7 @@ impl Link {
     pub fn limit(&self) -> usize
         ensures { result ≡ self.now.limit }
     {
-        self.mailbox.capacity()
+        self.waiting.capacity()
     }
 
     /// Whether a slot is borrowed.

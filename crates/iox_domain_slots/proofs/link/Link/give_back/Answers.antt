@@ -2,7 +2,6 @@ use Rattle.std.proofs.Common.{arith, ◌≡◌, ◌≤◌, ◌++◌, ◌∷◌, 
 use Rattle.std.proofs.lemmas.List.{length_push}
 use Rattle.iox_container.specs.Unique.{is_among}
 use Rattle.iox_domain_slots.specs.Counting.{times}
-use Rattle.iox_domain_slots.specs.Links.{waiting_in}
 use Rattle.iox_domain_slots.specs.Loans.{place_in}
 use Rattle.iox_domain_slots.proofs.Borrowing.{one_fewer, taken_out}
 use Rattle.iox_domain_slots.proofs.Counts.{times_end}
@@ -58,7 +57,7 @@ returns-clause-fits c =
         length_push l.returned.items c.args.slot,
         c.self.invariant.4,
         at_most_one l.delivered,
-        length-append (waiting_in l.mailbox) (c.remove.new.self.items ++ c.push-has_room.new.self.items),
+        length-append l.waiting.items (c.remove.new.self.items ++ c.push-has_room.new.self.items),
         length-append c.remove.new.self.items c.push-has_room.new.self.items,
       ),
     )
@@ -75,8 +74,8 @@ returns-clause-uses c = rw (← c.self.view_is) (λ k.
     (omega (arith, short, at_most_one l.delivered, c.self.invariant.3, c.self.invariant.4)) c.push-has_room.ensures.items in
     omega (
       arith,
-      times_all k (waiting_in l.mailbox) c.remove.new.self.items c.push-has_room.new.self.items,
-      times_all k (waiting_in l.mailbox) l.borrowed.items l.returned.items,
+      times_all k l.waiting.items c.remove.new.self.items c.push-has_room.new.self.items,
+      times_all k l.waiting.items l.borrowed.items l.returned.items,
       ap (times k) items,
       ap (times k) back,
       taken_out c.args.slot l.borrowed.items there k,
