@@ -96,7 +96,7 @@ def may_call(caller, call, name, file):
     own = caller.rpartition("::")[0]
     if before == "self." and f"{own}::{bare}" in of_ours():
         return owner == own
-    if before in ("self.", ".") or before == "Home":
+    if before in ("self.", ".") or before == "LendsDomains":
         return owner[:1].isupper()
     if before[:1].isupper():
         return owner == (own if before == "Self" else before)
