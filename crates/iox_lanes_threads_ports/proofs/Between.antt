@@ -42,6 +42,7 @@ use Rattle.iox_lanes_threads_ports.specs.Courses.{SubscriberGoes, SubscriberEnds
 use Rattle.iox_lanes_threads_ports.specs.Courses.SubscriberGoes.{stays, goes}
 use Rattle.iox_lanes_threads_ports.specs.Holding.{StandsBetween}
 use Rattle.iox_lanes_threads_ports.specs.Ports.{SubscriberStands}
+use Rattle.iox_lanes_threads_ports.specs.Strides.{AsksWord, subscriber_called}
 use Rattle.iox_lanes_threads_ports.specs.Values.{SubscriberPort, IsSeated, settled, IsBetween, IsShort, steps_left, Unmoved, received_of}
 use Rattle.iox_lanes_threads_ports.specs.Values.{released_of, Releases, Reads}
 use Rattle.iox_lanes_threads_ports.proofs.SubscriberSteps.{changed_stays, begins}
@@ -183,6 +184,24 @@ nearer sizes lane n small within short over =
     over in
     subst (λ (c : SubscriberCall). IsShort c × (steps_left c < steps_left lane.port.call)) (sym (call_after lane n))
     (next.short, next.fewer)
+
+-- a release that asked for a word comes to a stage that ends, too
+pub release_short : (lane now : SubscriberLaneState) (place : ℕ) (route : Route) (last : push_type.Push) (n : ℕ)
+    → AsksWord (refusing.push_next last) → now ≡ subscriber_after n (subscriber_called (subscribing.Releasing place route last) lane)
+    → IsShort now.port.call
+release_short lane now place route last n asks is =
+    subst (λ (c : SubscriberCall). IsShort c)
+    (sym (ap (λ (l : SubscriberLaneState). l.port.call) is
+    ∙ call_after (subscriber_called (subscribing.Releasing place route last) lane) n)) (on last asks)
+  where
+    on : (s : push_type.Push) → AsksWord (refusing.push_next s)
+        → IsShort (released place route (refusing.push_take s n) (refusing_push_answer (refusing.push_take s n)))
+    on push.Idle a = absurd a
+    on (push.Begun limit value) a = tt
+    on (push.SawWrite limit value write next) a = (measured_nearer place route limit value write next n (nat_lt (write - n) limit)).short
+    on (push.SawRoom value write next) a = tt
+    on (push.Filled value next) a = tt
+    on (push.Pushed value given) a = absurd a
 
 -- the stages that a receive goes through, and where it leads to
 abbrev pub InReceive : SubscriberCall → Type 0

@@ -1,11 +1,16 @@
 -- Several steps of a subscriber, which its lane makes up for at once.
-use Rattle.std.proofs.Common.{ℕ, ◌≡◌, ◌+◌, ◌<◌, Bool, true, false, if◌then◌else◌, nat_lt, refl, sym, ◌∙◌, ap, subst}
+use Rattle.std.proofs.Common.{ℕ, ◌≡◌, ◌+◌, ◌<◌, Bool, true, false, if◌then◌else◌, nat_lt, refl, sym, ◌∙◌, ap, subst, arith}
 use Rattle.std.proofs.lemmas.Bool.{lt-ltb}
 use Rattle.atomic_table.specs.Table.{Me}
+use Rattle.iox_lanes_machine.specs.QueuesSteps.Access.{successor}
+use Rattle.iox_lanes_machine.specs.LanesBase.Numbers.{IsSmall}
 use Rattle.iox_lanes_machine.specs.LanesBase.Subscribing.{subscriber_next, read_at}
+use Rattle.iox_lanes_machine.specs.LanesBase.declared.words.sizes.TableSizes.{TableSizes}
 use Rattle.iox_lanes_machine.specs.LanesBase.declared.calls.subscriber.SlotExtent.{SlotExtent}
 use Rattle.iox_lanes_machine.specs.LanesBase.declared.calls.subscriber.SubscriberCall.{SubscriberCall}
 use Rattle.iox_lanes_machine.specs.LanesBase.declared.calls.subscriber.SubscriberCall.TheVariants as subscribing
+use Rattle.iox_lanes_machine.specs.LanesBase.declared.calls.subscriber.SubscriberChange.TheVariants.{Note}
+use Rattle.iox_lanes_machine.specs.LanesParties.Keeping.{changed}
 use Rattle.iox_lanes_machine.specs.LanesParties.Parties.{SubscriberLaneState, subscriber_after}
 use Rattle.iox_lanes_threads_rule.specs.Acts.{single, port_of}
 use Rattle.iox_lanes_threads_rule.specs.declared.view.Port.{Port}
@@ -58,6 +63,17 @@ pub reads_at : (slot k : ℕ) (extent : SlotExtent) → k < 3 + extent.user_head
     → read_at slot extent k ≡ subscribing.Reading slot k extent
 reads_at slot k extent less = read_by slot k extent (nat_lt k (3 + extent.user_header_words + extent.payload_words))
     (lt-ltb k (3 + extent.user_header_words + extent.payload_words) less)
+
+-- and goes on to the next word once it has kept this one
+pub read_on : (lane now : SubscriberLaneState) (slot word value : ℕ) (extent : SlotExtent) (sizes : TableSizes) → IsSmall sizes
+    → word < 3 + sizes.user_header_words + sizes.payload_words → now ≡ record lane { port = changed (Note word value) lane.port }
+    → subscriber_after value (subscriber_called (subscribing.Reading slot word extent) lane)
+    ≡ subscriber_called (read_at slot extent (word + 1)) now
+read_on lane now slot word value extent sizes small within is =
+    let all = small.slot in
+    let next : successor word ≡ word + 1 = omega (arith, within, all) in
+    ap (λ (k : ℕ). subscriber_called (read_at slot extent k) (record lane { port = changed (Note word value) lane.port })) next
+    ∙ ap (subscriber_called (read_at slot extent (word + 1))) (sym is)
 
 -- one step
 pub strode_once : (me me' : Me ℕ View) (lane lane' : SubscriberLaneState) → me ≡ single (port_of me)

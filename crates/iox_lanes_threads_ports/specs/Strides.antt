@@ -143,3 +143,15 @@ KeepsPositions (own.Store Read value) = ⊥
 KeepsPositions (own.Store (Cell position) value) = Unit {0}
 KeepsPositions (own.Exchange word old new) = ⊥
 KeepsPositions own.Local = Unit {0}
+
+-- the access of a ring's end is one to a word
+abbrev pub AsksWord : Access → Type 0
+AsksWord (own.Load word) = Unit {0}
+AsksWord (own.Store word value) = Unit {0}
+AsksWord (own.Exchange word old new) = Unit {0}
+AsksWord own.Local = ⊥
+
+-- a lane went on from a stage of a call that asked for a word, after its answer
+abbrev pub WentOn : {L C S : Type 0} → LaneKind L C → (S → C) → (S → Access) → L → Type 0
+WentOn {L = L} {S = S} kind stage asks now =
+    (before : L) × (last : S) × (answer : ℕ) × AsksWord (asks last) × (now ≡ kind.after answer (kind.called (stage last) before))

@@ -17,7 +17,7 @@ pub fn subscribers_go_on()
 {}
 
 /// A publisher's port counts the accesses to shared words that it makes. Behind any steps of its calls it has made just as many more as
-/// these steps name, by `load`, `store` and `exchange`.
+/// these steps name, by `act`.
 pub fn publishers_count()
     ensures { PublishersCount }
 {}

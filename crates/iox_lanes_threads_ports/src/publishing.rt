@@ -4,35 +4,16 @@ ghost use Rattle.iox_lanes_machine.specs.LanesBase.Numbers.{words_of, IsSmall};
 ghost use Rattle.iox_lanes_machine.specs.LanesBase.Publishing.{publisher_is_over};
 ghost use Rattle.iox_lanes_machine.specs.LanesParties.Parties.{publisher_answer};
 ghost use Rattle.iox_lanes_threads_rule.specs.Acts.{single, port_of};
-ghost use Rattle.iox_lanes_threads_ports.specs.Courses.{publisher_party, PublisherSteps};
+ghost use Rattle.iox_lanes_threads_ports.specs.Courses.{PublisherSteps};
 ghost use Rattle.iox_lanes_threads_ports.specs.Pace.{StartsWithin};
 ghost use Rattle.iox_lanes_threads_ports.specs.Paces.{PublisherRuns};
 ghost use Rattle.iox_lanes_threads_ports.specs.Ports.{PublisherStands};
 
+use crate::ahead::access_ahead;
 use crate::strides::stride;
 use iox_lanes_base::words::TableSizes;
 use iox_lanes_parties::{Answer, PublisherLane};
-use iox_lanes_threads_rule::{Doing, Opening, WordSeat, Words, act};
-use std::marker::Brand;
-
-fn step_as<K: Opening, M: Doing>(
-    words: &Words<K>,
-    seat: &mut WordSeat,
-    sizes: &TableSizes,
-    lane: &mut PublisherLane,
-) -> Option<Answer>
-    requires table { (seat.old.table_id ≡ words.now.table_id) × (words.now.table_id.words ≡ words_of sizes.now) × IsSmall sizes.now }
-    requires seat { (seat.old.me ≡ single M.port) × (M.port.service.sizes ≡ sizes.now) }
-    requires stands { PublisherStands M.port lane.old }
-    requires after { M.after ≡ publisher_party lane.old }
-    ensures table { (seat.new.table_id ≡ seat.old.table_id) × (seat.new.id ≡ seat.old.id) }
-    ensures steps { PublisherSteps M.port lane.old seat.new.me lane.new }
-    ensures answer { result ≡ publisher_answer lane.old.fails lane.old.port.call lane.new.port.book.answer }
-    ensures ends { is_some result ≡ publisher_is_over lane.old.port.call }
-{
-    let given = act::<K, M>(words, seat, sizes, lane.next());
-    lane.go_on(given)
-}
+use iox_lanes_threads_rule::{Opening, WordSeat, Words};
 
 /// Makes the next step of a publisher's call.
 pub(crate) fn step<K: Opening>(
@@ -49,7 +30,8 @@ pub(crate) fn step<K: Opening>(
     ensures answer { result ≡ publisher_answer lane.old.fails lane.old.port.call lane.new.port.book.answer }
     ensures ends { is_some result ≡ publisher_is_over lane.old.port.call }
 {
-    step_as::<K, Brand>(words, seat, sizes, lane)
+    let given = access_ahead(words, seat, sizes, lane, lane.stage(), lane.next());
+    lane.go_on(given)
 }
 
 /// Makes at most so many steps of a publisher's call that begins, up to its last one.

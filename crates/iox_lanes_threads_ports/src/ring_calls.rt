@@ -1,27 +1,27 @@
 //! Calls of ports inside a pop or a push on a ring, by the stages of that.
-ghost use Rattle.std.specs.Prelude.{◌≡◌, ◌<◌, ℕ, false};
+ghost use Rattle.std.specs.Prelude.{◌≡◌, ◌<◌, ℕ};
 ghost use Rattle.iox_lanes_machine.specs.LanesBase.Words.{in_ring, on_ring};
 ghost use Rattle.iox_lanes_machine.specs.LanesBase.declared.words.word.ConnectionRing.TheVariants as own_ring;
 ghost use Rattle.iox_lanes_machine.specs.LanesBase.declared.calls.publisher.PublisherCall.TheVariants as publishing;
 ghost use Rattle.iox_lanes_machine.specs.LanesBase.declared.calls.subscriber.SubscriberCall.TheVariants as subscribing;
-ghost use Rattle.iox_lanes_machine.specs.QueuesSteps.Ends.{pop_is_over, pop_next, pop_take, push_is_over, push_next, push_take};
+ghost use Rattle.iox_lanes_machine.specs.QueuesSteps.Ends.{pop_next, pop_take, push_next, push_take};
 ghost use Rattle.iox_lanes_machine.specs.QueuesSteps.declared.rings.ends.Push.{Push};
 ghost use Rattle.iox_lanes_machine.specs.QueuesSteps.declared.rings.ends.Push.TheVariants as ring_push;
 ghost use Rattle.iox_lanes_machine.specs.QueuesSteps.declared.rings.ends.Pop.{Pop};
 ghost use Rattle.iox_lanes_machine.specs.QueuesSteps.declared.rings.ends.Pop.TheVariants as ring_pop;
 ghost use Rattle.iox_lanes_threads_ports.specs.declared.ring_calls.RouteRing.{RouteRing};
-ghost use Rattle.iox_lanes_threads_ports.specs.Strides.{KeepsPositions};
+ghost use Rattle.iox_lanes_threads_ports.specs.Strides.{AsksWord, KeepsPositions};
 ghost use Rattle.iox_lanes_threads_ports.specs.RingCalls.{AreAlike, submission_ring, completion_ring};
 ghost use Rattle.iox_lanes_threads_ports.specs.RingCalls as calls;
 
 use crate::ahead::Ahead;
 use iox_lanes_base::calls::{Delivery, PublisherCall, Route, SubscriberCall};
-use iox_lanes_base::words::{ConnectionRing, SharedWord};
+use iox_lanes_base::words::{ConnectionRing, SharedAccess, SharedWord};
 use iox_lanes_parties::{PublisherLane, SubscriberLane};
 use iox_queues_steps::rings::overflowing::{Pop as OverflowingPop, Push as OverflowingPush};
 use iox_queues_steps::rings::refusing::{Pop as RefusingPop, Push as RefusingPush};
 use iox_queues_steps::rings::{Pop, Push};
-use iox_queues_steps::{End, Word};
+use iox_queues_steps::{Access, End, Word};
 
 /// A ring of a connection, and how many cells it has.
 #[derive(Clone, Copy)]
@@ -54,9 +54,23 @@ impl RouteRing {
         }
     }
 
-    /// A word of the ring, as a word of its connection: positions go round its cells.
+    /// An access to the ring, as one to its connection.
     #[inline(always)]
-    pub(crate) fn word(self, word: Word) -> SharedWord
+    pub(crate) fn access(self, access: Access) -> SharedAccess
+        requires { 0 < self.cells }
+        ensures { result ≡ on_ring self.connection self.ring self.cells access }
+    {
+        match access {
+            Access::Load(word) => SharedAccess::Load(self.word(word)),
+            Access::Store(word, new) => SharedAccess::Store(self.word(word), new),
+            Access::Exchange(word, old, new) => SharedAccess::Exchange(self.word(word), old, new),
+            Access::Local => SharedAccess::Local,
+        }
+    }
+
+    // A word of the ring, as a word of its connection: positions go round its cells.
+    #[inline(always)]
+    fn word(self, word: Word) -> SharedWord
         requires { 0 < self.cells }
         ensures { result ≡ in_ring self.connection self.ring self.cells word }
     {
@@ -83,7 +97,7 @@ pub(crate) trait IntoPush: End {
         ensures { result ≡ push self };
 
     // they make the same steps
-    ghost alike: { AreAlike push Self.asks Self.takes Self.over push_next push_take push_is_over };
+    ghost alike: { AreAlike push Self.asks Self.takes push_next push_take };
 }
 
 impl IntoPush for RefusingPush {
@@ -118,7 +132,7 @@ pub(crate) trait IntoPop: End {
         ensures { result ≡ pop self };
 
     // they make the same steps
-    ghost alike: { AreAlike pop Self.asks Self.takes Self.over pop_next pop_take pop_is_over };
+    ghost alike: { AreAlike pop Self.asks Self.takes pop_next pop_take };
 }
 
 impl IntoPop for RefusingPop {
@@ -163,9 +177,9 @@ pub(crate) trait RingCall<L: Ahead, S: End>: Copy {
     ghost accesses: { (call : Self) (state : S)
         → L.kind.next (stage call state) ≡ on_ring (ring call).connection (ring call).ring (ring call).cells (S.asks state) };
 
-    // until the pop or push is over, or moves a position, an answer takes the call from one of its stages to the next
+    // until the pop or push asks for no more words, or moves a position, an answer takes the call from one of its stages to the next
     ghost goes_on: { (lane : L) (call : Self) (state : S) (answer : ℕ) → KeepsPositions (S.asks state)
-        → S.over (S.takes state answer) ≡ false
+        → AsksWord (S.asks (S.takes state answer))
         → L.kind.after answer (L.kind.called (stage call state) lane) ≡ L.kind.called (stage call (S.takes state answer)) lane };
 }
 
@@ -196,7 +210,7 @@ impl RingCall<PublisherLane, RefusingPop> for LoanReclaims {
 
     ghost accesses = { λ call pop. refl };
 
-    ghost goes_on = { λ lane call pop answer keeps going. calls.loan_goes_on lane call.place call.route pop answer going };
+    ghost goes_on = { λ lane call pop answer keeps asks. calls.loan_goes_on lane call.place call.route pop answer asks };
 }
 
 /// A send that takes back at a connection.
@@ -232,7 +246,7 @@ impl RingCall<PublisherLane, RefusingPop> for SendReclaims {
 
     ghost accesses = { λ call pop. refl };
 
-    ghost goes_on = { λ lane call pop answer keeps going. calls.sweep_goes_on lane call.slot call.place call.route pop answer going };
+    ghost goes_on = { λ lane call pop answer keeps asks. calls.sweep_goes_on lane call.slot call.place call.route pop answer asks };
 }
 
 /// A send that pushes at a connection.
@@ -276,8 +290,8 @@ impl<P: IntoPush> RingCall<PublisherLane, P> for Pushes {
     ghost accesses = { λ call push.
         ap (on_ring call.route.connection own_ring.Submission call.route.submission_cells) (P.alike.asks_alike push) };
 
-    ghost goes_on = { λ lane call push answer keeps going.
-        calls.push_goes_on P.alike lane call.slot call.place call.route call.delivery push answer keeps going };
+    ghost goes_on = { λ lane call push answer keeps asks.
+        calls.push_goes_on P.alike lane call.slot call.place call.route call.delivery push answer keeps asks };
 }
 
 /// A receive that pops at a connection.
@@ -318,8 +332,8 @@ impl<P: IntoPop> RingCall<SubscriberLane, P> for Receives {
     ghost accesses = { λ call pop.
         ap (on_ring call.route.connection own_ring.Submission call.route.submission_cells) (P.alike.asks_alike pop) };
 
-    ghost goes_on = { λ lane call pop answer keeps going.
-        calls.pop_goes_on P.alike lane call.place call.route call.waits pop answer going };
+    ghost goes_on = { λ lane call pop answer keeps asks.
+        calls.pop_goes_on P.alike lane call.place call.route call.waits pop answer asks };
 }
 
 /// A release that pushes at a connection.
@@ -349,5 +363,5 @@ impl RingCall<SubscriberLane, RefusingPush> for Releases {
 
     ghost accesses = { λ call push. refl };
 
-    ghost goes_on = { λ lane call push answer keeps going. calls.release_goes_on lane call.place call.route push answer keeps going };
+    ghost goes_on = { λ lane call push answer keeps asks. calls.release_goes_on lane call.place call.route push answer keeps asks };
 }

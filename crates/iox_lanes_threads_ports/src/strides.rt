@@ -8,12 +8,12 @@ ghost use Rattle.iox_lanes_threads_ports.specs.Ports.{PublisherStands};
 ghost use Rattle.iox_lanes_threads_ports.specs.SlotParts.{storing, part_word};
 ghost use Rattle.iox_lanes_threads_ports.specs.Strides.{PublisherStrode};
 
-use crate::ahead::store_ahead;
+use crate::ahead::access_ahead;
 use crate::publishing::step;
 use crate::ring_calls::{LoanReclaims, Pushes, SendReclaims};
-use crate::ring_strides::{leave_out, pop, push, push_over};
+use crate::ring_strides::ring_stride;
 use iox_lanes_base::calls::PublisherCall;
-use iox_lanes_base::words::{SharedWord, SlotWord, TableSizes};
+use iox_lanes_base::words::{SharedAccess, SharedWord, SlotWord, TableSizes};
 use iox_lanes_parties::PublisherLane;
 use iox_lanes_threads_rule::{Opening, WordSeat, Words};
 use iox_queues_steps::rings::Push;
@@ -99,8 +99,8 @@ fn store_words<K: Opening>(
         let (word, value) = (at as u64, stored[at]);
         let call = storing(part, slot, word, value);
         let own = part_word(part, word);
-        let word = SharedWord::Slot { slot, word: own };
-        store_ahead(words, seat, &sizes, lane, call, word, value);
+        let access = SharedAccess::Store(SharedWord::Slot { slot, word: own }, value);
+        access_ahead(words, seat, &sizes, lane, call, access);
     }
     let last = storing(part, slot, (count - 1) as u64, stored[count - 1]);
     lane.go_on_from(last, 0);
@@ -131,6 +131,8 @@ pub(crate) fn stride<K: Opening>(
     ensures some { (0 < result) × (result ≤ room) }
     ensures strode { PublisherStrode (port_of seat.old.me) lane.old result seat.new.me lane.new }
 {
+    // A stride over a ring makes at most four accesses.
+    let has_room = room >= 4;
     match lane.stage() {
         PublisherCall::Writing {
             slot,
@@ -152,60 +154,50 @@ pub(crate) fn stride<K: Opening>(
             place,
             route,
             pop: RefusingPop::Begun,
-        } if room >= 4 => pop(words, seat, sizes, lane, LoanReclaims { place, route }),
+        } if has_room => {
+            let call = LoanReclaims { place, route };
+            ring_stride(words, seat, sizes, lane, call, RefusingPop::Begun)
+        }
         PublisherCall::SendReclaims {
             slot,
             place,
             route,
             pop: RefusingPop::Begun,
-        } if room >= 4 => {
+        } if has_room => {
             let call = SendReclaims { slot, place, route };
-            pop(words, seat, sizes, lane, call)
+            ring_stride(words, seat, sizes, lane, call, RefusingPop::Begun)
         }
         PublisherCall::Pushing {
             slot,
             place,
             route,
-            push: Push::Refusing(RefusingPush::Begun { limit, value }),
+            push,
             delivery,
-        } if room >= 4 => {
+        } if has_room => {
             let call = Pushes {
                 slot,
                 place,
                 route,
                 delivery,
             };
-            push(words, seat, sizes, lane, call, limit, value)
-        }
-        PublisherCall::Pushing {
-            slot,
-            place,
-            route,
-            push: Push::Overflowing(OverflowingPush::Begun { limit, value }),
-            delivery,
-        } if room >= 4 => {
-            let call = Pushes {
-                slot,
-                place,
-                route,
-                delivery,
-            };
-            push_over(words, seat, sizes, lane, call, limit, value)
-        }
-        PublisherCall::Pushing {
-            slot,
-            place,
-            route,
-            push: Push::Overflowing(OverflowingPush::Full { value, read, next }),
-            delivery,
-        } if room >= 2 => {
-            let call = Pushes {
-                slot,
-                place,
-                route,
-                delivery,
-            };
-            leave_out(words, seat, sizes, lane, call, value, read, next)
+            match push {
+                Push::Refusing(RefusingPush::Begun { limit, value }) => {
+                    let refusing = RefusingPush::Begun { limit, value };
+                    ring_stride(words, seat, sizes, lane, call, refusing)
+                }
+                Push::Overflowing(OverflowingPush::Begun { limit, value }) => {
+                    let overflowing = OverflowingPush::Begun { limit, value };
+                    ring_stride(words, seat, sizes, lane, call, overflowing)
+                }
+                Push::Overflowing(OverflowingPush::Full { value, read, next }) => {
+                    let full = OverflowingPush::Full { value, read, next };
+                    ring_stride(words, seat, sizes, lane, call, full)
+                }
+                _ => {
+                    step(words, seat, sizes, lane);
+                    1
+                }
+            }
         }
         PublisherCall::Remembering { .. } => {
             lane.go_on(0);

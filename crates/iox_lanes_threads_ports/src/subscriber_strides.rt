@@ -10,13 +10,13 @@ ghost use Rattle.iox_lanes_threads_ports.specs.Ports.{SubscriberStands};
 ghost use Rattle.iox_lanes_threads_ports.specs.Strides.{subscriber_called, SubscriberStrode};
 ghost use Rattle.iox_lanes_threads_ports.specs.Values.{IsShort};
 
-use crate::ahead::load_ahead;
+use crate::ahead::access_ahead;
 use crate::ring_calls::{Receives, Releases};
-use crate::ring_strides::{pop, pop_over, push};
+use crate::ring_strides::ring_stride;
 use crate::subscribing::step;
 use iox_lanes_base::calls::SubscriberCall;
 use iox_lanes_base::calls::subscriber::SlotExtent;
-use iox_lanes_base::words::{SharedWord, SlotWord, TableSizes};
+use iox_lanes_base::words::{SharedAccess, SharedWord, SlotWord, TableSizes};
 use iox_lanes_parties::SubscriberLane;
 use iox_lanes_threads_rule::{Opening, WordSeat, Words};
 use iox_queues_steps::rings::Pop;
@@ -36,6 +36,13 @@ fn word_at(extent: SlotExtent, word: u64) -> SlotWord
     }
 }
 
+// A sample that is read, with the words of its slot.
+#[derive(Clone, Copy)]
+struct SampleRead {
+    slot: u64,
+    extent: SlotExtent,
+}
+
 // Loads a word of a sample and keeps its value; the call is left where it stood.
 #[inline(always)]
 fn read_word<K: Opening>(
@@ -43,29 +50,23 @@ fn read_word<K: Opening>(
     seat: &mut WordSeat,
     sizes: &TableSizes,
     lane: &mut SubscriberLane,
-    slot: u64,
+    sample: SampleRead,
     word: u64,
-    extent: SlotExtent,
     own: SlotWord,
 )
     requires table { (seat.old.table_id ≡ words.now.table_id) × (words.now.table_id.words ≡ words_of sizes.now) × IsSmall sizes.now }
     requires seat { (seat.old.me ≡ single (port_of seat.old.me)) × ((port_of seat.old.me).service.sizes ≡ sizes.now) }
-    requires stands { SubscriberStands (port_of seat.old.me) (subscriber_called (call.Reading slot word extent) lane.old) }
-    requires own { own ≡ word_at extent word }
+    requires stands { SubscriberStands (port_of seat.old.me) (subscriber_called (call.Reading sample.slot word sample.extent) lane.old) }
+    requires own { own ≡ word_at sample.extent word }
     ensures table { (seat.new.table_id ≡ seat.old.table_id) × (seat.new.id ≡ seat.old.id) }
     ensures strode { (p : Port) (begun : SubscriberLaneState)
-        → SubscriberStrode p begun seat.old.me (subscriber_called (call.Reading slot word extent) lane.old)
-        → SubscriberStrode p begun seat.new.me (subscriber_called (read_at slot extent (word + 1)) lane.new) }
+        → SubscriberStrode p begun seat.old.me (subscriber_called (call.Reading sample.slot word sample.extent) lane.old)
+        → SubscriberStrode p begun seat.new.me (subscriber_called (read_at sample.slot sample.extent (word + 1)) lane.new) }
 {
+    let SampleRead { slot, extent } = sample;
     let call = SubscriberCall::Reading { slot, word, extent };
-    let value = load_ahead(
-        words,
-        seat,
-        sizes,
-        lane,
-        call,
-        SharedWord::Slot { slot, word: own },
-    );
+    let access = SharedAccess::Load(SharedWord::Slot { slot, word: own });
+    let value = access_ahead(words, seat, sizes, lane, call, access);
     lane.note(word, value);
 }
 
@@ -75,29 +76,29 @@ fn read_words<K: Opening>(
     seat: &mut WordSeat,
     sizes: &TableSizes,
     lane: &mut SubscriberLane,
-    slot: u64,
-    extent: SlotExtent,
+    sample: SampleRead,
 )
     requires table { (seat.old.table_id ≡ words.now.table_id) × (words.now.table_id.words ≡ words_of sizes.now) × IsSmall sizes.now }
     requires seat { (seat.old.me ≡ single (port_of seat.old.me)) × ((port_of seat.old.me).service.sizes ≡ sizes.now) }
     requires stands { SubscriberStands (port_of seat.old.me) lane.old }
-    requires call { lane.old.port.call ≡ call.Reading slot 0 extent }
+    requires call { lane.old.port.call ≡ call.Reading sample.slot 0 sample.extent }
     ensures table { (seat.new.table_id ≡ seat.old.table_id) × (seat.new.id ≡ seat.old.id) }
-    ensures call { lane.new.port.call ≡ call.WasRead slot }
+    ensures call { lane.new.port.call ≡ call.WasRead sample.slot }
     ensures strode { SubscriberStrode (port_of seat.old.me) lane.old seat.new.me lane.new }
 {
     let sizes = *sizes;
+    let SampleRead { slot, extent } = sample;
     let last = 2 + extent.user_header_words + extent.payload_words;
     // From there on each word is one of the payload: none asks which it is.
     let first = 3 + extent.user_header_words;
     let row = first.min(last);
     for word in 0..row {
         let own = word_at(extent, word);
-        read_word(words, seat, &sizes, lane, slot, word, extent, own);
+        read_word(words, seat, &sizes, lane, sample, word, own);
     }
     for word in row..last {
         let own = SlotWord::Payload(word - first);
-        read_word(words, seat, &sizes, lane, slot, word, extent, own);
+        read_word(words, seat, &sizes, lane, sample, word, own);
     }
     let call = SubscriberCall::Reading {
         slot,
@@ -105,14 +106,8 @@ fn read_words<K: Opening>(
         extent,
     };
     let own = word_at(extent, last);
-    let value = load_ahead(
-        words,
-        seat,
-        &sizes,
-        lane,
-        call,
-        SharedWord::Slot { slot, word: own },
-    );
+    let access = SharedAccess::Load(SharedWord::Slot { slot, word: own });
+    let value = access_ahead(words, seat, &sizes, lane, call, access);
     lane.go_on_from(call, value);
 }
 
@@ -136,21 +131,15 @@ pub(crate) fn stride_on<K: Opening>(
             slot,
             word: 0,
             extent,
-        } => read_words(words, seat, sizes, lane, slot, extent),
+        } => read_words(words, seat, sizes, lane, SampleRead { slot, extent }),
         SubscriberCall::Releasing {
             place,
             route,
             push: RefusingPush::Begun { limit, value },
         } => {
-            push(
-                words,
-                seat,
-                sizes,
-                lane,
-                Releases { place, route },
-                limit,
-                value,
-            );
+            let call = Releases { place, route };
+            let begun = RefusingPush::Begun { limit, value };
+            ring_stride(words, seat, sizes, lane, call, begun);
         }
         _ => {}
     }
@@ -181,7 +170,7 @@ pub(crate) fn receive_on<K: Opening>(
                 route,
                 waits,
             };
-            pop(words, seat, sizes, lane, call);
+            ring_stride(words, seat, sizes, lane, call, RefusingPop::Begun);
         }
         SubscriberCall::Receiving {
             place,
@@ -194,7 +183,7 @@ pub(crate) fn receive_on<K: Opening>(
                 route,
                 waits,
             };
-            pop_over(words, seat, sizes, lane, call);
+            ring_stride(words, seat, sizes, lane, call, OverflowingPop::Begun);
         }
         _ => step(words, seat, sizes, lane),
     }

@@ -3,33 +3,16 @@ ghost use Rattle.std.specs.Prelude.{◌≡◌, true};
 ghost use Rattle.iox_lanes_machine.specs.LanesBase.Numbers.{words_of, IsSmall};
 ghost use Rattle.iox_lanes_machine.specs.LanesBase.Subscribing.{subscriber_is_over};
 ghost use Rattle.iox_lanes_threads_rule.specs.Acts.{single, port_of};
-ghost use Rattle.iox_lanes_threads_ports.specs.Courses.{subscriber_party, SubscriberSteps, SubscriberGoes};
+ghost use Rattle.iox_lanes_threads_ports.specs.Courses.{SubscriberSteps, SubscriberGoes};
 ghost use Rattle.iox_lanes_threads_ports.specs.Ports.{SubscriberStands};
 ghost use Rattle.iox_lanes_threads_ports.specs.Values.{IsShort};
 
+use crate::ahead::access_ahead;
 use crate::subscriber_strides::{receive_on, stride_on};
 use iox_lanes_base::words::TableSizes;
 use iox_lanes_parties::SubscriberLane;
-use iox_lanes_threads_rule::{Doing, Opening, WordSeat, Words, act};
-use std::marker::Brand;
+use iox_lanes_threads_rule::{Opening, WordSeat, Words};
 use std::sync::Wait;
-
-fn step_as<K: Opening, M: Doing>(
-    words: &Words<K>,
-    seat: &mut WordSeat,
-    sizes: &TableSizes,
-    lane: &mut SubscriberLane,
-)
-    requires table { (seat.old.table_id ≡ words.now.table_id) × (words.now.table_id.words ≡ words_of sizes.now) × IsSmall sizes.now }
-    requires seat { (seat.old.me ≡ single M.port) × (M.port.service.sizes ≡ sizes.now) }
-    requires stands { SubscriberStands M.port lane.old }
-    requires after { M.after ≡ subscriber_party lane.old }
-    ensures table { (seat.new.table_id ≡ seat.old.table_id) × (seat.new.id ≡ seat.old.id) }
-    ensures steps { SubscriberSteps M.port lane.old seat.new.me lane.new }
-{
-    let given = act::<K, M>(words, seat, sizes, lane.next());
-    lane.go_on(given, 0);
-}
 
 /// Makes the next step of a subscriber's call.
 pub(crate) fn step<K: Opening>(
@@ -44,7 +27,8 @@ pub(crate) fn step<K: Opening>(
     ensures table { (seat.new.table_id ≡ seat.old.table_id) × (seat.new.id ≡ seat.old.id) }
     ensures steps { SubscriberSteps (port_of seat.old.me) lane.old seat.new.me lane.new }
 {
-    step_as::<K, Brand>(words, seat, sizes, lane);
+    let given = access_ahead(words, seat, sizes, lane, lane.stage(), lane.next());
+    lane.go_on(given, 0);
 }
 
 /// Makes steps of a read or a release, up to where only its last one is left.

@@ -11,11 +11,12 @@ use Rattle.iox_lanes_parties.specs.LanesBase.Numbers.{number_of, words_of, IsWor
 use Rattle.iox_lanes_parties.specs.LanesBase.declared.words.sizes.TableSizes.{TableSizes}
 use Rattle.iox_lanes_parties.specs.LanesBase.declared.words.word.SharedWord.{SharedWord}
 use Rattle.iox_lanes_parties.proofs.LanesBase.Numbering.{apart, within}
+use Rattle.iox_lanes_machine.specs.LanesBase.declared.words.access.SharedAccess.{SharedAccess}
 use Rattle.iox_lanes_machine.specs.LanesBase.declared.words.access.SharedAccess.TheVariants.{Load, Store, Exchange}
 use Rattle.iox_lanes_threads_rule.specs.Lanes.{MakesNext, IsBacked}
 use Rattle.iox_lanes_threads_rule.specs.Rule.{held, Fits, Sits, Ruled, one}
 use Rattle.iox_lanes_threads_rule.specs.Steps.{saw, learned, known_exchanged, Told, MayStore, MayExchange}
-use Rattle.iox_lanes_threads_rule.specs.Acts.{FitSome, Holds, StandsAt, single, loaded, stored, exchanged}
+use Rattle.iox_lanes_threads_rule.specs.Acts.{FitSome, Holds, MayAct, StandsAt, ToldBy, single, stepped, loaded, stored, exchanged}
 use Rattle.iox_lanes_threads_rule.specs.declared.service.Service.{Service}
 use Rattle.iox_lanes_threads_rule.specs.declared.view.Port.{Port}
 use Rattle.iox_lanes_threads_rule.specs.declared.view.PortParty.{PortParty}
@@ -159,13 +160,17 @@ same_either : (b : Bool) (x y : ℕ) → (if b then x else y) ≡ either b x y
 same_either true x y = refl
 same_either false x y = refl
 
+-- the word of an exchange is one of the service
+pub exchanged_word : (p : Port) (w : SharedWord) (old new : ℕ) → MayExchange p.service p w old new → IsWord p.service.sizes w
+exchanged_word p w old new may
+    = subst (IsWord p.service.sizes) (sym may.word) (is_read p.service may.connection may.line may.ring)
+
 pub exchange_allowed : (slots id : ℕ) (p : Port) (after : ℕ → PortParty) (w : SharedWord) (old new : ℕ) → MayExchange p.service p w old new
     → MakesNext p.party (Exchange w old new) after
     → Allows Holds slots id (single p) (number_of p.service.sizes w) (λ n. either (n == old) new n)
     (exchanged p after (step slots (number_of p.service.sizes w) old new none) (single p))
 exchange_allowed slots id p after w old new may next =
-    let is : IsWord p.service.sizes w = subst (IsWord p.service.sizes) (sym may.word)
-    (is_read p.service may.connection may.line may.ring) in
+    let is : IsWord p.service.sizes w = exchanged_word p w old new may in
     lifts FitSome slots id p (number_of p.service.sizes w) (λ n. either (n == old) new n)
     (λ n q. (q ≡ learned p (known_exchanged p.name p.known (number_of p.service.sizes w) old new n) (after n)) × (n < 2 ^ 64)
     × (held p.service p.known w ≤ n)) (exchanged p after (step slots (number_of p.service.sizes w) old new none) (single p))
@@ -185,10 +190,11 @@ exchange_allowed slots id p after w old new may next =
     ))
     (λ n q told. (refl, ap single told.0, told.1, (λ v there e. at_number p w v (λ u. held p.service p.known u ≤ n) is there e told.2)))
 
--- the same, as a seat and a number are handed in
+-- the same, as a seat, a number and an access are handed in, and what the access tells
 module _ (slots id words : ℕ) (sizes : TableSizes) (p : Port) (after : ℕ → PortParty) (me : Me ℕ View) (i : ℕ) (w : SharedWord)
     (mine : me ≡ single p) (same : p.service.sizes ≡ sizes)
-    (at : i ≡ number_of sizes w) (wide : words ≡ words_of sizes) where
+    (at : i ≡ number_of sizes w) (wide : words ≡ words_of sizes) (access : SharedAccess) (may : MayAct p access)
+    (next : MakesNext p.party access after) where
   at_own : number_of p.service.sizes w ≡ i
   at_own = ap (λ (z : TableSizes). number_of z w) same ∙ sym at
 
@@ -196,30 +202,62 @@ module _ (slots id words : ℕ) (sizes : TableSizes) (p : Port) (after : ℕ →
   in_table is = let less : number_of sizes w < words_of sizes
       = subst (λ (z : TableSizes). number_of z w < words_of z) same (within p.service.sizes w is).1 in omega (arith, less, at, wide)
 
-  pub load_granted : IsWord p.service.sizes w → MakesNext p.party (Load w) after → (i < words)
+  may_as : (own : SharedAccess) → access ≡ own → MayAct p own × MakesNext p.party own after
+  may_as own is = subst (λ (a : SharedAccess). MayAct p a × MakesNext p.party a after) is (may, next)
+
+  told_as : (own : SharedAccess) (found : ℕ) (me' : Me ℕ View) → access ≡ own → me' ≡ single (stepped p own found after)
+      → ToldBy p own found → (me' ≡ single (stepped p access found after)) × ToldBy p access found
+  told_as own found me' is port told =
+      subst (λ (a : SharedAccess). (me' ≡ single (stepped p a found after)) × ToldBy p a found) (sym is) (port, told)
+
+  pub load_granted : access ≡ Load w → (i < words)
       × Allows Holds slots id me i (λ n. n) (loaded p after (step slots i 0 0 none) me)
-  load_granted is next = (
-    in_table is,
-    subst (λ (m : Me ℕ View). Allows Holds slots id m i (λ n. n) (loaded p after (step slots i 0 0 none) m)) (sym mine)
-        (subst (λ (n : ℕ). Allows Holds slots id (single p) n (λ n. n) (loaded p after (step slots n 0 0 none) (single p))) at_own
-        (load_allowed slots id p after w is next)),
-  )
+  load_granted is =
+      let own = may_as (Load w) is in (
+        in_table own.0,
+        subst (λ (m : Me ℕ View). Allows Holds slots id m i (λ n. n) (loaded p after (step slots i 0 0 none) m)) (sym mine)
+            (subst (λ (n : ℕ). Allows Holds slots id (single p) n (λ n. n) (loaded p after (step slots n 0 0 none) (single p))) at_own
+            (load_allowed slots id p after w own.0 own.1)),
+      )
 
-  pub store_granted : (new : ℕ) → MayStore p.service p w new → MakesNext p.party (Store w new) after → (i < words)
+  pub load_told : (found : ℕ) (me' : Me ℕ View) → access ≡ Load w → loaded p after (step slots i 0 0 none) me found me'
+      → (me' ≡ single (stepped p access found after)) × ToldBy p access found
+  load_told found me' is told =
+      let its = told.1 w (may_as (Load w) is).0 at_own in
+      told_as (Load w) found me' is
+      (its.0 ∙ ap (λ (n : ℕ). single (learned (saw p w) (set p.known n found) (after found))) (sym at_own)) (its.1, its.2)
+
+  pub store_granted : (new : ℕ) → access ≡ Store w new → (i < words)
       × Allows Holds slots id me i (λ _. new) (λ _. stored p after (step slots i new 0 none) me new)
-  store_granted new may next = (
-    in_table may.word,
-    subst (λ (m : Me ℕ View). Allows Holds slots id m i (λ _. new) (λ _. stored p after (step slots i new 0 none) m new)) (sym mine)
-        (subst (λ (n : ℕ). Allows Holds slots id (single p) n (λ _. new) (λ _. stored p after (step slots n new 0 none) (single p) new))
-        at_own (store_allowed slots id p after w new may next)),
-  )
+  store_granted new is =
+      let own = may_as (Store w new) is in (
+        in_table own.0.word,
+        subst (λ (m : Me ℕ View). Allows Holds slots id m i (λ _. new) (λ _. stored p after (step slots i new 0 none) m new)) (sym mine)
+            (subst (λ (n : ℕ). Allows Holds slots id (single p) n (λ _. new)
+            (λ _. stored p after (step slots n new 0 none) (single p) new)) at_own (store_allowed slots id p after w new own.0 own.1)),
+      )
 
-  pub exchange_granted : (old new : ℕ) → MayExchange p.service p w old new → MakesNext p.party (Exchange w old new) after → (i < words)
+  pub store_told : (new : ℕ) (me' : Me ℕ View) → access ≡ Store w new → stored p after (step slots i new 0 none) me new me'
+      → (me' ≡ single (stepped p access 0 after)) × ToldBy p access 0
+  store_told new me' is told =
+      told_as (Store w new) 0 me' is (told.1 ∙ ap (λ (n : ℕ). single (learned p (set p.known n new) (after 0))) (sym at_own)) refl
+
+  pub exchange_granted : (old new : ℕ) → access ≡ Exchange w old new → (i < words)
       × Allows Holds slots id me i (λ n. either (n == old) new n) (exchanged p after (step slots i old new none) me)
-  exchange_granted old new may next = (
-    in_table (subst (IsWord p.service.sizes) (sym may.word) (is_read p.service may.connection may.line may.ring)),
-    subst (λ (m : Me ℕ View). Allows Holds slots id m i (λ n. either (n == old) new n)
-        (exchanged p after (step slots i old new none) m)) (sym mine)
-        (subst (λ (n : ℕ). Allows Holds slots id (single p) n (λ n. either (n == old) new n)
-        (exchanged p after (step slots n old new none) (single p))) at_own (exchange_allowed slots id p after w old new may next)),
-  )
+  exchange_granted old new is =
+      let own = may_as (Exchange w old new) is in (
+        in_table (exchanged_word p w old new own.0),
+        subst (λ (m : Me ℕ View). Allows Holds slots id m i (λ n. either (n == old) new n)
+            (exchanged p after (step slots i old new none) m)) (sym mine)
+            (subst (λ (n : ℕ). Allows Holds slots id (single p) n (λ n. either (n == old) new n)
+            (exchanged p after (step slots n old new none) (single p))) at_own
+            (exchange_allowed slots id p after w old new own.0 own.1)),
+      )
+
+  pub exchange_told : (old new found : ℕ) (me' : Me ℕ View) → access ≡ Exchange w old new
+      → exchanged p after (step slots i old new none) me found me'
+      → (me' ≡ single (stepped p access found after)) × ToldBy p access found
+  exchange_told old new found me' is told =
+      told_as (Exchange w old new) found me' is
+      (told.1 ∙ ap (λ (n : ℕ). single (learned p (known_exchanged p.name p.known n old new found) (after found))) (sym at_own))
+      (told.2, told.3 w (exchanged_word p w old new (may_as (Exchange w old new) is).0) at_own)

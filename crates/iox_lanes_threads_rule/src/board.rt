@@ -2,13 +2,12 @@
 ghost use Rattle.std.specs.Prelude.{◌≡◌, [], length, IfOk};
 ghost use Rattle.atomic_table.specs.Table.{opening};
 ghost use Rattle.iox_lanes_parties.specs.LanesBase.Numbers.{words_of, IsSmall};
-ghost use Rattle.iox_lanes_parties.specs.LanesBase.declared.words.access.SharedAccess.TheVariants as access;
 ghost use Rattle.iox_lanes_threads_rule.specs.Acts.{single, stepped, Holds, MayAct, ToldBy};
 ghost use Rattle.iox_lanes_threads_rule.specs.Lanes.{MakesNext};
 
 use crate::view::{Port, PortParty, View};
 use atomic_table::{Play, Seat, Shared, Table, TableRule};
-use iox_lanes_base::words::{SharedAccess, SharedWord, TableSizes};
+use iox_lanes_base::words::{SharedAccess, TableSizes};
 use std::alloc::{AllocError, Global};
 use std::marker::{Brand, Model, PhantomData};
 
@@ -31,8 +30,8 @@ impl<K: Opening> TableRule<u8, View, K> for WordRule {
     ghost first = { K.first };
 }
 
-/// The words of a service, as threads share them, with their memory. Ports step on them by `act`, `load`, `store` and `exchange`
-/// alone, which count each access, and by no step of their own. That this file and `gathering` make no other is read in them.
+/// The words of a service, as threads share them, with their memory. Ports step on them by `act` alone, which counts each access, and
+/// by no step of their own. That this file and `gathering` make no other is read in them.
 #[derive(Drop)]
 pub struct Words<K: Opening> {
     table: Table<u8, View, K, WordRule, Global>,
@@ -121,69 +120,8 @@ impl<M: Doing> Play<u8, View> for Exchanges<M> {
     ghost then = { exchanged M.port M.after };
 }
 
-/// Loads a word that the port may load, and loads next.
-pub fn load<K: Opening, M: Doing>(
-    words: &Words<K>,
-    seat: &mut WordSeat,
-    sizes: &TableSizes,
-    word: SharedWord,
-) -> u64
-    requires table { (seat.old.table_id ≡ words.now.table_id) × (words.now.table_id.words ≡ words_of sizes.now) × IsSmall sizes.now }
-    requires seat { (seat.old.me ≡ single M.port) × (M.port.service.sizes ≡ sizes.now) }
-    requires may { MayAct M.port (access.Load word) }
-    requires next { MakesNext M.port.party (access.Load word) M.after }
-    ensures table { (seat.new.table_id ≡ seat.old.table_id) × (seat.new.id ≡ seat.old.id) }
-    ensures port { seat.new.me ≡ single (stepped M.port (access.Load word) result M.after) }
-    ensures told { ToldBy M.port (access.Load word) result }
-{
-    words
-        .shared()
-        .load::<Loads<M>>(seat, sizes.number(word) as usize)
-}
-
-/// Stores into a word that the port may store, and stores next.
-pub fn store<K: Opening, M: Doing>(
-    words: &Words<K>,
-    seat: &mut WordSeat,
-    sizes: &TableSizes,
-    word: SharedWord,
-    new: u64,
-)
-    requires table { (seat.old.table_id ≡ words.now.table_id) × (words.now.table_id.words ≡ words_of sizes.now) × IsSmall sizes.now }
-    requires seat { (seat.old.me ≡ single M.port) × (M.port.service.sizes ≡ sizes.now) }
-    requires may { MayAct M.port (access.Store word new) }
-    requires next { MakesNext M.port.party (access.Store word new) M.after }
-    ensures table { (seat.new.table_id ≡ seat.old.table_id) × (seat.new.id ≡ seat.old.id) }
-    ensures port { seat.new.me ≡ single (stepped M.port (access.Store word new) 0 M.after) }
-{
-    words
-        .shared()
-        .store::<Stores<M>>(seat, sizes.number(word) as usize, new);
-}
-
-/// Makes an exchange that the port may make, and makes next, and gives what the word held.
-pub fn exchange<K: Opening, M: Doing>(
-    words: &Words<K>,
-    seat: &mut WordSeat,
-    sizes: &TableSizes,
-    word: SharedWord,
-    old: u64,
-    new: u64,
-) -> u64
-    requires table { (seat.old.table_id ≡ words.now.table_id) × (words.now.table_id.words ≡ words_of sizes.now) × IsSmall sizes.now }
-    requires seat { (seat.old.me ≡ single M.port) × (M.port.service.sizes ≡ sizes.now) }
-    requires may { MayAct M.port (access.Exchange word old new) }
-    requires next { MakesNext M.port.party (access.Exchange word old new) M.after }
-    ensures table { (seat.new.table_id ≡ seat.old.table_id) × (seat.new.id ≡ seat.old.id) }
-    ensures port { seat.new.me ≡ single (stepped M.port (access.Exchange word old new) result M.after) }
-    ensures told { ToldBy M.port (access.Exchange word old new) result }
-{
-    words
-        .shared()
-        .compare_exchange::<Exchanges<M>>(seat, sizes.number(word) as usize, old, new)
-}
-
 /// Makes the access of a port that may make it, and makes it next, and gives its answer; stores and local steps are answered 0.
+#[inline(always)]
 pub fn act<K: Opening, M: Doing>(
     words: &Words<K>,
     seat: &mut WordSeat,
@@ -198,14 +136,15 @@ pub fn act<K: Opening, M: Doing>(
     ensures port { seat.new.me ≡ single (stepped M.port access result M.after) }
     ensures told { ToldBy M.port access result }
 {
+    let table = words.shared();
     match access {
-        SharedAccess::Load(word) => load::<K, M>(words, seat, sizes, word),
+        SharedAccess::Load(word) => table.load::<Loads<M>>(seat, sizes.number(word) as usize),
         SharedAccess::Store(word, new) => {
-            store::<K, M>(words, seat, sizes, word, new);
+            table.store::<Stores<M>>(seat, sizes.number(word) as usize, new);
             0
         }
         SharedAccess::Exchange(word, old, new) => {
-            exchange::<K, M>(words, seat, sizes, word, old, new)
+            table.compare_exchange::<Exchanges<M>>(seat, sizes.number(word) as usize, old, new)
         }
         SharedAccess::Local => 0,
     }

@@ -43,7 +43,7 @@ pub fn seen_words_stand()
 {}
 
 /// A load of a word that its port's view lists as loaded finds what the view knows of it, where no write position stood at 2^64 - 1
-/// when the word was loaded: `load` tells words and ports of that moment.
+/// when the word was loaded: `act` tells words and ports of that moment.
 pub fn loads_give_the_known()
     ensures { LoadsGiveTheKnown }
 {}

@@ -19,7 +19,7 @@ pub mod laws;
 pub mod service;
 pub mod view;
 
-pub use board::{Doing, Opening, WordRule, WordSeat, Words, act, exchange, load, store};
+pub use board::{Doing, Opening, WordRule, WordSeat, Words, act};
 pub use gathering::{agree, gather, give_out};
 pub use service::{Line, Service, SlotRange};
 pub use view::{Port, PortParty, View};

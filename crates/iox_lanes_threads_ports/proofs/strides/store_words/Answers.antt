@@ -27,8 +27,8 @@ loop-at-init g c = (
       (strode_none publisher_goes_ahead c.args.seat.now.me c.args.lane.now c.requires.seat.0 c.requires.stands),
 )
 
-pub store_ahead-requires-clause-stands : goal.store_ahead-requires-clause-stands
-store_ahead-requires-clause-stands g c =
+pub access_ahead-requires-clause-stands : goal.access_ahead-requires-clause-stands
+access_ahead-requires-clause-stands g c =
     let lane = c.args.lane.now in
     let stored = c.stored-stored.ensures in
     let same = ap (λ (xs : List ℕ). length xs) stored in
@@ -39,8 +39,8 @@ store_ahead-requires-clause-stands g c =
     c.storing-call.ensures in
     subst (λ (call : PublisherCall). PublisherStands (port_of c.loop-at.seat.me) (called call lane)) here c.loop-at.invariant.2.stands
 
-pub store_ahead-requires-clause-next : goal.store_ahead-requires-clause-next
-store_ahead-requires-clause-next g c =
+pub access_ahead-requires-clause-next : goal.access_ahead-requires-clause-next
+access_ahead-requires-clause-next g c =
     ap publisher_next c.storing-call.ensures
     ∙ storing_stores c.args.part c.args.slot c.loop-at.at (get_or c.stored-stored.result.now c.loop-at.at 0)
     ∙ ap (λ (word : SlotWord). Store (Slot c.args.slot word) (get_or c.stored-stored.result.now c.loop-at.at 0))
@@ -60,12 +60,13 @@ loop-at-preserved g c =
     let here = storing_here c.args.part (call_words lane.port) c.args.slot c.loop-at.at less ∙ ap
     (λ (xs : List ℕ). storing c.args.part c.args.slot c.loop-at.at (get_or xs c.loop-at.at 0)) (sym stored) ∙ sym
     c.storing-call.ensures in (
-      c.store_ahead.ensures.table.0 ∙ c.loop-at.invariant.0,
-      c.store_ahead.ensures.table.1 ∙ c.loop-at.invariant.1,
-      subst (PublisherStrode p lane (c.loop-at.at + 1) c.store_ahead.new.seat.me)
-          (ap (λ (call : PublisherCall). publisher_after 0 (called call lane)) c.storing-call.ensures ∙ storing_on c.args.part lane
+      c.access_ahead.ensures.table.0 ∙ c.loop-at.invariant.0,
+      c.access_ahead.ensures.table.1 ∙ c.loop-at.invariant.1,
+      subst (PublisherStrode p lane (c.loop-at.at + 1) c.access_ahead.new.seat.me)
+          (ap (λ (n : ℕ). publisher_after n (called c.storing-call.result lane)) c.access_ahead.ensures.told
+          ∙ ap (λ (call : PublisherCall). publisher_after 0 (called call lane)) c.storing-call.ensures ∙ storing_on c.args.part lane
           c.args.slot c.loop-at.at (get_or c.stored-stored.result.now c.loop-at.at 0) next)
-          (c.store_ahead.ensures.strode p lane c.loop-at.at
+          (c.access_ahead.ensures.strode tt p lane c.loop-at.at
           (subst (λ (call : PublisherCall). PublisherStrode p lane c.loop-at.at c.loop-at.seat.me (called call lane)) here
           c.loop-at.invariant.2)),
     )
