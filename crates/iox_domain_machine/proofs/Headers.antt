@@ -113,7 +113,7 @@ user_header_stands T U names lent held buffer ports service publisher slot test 
 
 -- ---- what a header tells
 
-header_by : {T U : Type 0} (taken : Taken) (message : Message T U) (found : Option (PublisherPort T U))
+pub header_by : {T U : Type 0} (taken : Taken) (message : Message T U) (found : Option (PublisherPort T U))
     → sample_at_port taken found ≡ Some message
     → (port : PublisherPort T U) × (found ≡ Some port) × (header_at_port taken found ≡ Some (header_of port message))
 header_by taken message None is = never_some message is

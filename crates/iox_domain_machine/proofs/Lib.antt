@@ -106,3 +106,9 @@ pub mod ComesStands
 pub mod Comes
 pub mod ComesPublisher
 pub mod ComesConnected
+pub mod MessagesInUse
+pub mod SendsInUse
+pub mod ListsInUse
+pub mod SentHeaders
+pub mod SendHeaders
+pub mod PutHeaders

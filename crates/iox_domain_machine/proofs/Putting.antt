@@ -31,6 +31,7 @@ use Rattle.iox_domain_machine.specs.Naming.{Naming, with_name}
 use Rattle.iox_domain_machine.specs.PublisherUpdateLaws.{DegradesAs}
 use Rattle.iox_domain_machine.specs.PutLaws.{PutMatches}
 use Rattle.iox_domain_machine.specs.SendLaws.{sent_or_skipped, DecidesAs}
+use Rattle.iox_domain_machine.specs.SentHeaders.{AreStillNamed}
 use Rattle.iox_domain_machine.specs.Standing.{StandsFor}
 use Rattle.iox_domain_machine.specs.Tables.{LentSlot}
 use Rattle.iox_domain_machine.proofs.AloneDid.{by_bool, by_option}
@@ -39,6 +40,7 @@ use Rattle.iox_domain_machine.proofs.Lending.{lend_uninit_matches}
 use Rattle.iox_domain_machine.proofs.LendingBack.{LentBy, service_with, free_does, busy_skips}
 use Rattle.iox_domain_machine.proofs.LendingFilled.{LoanMatched, lent_so, none_there, filled_stands}
 use Rattle.iox_domain_machine.proofs.PuttingParts.{PutParts, puts_in_parts}
+use Rattle.iox_domain_machine.proofs.SentHeaders.{lends_stays, others_stay}
 use Rattle.iox_domain_machine.proofs.SendingBack.{sending_back}
 use Rattle.iox_domain_machine.proofs.SendingLoan.{send_matches}
 use Rattle.iox_domain_machine.proofs.TableEnds.{at_end, removed_end, numbers_total, none_above}
@@ -156,6 +158,7 @@ module _ {T U : Type 0} (types : MessageTypeDetails) (choices : Choices T) (buff
 
   abbrev Comes : Option (Result Sent SendError) → ServicePorts T U → Type 0
   Comes answer new = (message : ℕ → ℕ → ℕ) × (reader : ℕ → ℕ → ℕ)
+      × AreStillNamed names (record names { message = message; reader = reader }) old
       × Matches T U choices types buffer (command.Put name values) (sent_or_skipped answer) state service
       (record names { message = message; reader = reader }) lent held new
 
@@ -169,8 +172,12 @@ module _ {T U : Type 0} (types : MessageTypeDetails) (choices : Choices T) (buff
   none_puts : LoansBy number (length values) (length values) old None old → Comes None old
   none_puts lends =
       let here = came None old lends in
-      let busy = lent_so types choices buffer names lent held old old service before number (length values) stands fresh None here in
-      (names.message, names.reader, (service, busy_skips name service state (Puts choices name values) busy.0, stands))
+      let busy = lent_so types choices buffer names lent held old old service before number (length values) stands fresh None here in (
+        names.message,
+        names.reader,
+        others_stay names names old refl refl,
+        (service, busy_skips name service state (Puts choices name values) busy.0, stands),
+      )
 
   -- the loan is refused, and nothing changes
   refused_puts : (why : LoanError) (new : ServicePorts T U) → LoansBy number (length values) (length values) old (Some (Err why)) new
@@ -182,6 +189,7 @@ module _ {T U : Type 0} (types : MessageTypeDetails) (choices : Choices T) (buff
       let by = so.0 in (
         names.message,
         names.reader,
+        others_stay names names old refl refl,
         (
           service,
           free_does name service state (Puts choices name values) by.publisher by.there by.free
@@ -262,6 +270,7 @@ module _ {T U : Type 0} (types : MessageTypeDetails) (choices : Choices T) (buff
         (record now { loans = removed loan now.loans }) (sent_or_skipped (Some answer)) sent.0) (values_written values) sends) in (
           names_now.message,
           reader,
+          lends_stays names lent held buffer old service stands number (length values) (length values) here.0 (Some (Ok slot)) made lends,
           (
             sent.0,
             free_does name service state (Puts choices name values) by.publisher by.there by.free (sent_or_skipped (Some answer)) sent.0

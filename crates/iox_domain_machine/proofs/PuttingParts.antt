@@ -86,7 +86,7 @@ module _ {T U : Type 0} (may_degrade : DegradationInfo → DegradationAction →
       changed_is : written.publishers ≡ with_port number made.publishers writer
       changed_is = ap (λ found. changed_at_port number (with_values slot values) found made.publishers) found_lent
 
-      found_written : port_of number written.publishers ≡ Some writer
+      pub found_written : port_of number written.publishers ≡ Some writer
       found_written = ap (port_of number) changed_is ∙ same_set (at_number number) made.publishers writer lender found_lent
 
       written_back : written.publishers ≡ with_port number old.publishers writer

@@ -71,7 +71,7 @@ found_at test [] found is = never_some found is
 found_at test (first ∷ rest) found is = found_at_by test (test first) first rest found refl (found_at test rest found) is
 
 -- the values of a message are those of its loan that are written
-written_as : {T : Type 0} (values : List (Option T)) → filter_map (λ value. value) values ≡ written_of values
+pub written_as : {T : Type 0} (values : List (Option T)) → filter_map (λ value. value) values ≡ written_of values
 written_as [] = refl
 written_as (None ∷ values) = written_as values
 written_as (Some value ∷ values) = ap (λ rest. value ∷ rest) (written_as values)

@@ -52,7 +52,7 @@ none_by : {X : Type 0} (number : ℕ) (b : Bool) (entry : ℕ × X) (entries : L
 none_by number true entry entries is none rest = absurd (omega (arith, none, counts_once number entry.0 (number_is number entry.0 is)))
 none_by number false entry entries is none rest = rest (omega (arith, none))
 
-none_found : {X : Type 0} (number : ℕ) (entries : List (ℕ × X)) → how_often number (keys_of entries) ≡ 0
+pub none_found : {X : Type 0} (number : ℕ) (entries : List (ℕ × X)) → how_often number (keys_of entries) ≡ 0
     → lookup (at_number number) entries ≡ None
 none_found number [] none = refl
 none_found number (entry ∷ entries) none = none_by number (at_number number entry.0) entry entries refl none (none_found number entries)

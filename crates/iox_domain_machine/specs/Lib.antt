@@ -18,3 +18,4 @@ pub mod PublisherUpdateLaws
 pub mod ComingLaws
 pub mod ComingPublisherLaws
 pub mod HeaderLaws
+pub mod SentHeaders

@@ -16,6 +16,7 @@ ghost use Rattle.iox_machine.specs.Choices.{Handed, chosen_by};
 ghost use Rattle.iox_domain_machine.specs.Laws.{NewStands, SetMatches, FillMatches, DropMatches, ReadMatches, SequenceMatches};
 ghost use Rattle.iox_domain_machine.specs.Laws.{GiveUpMatches};
 ghost use Rattle.iox_domain_machine.specs.HeaderLaws.{HeaderMatches, UserHeaderStands};
+ghost use Rattle.iox_domain_machine.specs.SentHeaders.{HeadersAreAsSent, NamesStay};
 ghost use Rattle.iox_domain_machine.specs.ReleaseLaws.{ReleaseMatches};
 ghost use Rattle.iox_domain_machine.specs.LeaveLaws.{PublisherLeaveMatches, SubscriberLeaveMatches};
 ghost use Rattle.iox_domain_machine.specs.LendingLaws.{LendUninitMatches, LendMatches};
@@ -77,6 +78,25 @@ pub fn writing_a_user_header_stands<T, U>()
 /// number.
 pub fn telling_a_header_matches<T, U>()
     ensures { HeaderMatches T U }
+{}
+
+/// What a subscriber reads of the header and the user header of a sample was told as the send of its message began. It is told of the very
+/// message that the machine's sample has, and of the publisher that this one names. So it is whatever is called, from a new domain on, and
+/// whatever override and handlers answer. A call adds what it tells as it begins a send, if it does. Nothing else changes what a message in
+/// use tells.
+pub fn headers_are_as_sent<T, U, O: Overrides, B: Decides + Degrades>(
+    _overriding: &O,
+    _handlers: &B,
+)
+    ensures { HeadersAreAsSent T U (O.overrides _overriding.now)
+        (B.degrades _handlers.now cause.FailedToEstablishConnection)
+        (B.decides _handlers.now) }
+{}
+
+/// The names by which ports stand for a service after a call are those of before for all that is in use: where no port or message gets
+/// another name, where a loan is made, and where a publisher comes.
+pub fn names_in_use_stay<T, U>()
+    ensures { NamesStay T U }
 {}
 
 /// A send that waits ends, and as many are told to have taken its message. Where none waits, or the publisher left, nothing happens.

@@ -1,10 +1,11 @@
 -- A user header that is written leaves a hub standing for what it stood for, and a header tells what the machine answers.
-use Rattle.std.proofs.Common.{◌≡◌, ◌≤◌, ◌+◌, ◌*◌, ◌++◌, ◌∷◌, ℕ, Bool, true, cond, List, Option, None, Some, refl, sym, ap, subst}
+use Rattle.std.proofs.Common.{◌≡◌, ◌≤◌, ◌+◌, ◌*◌, ◌++◌, ◌∷◌, [], ℕ, Bool, true, cond, List, Option, None, Some, refl, sym, ap, subst}
 use Rattle.std.proofs.Common.{inl, inr, arith, ◌∙◌}
 use Rattle.std.proofs.Math.Logic.{⊎_elim}
 use Rattle.std.proofs.lemmas.Bool.Decides.{eqb_tells}
 use Rattle.std.specs.Map.{keys_of}
-use Rattle.std.specs.Prelude.{option_map}
+use Rattle.std.specs.Option.{option_map_or}
+use Rattle.std.specs.Prelude.{option_and_then, option_map}
 use Rattle.iox_command.specs.DomainValues.declared.backpressure.BackpressureAction.{BackpressureAction}
 use Rattle.iox_command.specs.DomainValues.declared.backpressure.BackpressureDecision.{BackpressureDecision}
 use Rattle.iox_command.specs.DomainValues.declared.backpressure.BackpressureInfo.{BackpressureInfo}
@@ -37,10 +38,14 @@ use Rattle.iox_domain.specs.declared.domain_id.DomainId.{DomainId}
 use Rattle.iox_domain.specs.declared.ports.service_ports.ServicePorts.{ServicePorts}
 use Rattle.iox_domain_machine.proofs.Found.{never_some, same_everywhere, same_some}
 use Rattle.iox_domain_machine.proofs.Headers.{header_matches, user_header_stands}
+use Rattle.iox_domain_machine.proofs.Reading.{message_there, sample_there}
+use Rattle.iox_domain_machine.proofs.SentHeaders.{is_told}
 use Rattle.iox_domain_machine.proofs.Services.{joined, parted}
 use Rattle.iox_domain_machine.specs.Naming.{Naming}
+use Rattle.iox_domain_machine.specs.SentHeaders.{headed_by, own_numbers}
 use Rattle.iox_domain_machine.specs.Services.{DomainsStandFor, StandInTurn, those_of}
 use Rattle.iox_domain_machine.specs.Standing.{StandsFor}
+use Rattle.iox_domain_machine.specs.Tables.{sample_as}
 use Rattle.iox_hub_base.specs.AsHome.{hub_ports, with_hub_ports}
 use Rattle.iox_hub_base.specs.declared.hub.Hub.{Hub}
 use Rattle.iox_hub_commands.proofs.Agreeing.{same_factories}
@@ -62,8 +67,8 @@ use Rattle.iox_hub_machine.specs.ClosingLaws.{IsCome}
 use Rattle.iox_hub_machine.specs.Ran.{AreRising, RanAtMost, StandsAfter}
 use Rattle.iox_hub_machine.specs.Services.{HubStandsFor}
 use Rattle.iox_hub_machine.specs.Standing.{PortsStandFor, held_in, lent_in}
-use Rattle.iox_hub_machine.specs.TypedHeaders.{ChangesUserHeader, HeaderIsStep, HeaderNamesPublisher, UserHeadersKeepStanding}
-use Rattle.iox_hub_machine.specs.TypedHeaders.{UserHeadersNeedNoCommand}
+use Rattle.iox_hub_machine.specs.TypedHeaders.{ChangesUserHeader, HeaderIsStep, HeaderNamesPublisher, HeaderReadAsSent}
+use Rattle.iox_hub_machine.specs.TypedHeaders.{UserHeadersKeepStanding, UserHeadersNeedNoCommand}
 use Rattle.iox_machine.specs.Choices.{Choices, as_named}
 use Rattle.iox_machine.specs.Run.{Runs}
 use Rattle.iox_machine.specs.Service.{Service}
@@ -305,6 +310,37 @@ module _ {T U B D : Type 0} (payload user_header : Detail) (variant : TypeVarian
         (λ publisher port port_there same_domain same_id.
             sym tells.publisher
             ∙ ap (it.naming id.service).publisher (ap (λ (one : Header). one.publisher_id) same ∙ sym same_id)
+            ∙ ap (λ (n : ℕ). (it.naming n).publisher port.number) (sym same_domain)
+            ∙ (it.stands.ports.publishers.known publisher port port_there).0),
+      )
+
+  pub header_read_as_sent : HeaderReadAsSent payload user_header types is_default is_default_header fixed degrades decides fixed_reader
+      reader_degrades
+  header_read_as_sent names most hub state number made ports sent it there found tell =
+      let goes = sample_goes (as_named is_default) degrades decides reader_degrades it.naming it.order hub state it.stands.ports number made
+      there in
+      let id = made.port.domain in
+      let placed = some_place (as_named is_default) degrades decides reader_degrades it.naming it.order hub state it.stands.ports id
+      ports found in
+      let lent = those_of id.service (lent_in hub.made) in
+      let held = those_of id.service (held_in hub.made) in
+      let (message, is) = message_there (it.naming id.service) lent held hub.hub.expired_connection_buffer ports placed.service number
+      made.taken placed.stands goes.mine in
+      let told = is_told own_numbers sent ports made.taken message tell is in
+      let own : told.port.number ≡ made.taken.publisher = placed.stands.numbered made.taken.publisher told.port told.there in (
+        sample_as (it.naming id.service) ports made.taken,
+        placed.samples number made.taken goes.goes
+            ∙ sample_there (it.naming id.service) lent held hub.hub.expired_connection_buffer ports placed.service number made.taken
+            placed.stands goes.mine,
+        headed_by own_numbers (header_of told.port message) message,
+        told.among,
+        sym (ap (λ (one : Option (Message T U)). option_map_or (λ (it : Message T U). it.values) one []) is),
+        sym (ap (option_and_then (λ (it : Message T U). it.sequence)) is),
+        ap (header_found made.taken) found ∙ told.header,
+        ap (λ (one : Option (ServicePorts T U)). option_map (λ (it : Message T U). it.user_header) (message_found made.taken one)) found
+            ∙ ap (option_map (λ (it : Message T U). it.user_header)) is,
+        (λ publisher port port_there same_domain same_id.
+            ap (it.naming id.service).publisher (sym own ∙ sym same_id)
             ∙ ap (λ (n : ℕ). (it.naming n).publisher port.number) (sym same_domain)
             ∙ (it.stands.ports.publishers.known publisher port port_there).0),
       )

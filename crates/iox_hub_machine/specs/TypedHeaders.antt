@@ -1,5 +1,5 @@
 -- What calls on headers and user headers are in the machine.
-use Rattle.std.specs.Prelude.{ℕ, ◌≡◌, ◌⊎◌, List, Option, Some}
+use Rattle.std.specs.Prelude.{ℕ, ◌≡◌, ◌⊎◌, List, Contains, Option, Some, option_map}
 use Rattle.iox_command.specs.DomainValues.declared.backpressure.BackpressureAction.{BackpressureAction}
 use Rattle.iox_command.specs.DomainValues.declared.backpressure.BackpressureDecision.{BackpressureDecision}
 use Rattle.iox_command.specs.DomainValues.declared.backpressure.BackpressureInfo.{BackpressureInfo}
@@ -14,11 +14,14 @@ use Rattle.iox_command.specs.declared.command.Command.TheVariants as command
 use Rattle.iox_command.specs.declared.reply.Reply.{Reply}
 use Rattle.iox_command.specs.declared.reply.Reply.TheVariants as reply
 use Rattle.iox_container.specs.NumberTable.{value_at}
+use Rattle.iox_delivery.specs.Holding.{message_found}
 use Rattle.iox_delivery.specs.Publishing.{WritesUserHeader, loan_changed}
 use Rattle.iox_delivery.specs.Subscribing.{header_found}
 use Rattle.iox_delivery.specs.declared.port_id.PortId.{PortId}
 use Rattle.iox_domain.specs.DescribeBase.declared.header.Header.{Header}
 use Rattle.iox_domain.specs.DomainPorts.Messages.{write_user_header}
+use Rattle.iox_domain.specs.declared.ports.service_ports.ServicePorts.{ServicePorts}
+use Rattle.iox_domain_machine.specs.SentHeaders.{SentHeader, TellAsSent, own_numbers}
 use Rattle.iox_hub_base.specs.AsHome.{hub_ports, with_hub_ports}
 use Rattle.iox_hub_base.specs.declared.hub.Hub.{Hub}
 use Rattle.iox_hub_commands.specs.Tables.{port_under}
@@ -85,3 +88,21 @@ module _ {T U B D : Type 0} (payload user_header : Detail) (types : MessageTypeD
       → header_found made.taken (hub_ports made.port.domain old.hub) ≡ Some header
       → IsStepBy payload user_header types is_default is_default_header fixed degrades decides fixed_reader reader_degrades
       (command.Sequence number) old (reply.Sequence header.sequence) old
+
+  -- What a sample that goes by a number tells in its header and its user header was told as a send began, by its domain's own numbers: of a
+  -- message with the values and the sequence number of the machine's sample. Where a publisher of the sample's domain goes by a number,
+  -- and it was the one that sent, that is the publisher of the machine's sample.
+  abbrev pub HeaderReadAsSent : Type 0
+  HeaderReadAsSent = (names : List (List ℕ)) (most : ℕ) (hub : NumberedHub T U B D) (state : State T) (number : ℕ) (made : MadeSample)
+      (ports : ServicePorts T U) (sent : List (SentHeader T U))
+      → StandsAfter types (as_named is_default) degrades decides reader_degrades names most hub state
+      → value_at hub.made.samples number ≡ Some made → hub_ports made.port.domain hub.hub ≡ Some ports
+      → TellAsSent own_numbers sent ports
+      → (sample : Sample T) × (among (λ service. service.samples) number state.services ≡ Some sample)
+      × (told : SentHeader T U) × Contains sent told
+      × (told.message.values ≡ sample.message.values) × (told.message.sequence ≡ sample.message.sequence)
+      × (header_found made.taken (hub_ports made.port.domain hub.hub) ≡ Some told.header)
+      × (option_map (λ message. message.user_header) (message_found made.taken (hub_ports made.port.domain hub.hub))
+      ≡ Some told.user_header)
+      × ((publisher : ℕ) (port : PortId) → port_under (value_at hub.made.publishers publisher) ≡ Some port
+      → port.domain.service ≡ made.port.domain.service → port.number ≡ told.publisher → sample.publisher ≡ publisher)

@@ -8,8 +8,8 @@ ghost use Rattle.iox_hub_base.specs.DescribeBase.Detail.{detail};
 ghost use Rattle.iox_hub_base.specs.DescribeBase.declared.type_detail.TypeVariant.{TypeVariant};
 ghost use Rattle.iox_hub_base.specs.DescribeBase.declared.type_detail.TypeVariant.TheVariants.{FixedSize};
 ghost use Rattle.iox_domain.specs.Fitting.{asked_types};
-ghost use Rattle.iox_hub_machine.specs.TypedHeaders.{HeaderIsStep, HeaderNamesPublisher, UserHeadersKeepStanding};
-ghost use Rattle.iox_hub_machine.specs.TypedHeaders.{UserHeadersNeedNoCommand};
+ghost use Rattle.iox_hub_machine.specs.TypedHeaders.{HeaderIsStep, HeaderNamesPublisher, HeaderReadAsSent};
+ghost use Rattle.iox_hub_machine.specs.TypedHeaders.{UserHeadersKeepStanding, UserHeadersNeedNoCommand};
 ghost use Rattle.iox_hub_machine.specs.TypedOpening.{CreateIsStep, ForeignIsStep, OpenIsStep, OpenOrCreateIsStep};
 ghost use Rattle.iox_hub_machine.specs.TypedPublishing.{ChangeIsStep, DropIsStep, GiveUpIsStep, LoanIsStep, LoanOfOneIsStep};
 ghost use Rattle.iox_hub_machine.specs.TypedPublishing.{LoanUninitIsStep, PublisherLeaveIsStep, PublisherUpdateIsStep, RetryIsStep};
@@ -315,6 +315,22 @@ pub fn typed_headers_are_read_by_steps<
         (λ handler. D.degrades handler) }
     ensures names { (variant : TypeVariant)
         → HeaderNamesPublisher (detail FixedSize T.name T.size T.alignment) (detail FixedSize U.name U.size U.alignment)
+        (asked_types variant (detail FixedSize T.name T.size T.alignment) (detail FixedSize U.name U.size U.alignment))
+        T.is_default U.is_default B.fixed (λ handlers. B.degrades handlers) (λ handlers. B.decides handlers) D.fixed
+        (λ handler. D.degrades handler) }
+{}
+
+/// What the `header` and the `user_header` of a sample tell was told as a send began, with the values and the sequence number of the
+/// machine's sample. It is premised of the messages in use of its domain, of which `iox_domain_machine::headers_are_as_sent` proves it: from
+/// a new domain on, through each call of its ports.
+pub fn typed_headers_are_as_sent<
+    T: ZeroCopySend + Default,
+    U: ZeroCopySend + Default,
+    B: PublisherHandlers,
+    D: SubscriberHandler,
+>()
+    ensures { (variant : TypeVariant)
+        → HeaderReadAsSent (detail FixedSize T.name T.size T.alignment) (detail FixedSize U.name U.size U.alignment)
         (asked_types variant (detail FixedSize T.name T.size T.alignment) (detail FixedSize U.name U.size U.alignment))
         T.is_default U.is_default B.fixed (λ handlers. B.degrades handlers) (λ handlers. B.decides handlers) D.fixed
         (λ handler. D.degrades handler) }
