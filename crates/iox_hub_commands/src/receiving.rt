@@ -42,21 +42,21 @@ pub fn receive<T: Copy, U: Copy, H: Home<T, U>>(
     }
 }
 
-// The reply of a sample that came: its number, and its values. Fails only where it has some and no memory is found for them.
+// The reply of a sample that came, and is held: its number, and its values. Fails only where it has some and no memory is found for them.
 fn arrival<T: Copy, U: Copy, H: Home<T, U>>(
     alloc: Global,
     made: &Made,
     home: &H,
     sample: u64,
 ) -> Result<Reply<T>, AllocError>
-    ensures { IsSome (values_under (homes.ports_of H.domain_of) (value_at made.now.samples sample) home.now)
-        → IsShown sample (values_under (homes.ports_of H.domain_of) (value_at made.now.samples sample) home.now) result }
+    requires { IsSome (values_under (homes.ports_of H.domain_of) (value_at made.now.samples sample) home.now) }
+    ensures { IsShown sample (values_under (homes.ports_of H.domain_of) (value_at made.now.samples sample) home.now) result }
 {
-    match made.read(home, sample) {
-        Some(values) => Ok(Reply::Received {
-            sample,
-            values: copied(alloc, values)?,
-        }),
-        None => Ok(Reply::Skipped),
-    }
+    let Some(values) = made.read(home, sample) else {
+        unreachable!();
+    };
+    Ok(Reply::Received {
+        sample,
+        values: copied(alloc, values)?,
+    })
 }

@@ -7,6 +7,17 @@ use Rattle.iox_hub_commands.specs.Reading.{values_under}
 use Rattle.iox_delivery.specs.Container.NumberTable.{value_at}
 use Rattle.iox_hub_commands.proofs.receiving.receive.Goals as goal
 
+pub arrival-requires : goal.arrival-requires
+arrival-requires g c =
+    rw c.next_number-sample.ensures.value
+    (came_is_read (homes.ports_of g.H.LendsDomains.domain_of) (homes.with_ports g.H.LendsDomains.changed)
+    (homes.subscriber_degrades (λ kept. g.H.ForSubscribers.Degrades.degrades kept) g.H.LendsDomains.domain_of)
+    (put_is_there g.H.LendsDomains.domain_of g.H.LendsDomains.changed g.met.H.LendsDomains.changed_found) _ c.args.made.now
+    c.receive_growing.new.self c.args.home.now c.receive_growing.new.home
+    c.in-Ok-Some-Ok-Some.field-0-0-0-0 c.next_number-sample.ensures.rises (rw
+    (c.in-Ok-Some-Ok-Some.field-0-is, c.in-Ok-Some-Ok-Some.field-0-0-is, c.in-Ok-Some-Ok-Some.field-0-0-0-is) at
+    c.in-Ok-Some-Ok-Some.ensures.grows))
+
 pub returns-in-Ok-Some-Ok-Some-clause-receives : goal.returns-in-Ok-Some-Ok-Some-clause-receives
 returns-in-Ok-Some-Ok-Some-clause-receives g c = (
   Ok (Some (Ok (Some c.in-Ok-Some-Ok-Some.field-0-0-0-0))),
@@ -16,19 +27,12 @@ returns-in-Ok-Some-Ok-Some-clause-receives g c = (
       c.receive_growing.new.home) c.in-Ok-Some-Ok-Some.field-0-0-0-0 c.next_number-sample.result c.arrival.result
       (came_is_next (homes.ports_of g.H.LendsDomains.domain_of) (homes.with_ports g.H.LendsDomains.changed)
       (homes.subscriber_degrades (λ kept. g.H.ForSubscribers.Degrades.degrades kept) g.H.LendsDomains.domain_of)
-      (put_is_there g.H.LendsDomains.domain_of g.H.LendsDomains.changed g.met.H.LendsDomains.changed_found) _ c.args.made.now c.receive_growing.new.self
-      c.args.home.now c.receive_growing.new.home
+      (put_is_there g.H.LendsDomains.domain_of g.H.LendsDomains.changed g.met.H.LendsDomains.changed_found) _ c.args.made.now
+      c.receive_growing.new.self c.args.home.now c.receive_growing.new.home
       c.in-Ok-Some-Ok-Some.field-0-0-0-0 (rw
       (c.in-Ok-Some-Ok-Some.field-0-is, c.in-Ok-Some-Ok-Some.field-0-0-is, c.in-Ok-Some-Ok-Some.field-0-0-0-is) at
       c.in-Ok-Some-Ok-Some.ensures.grows) ∙ sym c.next_number-sample.ensures.value)
-      (c.arrival.ensures (rw c.next_number-sample.ensures.value
-      (came_is_read (homes.ports_of g.H.LendsDomains.domain_of) (homes.with_ports g.H.LendsDomains.changed)
-      (homes.subscriber_degrades (λ kept. g.H.ForSubscribers.Degrades.degrades kept) g.H.LendsDomains.domain_of)
-      (put_is_there g.H.LendsDomains.domain_of g.H.LendsDomains.changed g.met.H.LendsDomains.changed_found) _ c.args.made.now c.receive_growing.new.self
-      c.args.home.now c.receive_growing.new.home
-      c.in-Ok-Some-Ok-Some.field-0-0-0-0 c.next_number-sample.ensures.rises (rw
-      (c.in-Ok-Some-Ok-Some.field-0-is, c.in-Ok-Some-Ok-Some.field-0-0-is, c.in-Ok-Some-Ok-Some.field-0-0-0-is) at
-      c.in-Ok-Some-Ok-Some.ensures.grows)))),
+      c.arrival.ensures,
 )
 
 pub returns-in-Err-clause-lacks : goal.returns-in-Err-clause-lacks
