@@ -5,7 +5,8 @@ use Rattle.iox_hub_commands.proofs.ports.made.Made.loan.Goals as goal
 
 pub returns-in-Ok : goal.returns-in-Ok
 returns-in-Ok g c =
-    numbered (λ id held. homes.ports_of g.H.LendsDomains.domain_of id held) (λ id ports held. homes.with_ports g.H.LendsDomains.changed id ports held)
+    numbered (λ id held. homes.ports_of g.H.LendsDomains.domain_of id held)
+    (λ id ports held. homes.with_ports g.H.LendsDomains.changed id ports held)
     c.args.elements c.args.value _ c.in_ok-port.port (Ok c.in-Ok.slot) c.args.self.now _ c.args.home.now c.loan_filled.new.home _
     c.in_ok-port.ensures.port c.in-Ok.ensures.lends c.in-Ok.ensures.ready (
       ap (λ number. Some (Ok number)) c.insert_next.ensures.number,
@@ -15,6 +16,7 @@ returns-in-Ok g c =
 
 pub returns-in-Err : goal.returns-in-Err
 returns-in-Err g c =
-    numbered (λ id held. homes.ports_of g.H.LendsDomains.domain_of id held) (λ id ports held. homes.with_ports g.H.LendsDomains.changed id ports held)
+    numbered (λ id held. homes.ports_of g.H.LendsDomains.domain_of id held)
+    (λ id ports held. homes.with_ports g.H.LendsDomains.changed id ports held)
     c.args.elements c.args.value _ c.in_ok-port.port (Err c.in-Err.error) c.args.self.now _ c.args.home.now c.loan_filled.new.home _
     c.in_ok-port.ensures.port c.in-Err.ensures.lends c.in-Err.ensures.ready (refl, refl)

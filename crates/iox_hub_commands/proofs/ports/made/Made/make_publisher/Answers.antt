@@ -19,6 +19,6 @@ returns-then-is_err g c =
       refused (λ after. homes.with_ports g.H.LendsDomains.changed c.args.domain after c.args.home.now)
           (λ number held. homes.with_publisher g.H.LendsDomains.changed c.args.domain number c.args.parts.handlers held) _
           (λ ports. why_no_publisher c.args.parts.config ports) (homes.ports_of g.H.LendsDomains.domain_of c.args.domain c.args.home.now)
-          (with_publisher c.args.domain c.args.parts.holds_slices) roomier c.args.home.now c.why_no_publisher.result c.args.self.now.publishers.next
-          c.why_no_publisher.ensures,
+          (with_publisher c.args.domain c.args.parts.holds_slices) roomier c.args.home.now c.why_no_publisher.result
+          c.args.self.now.publishers.next c.why_no_publisher.ensures,
     )
