@@ -1,7 +1,6 @@
 -- A service that is as it was asked for in the words of the code is so in those of the machine, and back.
-use Rattle.std.proofs.Common.{◌≡◌, ◌∙◌, ◌≤◌, ℕ, true, List, [], Some, Result, Ok, Err, refl, sym, ap, subst, arith}
+use Rattle.std.proofs.Common.{◌≡◌, ◌∙◌, ◌≤◌, ℕ, true, List, Some, Result, Ok, Err, refl, sym, ap, subst, arith}
 use Rattle.std.proofs.Common.{inl, inr}
-use Rattle.std.proofs.lemmas.Bool.{lt-ltb}
 use Rattle.std.specs.Prelude.{max}
 use Rattle.iox_command.specs.declared.refusal.Refusal.{Refusal}
 use Rattle.iox_command.specs.declared.service.PublishSubscribeOptions.{PublishSubscribeOptions}
@@ -12,18 +11,18 @@ use Rattle.iox_command.specs.NegotiateBase.DescribeSettings.declared.static_conf
 use Rattle.iox_command.specs.NegotiateBase.DescribeSettings.declared.static_config.Settings.TheVariants as settings
 use Rattle.iox_command.specs.NegotiateBase.DescribeSettings.declared.static_config.publish_subscribe.Setting.TheVariants.{MaxNodes}
 use Rattle.iox_command.specs.NegotiateBase.DescribeSettings.declared.static_config.publish_subscribe.StaticConfig.{StaticConfig}
-use Rattle.iox_hub_commands.specs.Asking.{agreed_of, hash_of, required_publish_subscribe}
-use Rattle.iox_hub_commands.specs.DescribeBase.Attributes.{Required, required}
+use Rattle.iox_hub_commands.specs.Asked.{required_publish_subscribe}
+use Rattle.iox_hub_commands.specs.Asking.{agreed_of, hash_of}
+use Rattle.iox_hub_commands.specs.DescribeBase.Attributes.{Required}
 use Rattle.iox_hub_commands.specs.DescribeBase.declared.hash.ServiceHash.{ServiceHash}
 use Rattle.iox_hub_commands.specs.DescribeBase.declared.attribute.Attribute.{Attribute}
 use Rattle.iox_hub_commands.specs.DescribeBase.declared.message_type.MessageTypeDetails.{MessageTypeDetails}
-use Rattle.iox_hub_machine.proofs.Verdicts.{same_publish_subscribe_verdict, same_required_agreement}
+use Rattle.iox_hub_machine.proofs.Verdicts.{same_publish_subscribe_verdict, told_by}
 use Rattle.iox_machine.specs.Agreement.{are_within_limits, verdict}
 use Rattle.iox_machine.specs.Asked.{settings_of}
 use Rattle.iox_negotiate.specs.Laws.{IsMet}
 use Rattle.iox_negotiate_base.specs.declared.request.Opened.{Opened}
-use Rattle.iox_negotiate_machine.proofs.Limits.{and-true, limits-within}
-use Rattle.iox_negotiate_machine.proofs.Saying.{settings-are, told_by}
+use Rattle.iox_negotiate_machine.proofs.Limits.{limits-back, limits-within}
 use Rattle.iox_negotiate_machine.proofs.Told.{publish_subscribe_clause}
 use Rattle.iox_negotiate_table.specs.Describe.Within.{HasForm}
 use Rattle.iox_negotiate_table.specs.DescribeVerdict.PublishSubscribeClauses as publish_subscribe_clauses
@@ -72,15 +71,6 @@ named_so c within =
     (raised c.subscriber_max_borrowed_samples (within 6 MaxNodes (omega arith)).0)
     (raised c.max_nodes (within 2 MaxNodes (omega arith)).0))
 
-allowed_so : (c : StaticConfig) → publish_subscribe.IsWithinLimits c → are_within_limits (settings.PublishSubscribe c) ≡ true
-allowed_so c within =
-    and-true _ _ (lt-ltb _ _ (within 2 MaxNodes (omega arith)).1)
-    (and-true _ _ (lt-ltb _ _ (within 3 MaxNodes (omega arith)).1)
-    (and-true _ _ (lt-ltb _ _ (within 4 MaxNodes (omega arith)).1)
-    (and-true _ _ (lt-ltb _ _ (within 7 MaxNodes (omega arith)).1)
-    (and-true _ _ (lt-ltb _ _ (within 6 MaxNodes (omega arith)).1)
-    (lt-ltb _ _ (within 1 MaxNodes (omega arith)).1)))))
-
 module _ (types : MessageTypeDetails) (name : List ℕ) (named : PublishSubscribeOptions) (required : Required) where
   abbrev Judged : Settings → List Attribute → Type 0
   Judged given attributes =
@@ -89,7 +79,8 @@ module _ (types : MessageTypeDetails) (name : List ℕ) (named : PublishSubscrib
   limits_so : (given : Settings) (attributes : List Attribute) → Judged given attributes → AreWithinLimits given
       → (are_within_limits given ≡ true)
       × ((its : MessageTypeDetails) × (others : PublishSubscribeOptions) × (given ≡ settings_of its (options.PublishSubscribe others)))
-  limits_so (settings.PublishSubscribe c) attributes met within = (allowed_so c within, (c.types, naming c, named_so c within))
+  limits_so (settings.PublishSubscribe c) attributes met within =
+      (limits-back (settings.PublishSubscribe c) within, (c.types, naming c, named_so c within))
   limits_so (settings.Event c) attributes met within = cc
   limits_so (settings.RequestResponse c) attributes met within = cc
 
@@ -111,11 +102,10 @@ module _ (types : MessageTypeDetails) (name : List ℕ) (named : PublishSubscrib
 
   pub as_asked : (service : Opened) → IsMetOrMade types name named required service → IsAsAsked types name named required service
   as_asked service (inl met) = let (hash, judged, allowed, others) = met_so service met in (hash, inl (judged, allowed, others))
-  as_asked service (inr made) =
-      let same = made ∙ same_required_agreement types required name (options.PublishSubscribe named) in (
-        ap (λ given. given.service_hash) same,
-        inr (ap (λ given. given.name) same, ap (λ given. given.settings) same, ap (λ given. given.attributes) same),
-      )
+  as_asked service (inr made) = (
+    ap (λ given. given.service_hash) made,
+    inr (ap (λ given. given.name) made, ap (λ given. given.settings) made, ap (λ given. given.attributes) made),
+  )
 
   -- a service that was opened
   pub met_as_asked : (service : Opened)
@@ -142,7 +132,7 @@ module _ (types : MessageTypeDetails) (name : List ℕ) (named : PublishSubscrib
   )
   as_met service form (hash, inr (same, given, pairs)) =
       inr (by service.description.name service.description.service_hash service.description.settings service.description.attributes same
-      hash given pairs ∙ sym (same_required_agreement types required name (options.PublishSubscribe named)))
+      hash given pairs)
     where
       by : (its : List ℕ) (its_hash : ServiceHash) (given : Settings) (attributes : List Attribute) → its ≡ name
           → its_hash ≡ hash_of name (options.PublishSubscribe named) → given ≡ settings_of types (options.PublishSubscribe named)
@@ -159,7 +149,7 @@ pub made_as_asked : (types : MessageTypeDetails) (name : List ℕ) (named : Publ
 made_as_asked types name named attributes service same = (
   ap (λ given. given.service_hash) same,
   ap (λ given. given.name) same,
-  ap (λ given. given.settings) same ∙ settings-are types (required [] []) (options.PublishSubscribe named),
+  ap (λ given. given.settings) same,
   ap (λ given. given.attributes) same,
 )
 

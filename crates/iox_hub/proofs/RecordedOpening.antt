@@ -4,7 +4,7 @@ use Rattle.std.specs.Result.{result_map_both}
 use Rattle.iox_command.specs.NegotiateBase.PublishSubscribeErrors as publish_subscribe
 use Rattle.iox_command.specs.NegotiateBase.declared.errors.publish_subscribe.PublishSubscribeCreateError.{PublishSubscribeCreateError}
 use Rattle.iox_command.specs.NegotiateBase.declared.errors.publish_subscribe.PublishSubscribeOpenError.{PublishSubscribeOpenError}
-use Rattle.iox_command.specs.NegotiateBase.declared.errors.publish_subscribe.PublishSubscribeOpenOrCreateError.{PublishSubscribeOpenOrCreateError}
+use Rattle.iox_negotiate_base.specs.declared.errors.publish_subscribe.PublishSubscribeOpenOrCreateError.{PublishSubscribeOpenOrCreateError}
 use Rattle.iox_command.specs.declared.refusal.Refusal.{Refusal}
 use Rattle.iox_command.specs.declared.refusal.Refusal.TheVariants as refusal
 use Rattle.iox_command.specs.declared.service.PublishSubscribeOptions.{PublishSubscribeOptions}
@@ -12,7 +12,8 @@ use Rattle.iox_command.specs.declared.service.ServiceOptions.TheVariants as opti
 use Rattle.iox_hub_base.specs.Hubs.{is_node}
 use Rattle.iox_hub_base.specs.Opening.{Made as Opened}
 use Rattle.iox_hub_base.specs.declared.hub.Hub.{Hub}
-use Rattle.iox_hub_commands.specs.Asking.{agreed_of, hash_of, required_agreement, required_publish_subscribe}
+use Rattle.iox_hub_commands.specs.Asked.{required_publish_subscribe}
+use Rattle.iox_hub_commands.specs.Asking.{agreed_of, hash_of}
 use Rattle.iox_hub_commands.specs.Creating.{CreatesAgreed, CreatesAs}
 use Rattle.iox_hub_commands.specs.DescribeBase.Attributes.{Required}
 use Rattle.iox_hub_commands.specs.DescribeBase.Detail.{Detail}
@@ -141,7 +142,7 @@ module _ {F T U B D : Type 0} (made : F → MadeFactory) (parts : F → Opened)
 
   pub either_there : (required : Required) (answer : Result F PublishSubscribeOpenOrCreateError)
       → EitherJudged payload user_header publish_subscribe.open_or_create_error (its_hash builder.name) builder.node (judged_by required)
-      (required_agreement builder.name (options.PublishSubscribe named) types required) [] old
+      (agreed_of builder.name (options.PublishSubscribe named) types required.pairs) [] old
       (result_map_both parts (λ error. error) answer) new
       → IfOk answer (λ factory. HasForm (parts factory).0.service.description)
       → Known refusal.PublishSubscribeOpenOrCreate
@@ -149,14 +150,14 @@ module _ {F T U B D : Type 0} (made : F → MadeFactory) (parts : F → Opened)
       (λ factory. IsAsAsked types name named required (parts factory).0.service) answer
   either_there required answer opens form =
       let does = subst (λ (b : Builder). EitherJudged payload user_header publish_subscribe.open_or_create_error (its_hash b.name) b.node
-      (judged_by required) (required_agreement b.name (options.PublishSubscribe named) types required) [] old
+      (judged_by required) (agreed_of b.name (options.PublishSubscribe named) types required.pairs) [] old
       (result_map_both parts (λ error. error) answer) new) is opens in
       let comes = either_so payload user_header (its_hash name) node (result_map_both parts (λ error. error) answer) old new
       (judged_by required) publish_subscribe.open_or_create_error
-      (required_agreement name (options.PublishSubscribe named) types required) does in (
+      (agreed_of name (options.PublishSubscribe named) types required.pairs) does in (
         λ table. opens_made made parts refusal.PublishSubscribeOpenOrCreate table same kind
             (EitherJudged payload user_header publish_subscribe.open_or_create_error (its_hash name) node (judged_by required)
-            (required_agreement name (options.PublishSubscribe named) types required) [])
+            (agreed_of name (options.PublishSubscribe named) types required.pairs) [])
             (EitherAs (options.PublishSubscribe named) payload user_header types node name required []) node old new
             (λ answer after gets. gets) answer there does form,
         of_parts parts (λ it. (it.0.storage ≡ old.table.id) × IsMetOrMade types name named required it.0.service)

@@ -11,7 +11,8 @@ use Rattle.iox_command.specs.declared.reply.Reply.{Reply}
 use Rattle.iox_command.specs.declared.reply.Reply.TheVariants as reply
 use Rattle.iox_command.specs.declared.service.PublishSubscribeOptions.{PublishSubscribeOptions}
 use Rattle.iox_command.specs.declared.service.ServiceOptions.TheVariants as options
-use Rattle.iox_hub_commands.specs.Asking.{hash_of, required_agreement, required_publish_subscribe}
+use Rattle.iox_hub_commands.specs.Asked.{required_publish_subscribe}
+use Rattle.iox_hub_commands.specs.Asking.{agreed_of, hash_of}
 use Rattle.iox_hub_commands.specs.DescribeBase.Attributes.{Required}
 use Rattle.iox_hub_commands.specs.DescribeBase.declared.message_type.MessageTypeDetails.{MessageTypeDetails}
 use Rattle.iox_hub_commands.specs.DomainValues.declared.backpressure.BackpressureAction.{BackpressureAction}
@@ -75,7 +76,7 @@ abbrev pub IsMetOrMade : MessageTypeDetails → List ℕ → PublishSubscribeOpt
 IsMetOrMade types name named required service =
     IsMet (hash_of name (options.PublishSubscribe named))
     (λ given. first_unmet (publish_subscribe_clauses.clauses (required_publish_subscribe named types required) given)) service
-    ⊎ (service.description ≡ required_agreement name (options.PublishSubscribe named) types required)
+    ⊎ (service.description ≡ agreed_of name (options.PublishSubscribe named) types required.pairs)
 
 -- A service that is as a node asked for it, in the machine's words, is so in those of the code, if its description has the form of one:
 -- that of every factory has.

@@ -35,15 +35,14 @@ use Rattle.iox_hub_base.specs.DescribeBase.declared.hash.ServiceHash.{ServiceHas
 use Rattle.iox_hub_base.specs.DescribeBase.declared.message_type.MessageTypeDetails.{MessageTypeDetails}
 use Rattle.iox_hub_base.specs.DescribeBase.declared.pattern.MessagingPattern.{MessagingPattern}
 use Rattle.iox_hub_base.specs.DescribeBase.declared.pattern.MessagingPattern.TheVariants as pattern
-use Rattle.iox_hub_base.specs.DescribeSettings.Agreement.{Agreement, AreWithinLimits}
+use Rattle.iox_hub_base.specs.DescribeSettings.Agreement.{Agreement, AreWithinLimits, HasNoRoomForHistory}
 use Rattle.iox_hub_base.specs.Hubs.{hash_state}
 use Rattle.iox_hub_base.specs.OfPattern.{OpensJudged}
 use Rattle.iox_hub_base.specs.declared.hub.HashState.{HashState}
 use Rattle.iox_hub_base.specs.declared.hub.HashState.TheVariants as state
 use Rattle.iox_hub_base.specs.declared.hub.Hub.{Hub}
-use Rattle.iox_hub_commands.specs.Asking.{IsHistoryTooLong, agreed_of, hash_of}
+use Rattle.iox_hub_commands.specs.Asking.{agreed_of, hash_of}
 use Rattle.iox_hub_commands.specs.Creating.{CreatesAgreed, CreatesAs, CreatesNumbered}
-use Rattle.iox_hub_commands.specs.Described.{settings_of}
 use Rattle.iox_hub_commands.specs.Either.{EitherAs, EitherJudged, EitherNumbered}
 use Rattle.iox_hub_commands.specs.Opening.{OpensAs, OpensNumbered}
 use Rattle.iox_hub_commands.specs.Refusing.{IsUncreated, create_refused, either_refused, open_absent, open_locked, either_locked}
@@ -52,6 +51,7 @@ use Rattle.iox_hub_commands.specs.ServicesNumbering.{GetsNumber}
 use Rattle.iox_hub_commands.specs.ServicesTables.{FactoryTable}
 use Rattle.iox_hub_commands.specs.Steps.{PublishesInForm, acts_first, from, last_access, list_before, lists_of, step_of}
 use Rattle.iox_hub_commands.specs.declared.services.asked.ServiceAsked.{ServiceAsked}
+use Rattle.iox_machine.specs.Asked.{settings_of}
 use Rattle.iox_negotiate.specs.Asked.{IsRefusal}
 use Rattle.iox_negotiate_table.specs.Contents.{entry_at}
 use Rattle.iox_negotiate_table.specs.Describe.Within.{HasForm, IsWithinLimits}
@@ -189,7 +189,7 @@ module _ {T U B D : Type 0} (payload user_header : Detail) (hash : ServiceHash) 
     )
 
   module _ {E : Type 0} (kind : MessagingPattern) (told : E → Refusal) (error : CreateFailure → E) (agreed : Agreement)
-      (failure : CreateFailure) (accepted : IsRefusal (AreWithinLimits agreed.settings) (IsHistoryTooLong agreed.settings) None)
+      (failure : CreateFailure) (accepted : IsRefusal (AreWithinLimits agreed.settings) (HasNoRoomForHistory agreed.settings) None)
       (formed : HasForm agreed) where
     -- so does one that creates
     create_ends : refusal_seen shown ≡ Some failure
@@ -221,9 +221,10 @@ module _ {T U B D : Type 0} (payload user_header : Detail) (hash : ServiceHash) 
 
   module _ {V E : Type 0} (kind : MessagingPattern) (told : E → Refusal) (error : OpenOrCreateFailure V → E)
       (verdict : Agreement → Result (Unit {0}) V) (agreed : Agreement) (failure : OpenOrCreateFailure V) (refused : Option CreateFailure)
-      (is_refused : IsRefusal (AreWithinLimits agreed.settings) (IsHistoryTooLong agreed.settings) refused) (formed : HasForm agreed) where
+      (is_refused : IsRefusal (AreWithinLimits agreed.settings) (HasNoRoomForHistory agreed.settings) refused)
+      (formed : HasForm agreed) where
     limits : refused ≡ None → AreWithinLimits agreed.settings
-    limits none = (subst (λ it. IsRefusal (AreWithinLimits agreed.settings) (IsHistoryTooLong agreed.settings) it) none is_refused).0
+    limits none = (subst (λ it. IsRefusal (AreWithinLimits agreed.settings) (HasNoRoomForHistory agreed.settings) it) none is_refused).0
 
     -- and one that does either
     either_ends : EitherSeen hash node verdict agreed refused shown [] (Some (Err failure))
@@ -289,7 +290,7 @@ module _ {T U B D : Type 0} (payload user_header : Detail) (types : MessageTypeD
         open_ends payload user_header _ node lists table hub look.Locked (sight.Failed unseen.HangsInCreation) none (looks_locked _ is) refl
         pattern.RequestResponse refusal.RequestResponseOpen request_response.open_error _ unopened.HangsInCreation (refl, refl)
 
-    settings_either : (named : ServiceOptions) (failure : CreateFailure) → IsUncreated (settings_of named types) (Some failure)
+    settings_either : (named : ServiceOptions) (failure : CreateFailure) → IsUncreated (settings_of types named) (Some failure)
         → HasForm (agreed_of name named types attributes.pairs)
         → hash_state (entry_at (hash_of name named) hub.table) ≡ state.Absent
         → EitherAs named payload user_header types node name attributes lists table hub (Err (either_refused named failure)) table hub
@@ -305,7 +306,7 @@ module _ {T U B D : Type 0} (payload user_header : Detail) (types : MessageTypeD
         pattern.RequestResponse refusal.RequestResponseOpenOrCreate request_response.open_or_create_error _ _ (neither.Create failure)
         (Some failure) refused formed (refl, refl)
 
-    locked_either : (named : ServiceOptions) (refused : Option CreateFailure) → IsUncreated (settings_of named types) refused
+    locked_either : (named : ServiceOptions) (refused : Option CreateFailure) → IsUncreated (settings_of types named) refused
         → HasForm (agreed_of name named types attributes.pairs)
         → hash_state (entry_at (hash_of name named) hub.table) ≡ state.Locked
         → EitherAs named payload user_header types node name attributes lists table hub (Err (either_locked named)) table hub
@@ -323,7 +324,7 @@ module _ {T U B D : Type 0} (payload user_header : Detail) (types : MessageTypeD
         (neither.Open unopened.HangsInCreation) refused is_refused formed (refl, refl)
 
   module _ (attributes : List Attribute) where
-    locked_creates : (named : ServiceOptions) → IsUncreated (settings_of named types) None → HasForm (agreed_of name named types attributes)
+    locked_creates : (named : ServiceOptions) → IsUncreated (settings_of types named) None → HasForm (agreed_of name named types attributes)
         → hash_state (entry_at (hash_of name named) hub.table) ≡ state.Locked
         → CreatesAs named payload user_header types node name attributes lists table hub
         (Err (create_refused named uncreated.HangsInCreation)) table hub
@@ -387,7 +388,7 @@ module _ {T U B D : Type 0} (payload user_header : Detail) (types : MessageTypeD
         among (Some state.Described) finds told = absurd cc
 
     -- So is what it tells who opens or creates.
-    pub neither_at_first_look : (refused : Option CreateFailure) → IsUncreated (settings_of asked.options types) refused
+    pub neither_at_first_look : (refused : Option CreateFailure) → IsUncreated (settings_of types asked.options) refused
         → HasForm (agreed_of asked.name asked.options types attributes.pairs)
         → Some answer ≡ either_told asked.options refused (first_look asked steps hub)
         → EitherNumbered true payload user_header types asked attributes steps table hub (Some (Err answer)) table new
@@ -408,7 +409,7 @@ module _ {T U B D : Type 0} (payload user_header : Detail) (types : MessageTypeD
           refl,
         )
 
-        among : (refused : Option CreateFailure) → IsUncreated (settings_of asked.options types) refused → (found : Option HashState)
+        among : (refused : Option CreateFailure) → IsUncreated (settings_of types asked.options) refused → (found : Option HashState)
             → first_look asked steps hub ≡ found → Some answer ≡ either_told asked.options refused found
             → EitherNumbered true payload user_header types asked attributes steps table hub (Some (Err answer)) table new
         among refused is_refused None finds told = absurd cc
@@ -427,7 +428,7 @@ module _ {T U B D : Type 0} (payload user_header : Detail) (types : MessageTypeD
 
   module _ (attributes : List Attribute) where
     -- So is what it tells who creates, where the settings aren't refused.
-    pub uncreated_at_first_look : IsUncreated (settings_of asked.options types) None
+    pub uncreated_at_first_look : IsUncreated (settings_of types asked.options) None
         → HasForm (agreed_of asked.name asked.options types attributes)
         → Some answer ≡ create_told asked.options (first_look asked steps hub)
         → CreatesNumbered true payload user_header types asked attributes steps table hub (Some (Err answer)) table new

@@ -6,6 +6,7 @@ pub mod Written
 mod Put
 mod Skipping
 mod Uncreated
+pub mod Ruled
 pub mod FirstLook
 pub mod Unused
 pub mod Found

@@ -1,17 +1,16 @@
 -- Settings that can't be are refused for one reason, and aren't accepted.
 use Rattle.std.proofs.Common.{◌≡◌, ◌⊎◌, Option, None, Some, refl, ap, inl, inr}
 use Rattle.std.proofs.Math.Logic.{⊎_elim}
-use Rattle.iox_hub_base.specs.DescribeSettings.Agreement.{AreWithinLimits}
+use Rattle.iox_hub_base.specs.DescribeSettings.Agreement.{AreWithinLimits, HasNoRoomForHistory}
 use Rattle.iox_hub_base.specs.DescribeSettings.declared.static_config.Settings.{Settings}
 use Rattle.iox_command.specs.NegotiateBase.declared.failure.CreateFailure.{CreateFailure}
 use Rattle.iox_command.specs.NegotiateBase.declared.failure.CreateFailure.TheVariants as failure
-use Rattle.iox_hub_commands.specs.Asking.{IsHistoryTooLong}
 use Rattle.iox_hub_commands.specs.Refusing.{IsUncreated}
 
 -- what a failure tells of the settings
 abbrev Tells : Settings → CreateFailure → Type 0
 Tells settings told = ((told ≡ failure.InternalFailure) × (AreWithinLimits settings → ⊥))
-    ⊎ ((told ≡ failure.SubscriberBufferMustBeLargerThanHistorySize) × AreWithinLimits settings × IsHistoryTooLong settings)
+    ⊎ ((told ≡ failure.SubscriberBufferMustBeLargerThanHistorySize) × AreWithinLimits settings × HasNoRoomForHistory settings)
 
 tells : (settings : Settings) (told : CreateFailure) → IsUncreated settings (Some told) → Tells settings told
 tells settings failure.AlreadyExists is = absurd is

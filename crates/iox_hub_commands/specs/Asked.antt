@@ -1,17 +1,17 @@
 -- What is asked of a service by the options that are named.
-use Rattle.std.specs.Prelude.{ℕ, List, [], Option, None, Some, codes}
+use Rattle.std.specs.Prelude.{ℕ, List, Option, None, Some, codes}
 use Rattle.std.specs.Option.{option_map}
 use Rattle.iox_command.specs.declared.service.EventOptions.{EventOptions}
 use Rattle.iox_command.specs.declared.service.NumberOrOff.{NumberOrOff}
 use Rattle.iox_command.specs.declared.service.NumberOrOff.TheVariants.{Number, Off}
 use Rattle.iox_command.specs.declared.service.PublishSubscribeOptions.{PublishSubscribeOptions}
 use Rattle.iox_command.specs.declared.service.RequestResponseOptions.{RequestResponseOptions}
-use Rattle.iox_negotiate_table.specs.DescribeBase.Attributes.{required}
+use Rattle.iox_negotiate_table.specs.DescribeBase.Attributes.{Required}
 use Rattle.iox_negotiate_table.specs.DescribeBase.declared.message_type.MessageTypeDetails.{MessageTypeDetails}
 use Rattle.iox_negotiate_table.specs.DescribeBase.declared.type_detail.TypeVariant.TheVariants.{FixedSize, Dynamic}
-use Rattle.iox_negotiate_table.specs.DescribeVerdict.declared.requirement.event.Requirement.{Requirement as EventRequirement}
-use Rattle.iox_negotiate_table.specs.DescribeVerdict.declared.requirement.publish_subscribe.Requirement.{Requirement as PublishSubscribeRequirement}
-use Rattle.iox_negotiate_table.specs.DescribeVerdict.declared.requirement.request_response.Requirement.{Requirement as RequestResponseRequirement}
+use Rattle.iox_describe_verdict.specs.declared.requirement.event.Requirement.{Requirement as EventRequirement}
+use Rattle.iox_describe_verdict.specs.declared.requirement.publish_subscribe.Requirement.{Requirement as PublishSubscribeRequirement}
+use Rattle.iox_describe_verdict.specs.declared.requirement.request_response.Requirement.{Requirement as RequestResponseRequirement}
 
 -- messages that carry slices of values of this name, size and alignment, with a user header of this name, size and alignment
 abbrev pub types_of : List ℕ → ℕ → ℕ → List ℕ → ℕ → ℕ → MessageTypeDetails
@@ -26,11 +26,11 @@ abbrev pub set_to : NumberOrOff → Option ℕ
 set_to (Number number) = Some number
 set_to Off = None
 
--- each setting of a publish-subscribe service that is named, and no attribute
-abbrev pub asked_publish_subscribe : PublishSubscribeOptions → MessageTypeDetails → PublishSubscribeRequirement
-asked_publish_subscribe options types = record {
+-- what is asked of a publish-subscribe service: each setting that is named, and these attributes
+abbrev pub required_publish_subscribe : PublishSubscribeOptions → MessageTypeDetails → Required → PublishSubscribeRequirement
+required_publish_subscribe options types attributes = record {
   types = types;
-  attributes = required [] [];
+  attributes = attributes;
   enable_safe_overflow = options.enable_safe_overflow;
   sequence_numbers = options.sequence_numbers;
   max_publishers = options.max_publishers;
@@ -41,10 +41,10 @@ asked_publish_subscribe options types = record {
   max_nodes = options.max_nodes;
 }
 
--- each setting of an event service that is named, and no attribute
-abbrev pub asked_event : EventOptions → EventRequirement
-asked_event options = record {
-  attributes = required [] [];
+-- what is asked of an event service: each setting that is named, and these attributes
+abbrev pub required_event : EventOptions → Required → EventRequirement
+required_event options attributes = record {
+  attributes = attributes;
   deadline = option_map set_to options.deadline;
   max_notifiers = options.max_notifiers;
   max_listeners = options.max_listeners;
@@ -55,12 +55,13 @@ asked_event options = record {
   max_nodes = options.max_nodes;
 }
 
--- each setting of a request-response service that is named, and no attribute; requests and responses are of the same types
-abbrev pub asked_request_response : RequestResponseOptions → MessageTypeDetails → RequestResponseRequirement
-asked_request_response options types = record {
+-- what is asked of a request-response service: each setting that is named, and these attributes; requests and responses are of the same
+-- types
+abbrev pub required_request_response : RequestResponseOptions → MessageTypeDetails → Required → RequestResponseRequirement
+required_request_response options types attributes = record {
   request_types = types;
   response_types = types;
-  attributes = required [] [];
+  attributes = attributes;
   enable_safe_overflow_for_requests = options.enable_safe_overflow_for_requests;
   enable_safe_overflow_for_responses = options.enable_safe_overflow_for_responses;
   enable_fire_and_forget_requests = options.enable_fire_and_forget_requests;

@@ -11,7 +11,7 @@ use Rattle.iox_hub_base.specs.DescribeBase.declared.attribute.Attribute.{Attribu
 use Rattle.iox_hub_base.specs.DescribeBase.declared.hash.ServiceHash.{ServiceHash}
 use Rattle.iox_hub_base.specs.DescribeBase.declared.message_type.MessageTypeDetails.{MessageTypeDetails}
 use Rattle.iox_hub_base.specs.DescribeBase.declared.pattern.MessagingPattern.TheVariants as pattern
-use Rattle.iox_hub_base.specs.DescribeSettings.Agreement.{Agreement, AreWithinLimits}
+use Rattle.iox_hub_base.specs.DescribeSettings.Agreement.{Agreement, AreWithinLimits, HasNoRoomForHistory}
 use Rattle.iox_hub_base.specs.Opening.{Made, OpensInHub}
 use Rattle.iox_hub_base.specs.declared.hub.Hub.{Hub}
 use Rattle.iox_hub_base.specs.Negotiate.Negotiation.{Creates}
@@ -25,10 +25,10 @@ use Rattle.iox_command.specs.NegotiateBase.declared.errors.request_response.Requ
     request_response_error
 use Rattle.iox_command.specs.NegotiateBase.declared.failure.CreateFailure.{CreateFailure}
 use Rattle.iox_command.specs.NegotiateBase.declared.failure.CreateFailure.TheVariants.{OutOfMemory}
+use Rattle.iox_machine.specs.Asked.{settings_of}
 use Rattle.iox_negotiate_table.specs.Stepped.{SteppedSight}
 use Rattle.iox_negotiate_table.specs.declared.step.ForeignStep.{ForeignStep}
-use Rattle.iox_hub_commands.specs.Asking.{hash_of, agreed_of, IsHistoryTooLong}
-use Rattle.iox_hub_commands.specs.Described.{settings_of}
+use Rattle.iox_hub_commands.specs.Asking.{hash_of, agreed_of}
 use Rattle.iox_hub_commands.specs.Refusing.{IsRefusedFirst, IsUncreated, create_refused, first_look}
 use Rattle.iox_hub_commands.specs.ServicesNumbering.{Prepares, GetsNumber, IsSkipped, IsRefusedWith}
 use Rattle.iox_hub_commands.specs.ServicesTables.{FactoryTable}
@@ -40,7 +40,7 @@ abbrev pub CreatesAgreed : {T U B D E : Type 0} → Detail → Detail → (Creat
 CreatesAgreed payload user_header error hash node agreed lists old opened new =
     OpensInHub payload user_header (IsUncreated agreed.settings None) (λ was_new. error OutOfMemory)
     (λ before came after. Creates SteppedSight before.table.id hash node agreed (AreWithinLimits agreed.settings)
-    (IsHistoryTooLong agreed.settings) error before came after)
+    (HasNoRoomForHistory agreed.settings) error before came after)
     lists old opened new
 
 -- a service is created as these options ask, with these attributes, and its factory gets a number; a failure is told as the error
@@ -92,5 +92,5 @@ abbrev pub CreatesNumbered : {T U B D : Type 0} → Bool → Detail → Detail �
     → List StepBefore → FactoryTable → Hub T U B D → Option (Result ℕ Refusal) → FactoryTable → Hub T U B D → Type 0
 CreatesNumbered false payload user_header types asked attributes steps table old answer after new = IsSkipped table old answer after new
 CreatesNumbered true payload user_header types asked attributes steps table old answer after new =
-    (refused : Option CreateFailure) × IsRefusedFirst (settings_of asked.options types) (first_look asked steps old) refused
+    (refused : Option CreateFailure) × IsRefusedFirst (settings_of types asked.options) (first_look asked steps old) refused
     × CreatesUnlessRefused refused payload user_header types asked attributes steps table old answer after new

@@ -11,7 +11,7 @@ use Rattle.iox_hub_base.specs.DescribeBase.Detail.{Detail}
 use Rattle.iox_hub_base.specs.DescribeBase.declared.hash.ServiceHash.{ServiceHash}
 use Rattle.iox_hub_base.specs.DescribeBase.declared.message_type.MessageTypeDetails.{MessageTypeDetails}
 use Rattle.iox_hub_base.specs.DescribeBase.declared.pattern.MessagingPattern.TheVariants as pattern
-use Rattle.iox_hub_base.specs.DescribeSettings.Agreement.{Agreement, AreWithinLimits}
+use Rattle.iox_hub_base.specs.DescribeSettings.Agreement.{Agreement, AreWithinLimits, HasNoRoomForHistory}
 use Rattle.iox_negotiate_table.specs.DescribeVerdict.EventClauses as event_clauses
 use Rattle.iox_negotiate_table.specs.DescribeVerdict.PublishSubscribeClauses as publish_subscribe_clauses
 use Rattle.iox_negotiate_table.specs.DescribeVerdict.RequestResponseClauses as request_response_clauses
@@ -26,15 +26,17 @@ use Rattle.iox_command.specs.NegotiateBase.declared.errors.event.EventOpenError.
 use Rattle.iox_command.specs.NegotiateBase.declared.errors.event.EventOpenOrCreateError.TheVariants.{EventOpenError}
 use Rattle.iox_command.specs.NegotiateBase.declared.errors.publish_subscribe.PublishSubscribeOpenError.TheVariants as
     publish_subscribe_unopened
-use Rattle.iox_command.specs.NegotiateBase.declared.errors.publish_subscribe.PublishSubscribeOpenOrCreateError.TheVariants.{PublishSubscribeOpenError}
+use Rattle.iox_command.specs.NegotiateBase.declared.errors.publish_subscribe.PublishSubscribeOpenOrCreateError.TheVariants as
+    publish_subscribe_either
 use Rattle.iox_command.specs.NegotiateBase.declared.errors.request_response.RequestResponseOpenError.TheVariants as
     request_response_unopened
-use Rattle.iox_command.specs.NegotiateBase.declared.errors.request_response.RequestResponseOpenOrCreateError.TheVariants.{RequestResponseOpenError}
+use Rattle.iox_command.specs.NegotiateBase.declared.errors.request_response.RequestResponseOpenOrCreateError.TheVariants as
+    request_response_either
 use Rattle.iox_command.specs.NegotiateBase.declared.failure.OpenOrCreateFailure.{OpenOrCreateFailure}
 use Rattle.iox_negotiate_table.specs.Stepped.{SteppedSight}
 use Rattle.iox_negotiate_table.specs.declared.step.ForeignStep.{ForeignStep}
-use Rattle.iox_hub_commands.specs.Asking.{hash_of, required_agreement, IsHistoryTooLong, required_publish_subscribe, required_event}
-use Rattle.iox_hub_commands.specs.Asking.{required_request_response}
+use Rattle.iox_hub_commands.specs.Asked.{required_event, required_publish_subscribe, required_request_response}
+use Rattle.iox_hub_commands.specs.Asking.{agreed_of, hash_of}
 use Rattle.iox_hub_commands.specs.ServicesNumbering.{Prepares, GetsNumber, IsSkipped, IsRefusedWith}
 use Rattle.iox_hub_commands.specs.ServicesTables.{FactoryTable}
 use Rattle.iox_hub_commands.specs.declared.services.asked.ServiceAsked.{ServiceAsked}
@@ -45,7 +47,7 @@ abbrev pub EitherJudged : {T U B D V E : Type 0} → Detail → Detail → (Open
 EitherJudged payload user_header error hash node verdict agreed lists old opened new =
     OpensInHub payload user_header (Unit {0}) (λ was_new. error (lacking_either was_new))
     (λ before came after. Either SteppedSight before.table.id hash node verdict agreed (AreWithinLimits agreed.settings)
-    (IsHistoryTooLong agreed.settings) error before came after)
+    (HasNoRoomForHistory agreed.settings) error before came after)
     lists old opened new
 
 -- a service is opened if it is as these options ask and has these attributes, or created so, and its factory gets a number; a
@@ -56,25 +58,25 @@ EitherAs (options.PublishSubscribe named) payload user_header types node name at
     GetsNumber pattern.PublishSubscribe refusal.PublishSubscribeOpenOrCreate
     (EitherJudged payload user_header publish_subscribe.open_or_create_error (hash_of name (options.PublishSubscribe named)) node
     (λ given. first_unmet (publish_subscribe_clauses.clauses (required_publish_subscribe named types attributes) given))
-    (required_agreement name (options.PublishSubscribe named) types attributes) lists) table old answer after new
+    (agreed_of name (options.PublishSubscribe named) types attributes.pairs) lists) table old answer after new
 EitherAs (options.Event named) payload user_header types node name attributes lists table old answer after new =
     GetsNumber pattern.Event refusal.EventOpenOrCreate
     (EitherJudged payload user_header event.open_or_create_error (hash_of name (options.Event named)) node
     (λ given. first_unmet (event_clauses.clauses (required_event named attributes) given))
-    (required_agreement name (options.Event named) types attributes) lists) table old answer after new
+    (agreed_of name (options.Event named) types attributes.pairs) lists) table old answer after new
 EitherAs (options.RequestResponse named) payload user_header types node name attributes lists table old answer after new =
     GetsNumber pattern.RequestResponse refusal.RequestResponseOpenOrCreate
     (EitherJudged payload user_header request_response.open_or_create_error (hash_of name (options.RequestResponse named)) node
     (λ given. first_unmet (request_response_clauses.clauses (required_request_response named types attributes) given))
-    (required_agreement name (options.RequestResponse named) types attributes) lists) table old answer after new
+    (agreed_of name (options.RequestResponse named) types attributes.pairs) lists) table old answer after new
 
 -- the refusal where no memory was found before the first access: as at the first look
 abbrev pub either_lacking : ServiceOptions → Refusal
 either_lacking (options.PublishSubscribe named)
-    = refusal.PublishSubscribeOpenOrCreate (PublishSubscribeOpenError publish_subscribe_unopened.OutOfMemory)
+    = refusal.PublishSubscribeOpenOrCreate (publish_subscribe_either.PublishSubscribeOpenError publish_subscribe_unopened.OutOfMemory)
 either_lacking (options.Event named) = refusal.EventOpenOrCreate (EventOpenError event_unopened.OutOfMemory)
 either_lacking (options.RequestResponse named)
-    = refusal.RequestResponseOpenOrCreate (RequestResponseOpenError request_response_unopened.OutOfMemory)
+    = refusal.RequestResponseOpenOrCreate (request_response_either.RequestResponseOpenError request_response_unopened.OutOfMemory)
 
 -- what follows once there are lists of steps and room, or no memory was found for them
 abbrev pub EitherPrepared : {T U B D : Type 0} → Result (List (List ForeignStep)) AllocError → Detail → Detail → MessageTypeDetails

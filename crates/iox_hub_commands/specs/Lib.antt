@@ -26,7 +26,6 @@ pub mod Closing
 pub mod Foreign
 pub mod FactoryLaws
 pub mod Asked
-pub mod Described
 pub mod Steps
 pub mod Numbers
 pub mod Services

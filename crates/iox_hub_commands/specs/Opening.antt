@@ -25,7 +25,8 @@ use Rattle.iox_command.specs.NegotiateBase.declared.errors.publish_subscribe.Pub
 use Rattle.iox_command.specs.NegotiateBase.declared.errors.request_response.RequestResponseOpenError.TheVariants as
     request_response_error
 use Rattle.iox_negotiate_table.specs.declared.step.ForeignStep.{ForeignStep}
-use Rattle.iox_hub_commands.specs.Asking.{hash_of, required_publish_subscribe, required_event, required_request_response}
+use Rattle.iox_hub_commands.specs.Asked.{required_event, required_publish_subscribe, required_request_response}
+use Rattle.iox_hub_commands.specs.Asking.{hash_of}
 use Rattle.iox_hub_commands.specs.ServicesNumbering.{Prepares, GetsNumber, IsSkipped, IsRefusedWith}
 use Rattle.iox_hub_commands.specs.ServicesTables.{FactoryTable}
 use Rattle.iox_hub_commands.specs.declared.services.asked.ServiceAsked.{ServiceAsked}

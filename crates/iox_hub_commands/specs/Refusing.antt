@@ -6,7 +6,7 @@ use Rattle.iox_command.specs.declared.refusal.Refusal.TheVariants as refusal
 use Rattle.iox_command.specs.declared.service.ServiceOptions.{ServiceOptions}
 use Rattle.iox_command.specs.declared.service.ServiceOptions.TheVariants as options
 use Rattle.iox_command.specs.declared.step.StepBefore.{StepBefore}
-use Rattle.iox_hub_base.specs.DescribeSettings.Agreement.{AreWithinLimits}
+use Rattle.iox_hub_base.specs.DescribeSettings.Agreement.{AreWithinLimits, HasNoRoomForHistory}
 use Rattle.iox_hub_base.specs.DescribeSettings.declared.static_config.Settings.{Settings}
 use Rattle.iox_command.specs.NegotiateBase.EventErrors as event
 use Rattle.iox_command.specs.NegotiateBase.PublishSubscribeErrors as publish_subscribe
@@ -20,13 +20,13 @@ use Rattle.iox_hub_base.specs.declared.hub.HashState.{HashState}
 use Rattle.iox_hub_base.specs.declared.hub.HashState.TheVariants as state
 use Rattle.iox_hub_base.specs.declared.hub.Hub.{Hub}
 use Rattle.iox_negotiate_table.specs.Contents.{entry_at}
-use Rattle.iox_hub_commands.specs.Asking.{IsHistoryTooLong, hash_of}
+use Rattle.iox_hub_commands.specs.Asking.{hash_of}
 use Rattle.iox_hub_commands.specs.Steps.{acts_first}
 use Rattle.iox_hub_commands.specs.declared.services.asked.ServiceAsked.{ServiceAsked}
 
 -- why no service is created with these settings, if that is so
 abbrev pub IsUncreated : Settings → Option CreateFailure → Type 0
-IsUncreated settings failure = IsRefusal (AreWithinLimits settings) (IsHistoryTooLong settings) failure
+IsUncreated settings failure = IsRefusal (AreWithinLimits settings) (HasNoRoomForHistory settings) failure
 
 -- the refusal of the pattern that is asked for, where no service is created for this
 abbrev pub create_refused : ServiceOptions → CreateFailure → Refusal

@@ -8,14 +8,14 @@ use Rattle.iox_negotiate_table.specs.Describe.Within.{HasForm}
 use Rattle.iox_negotiate_table.specs.DescribeBase.declared.message_type.MessageTypeDetails.{MessageTypeDetails}
 use Rattle.iox_negotiate_table.specs.declared.step.ForeignStep.{ForeignStep}
 use Rattle.iox_negotiate_table.specs.declared.step.ForeignStep.TheVariants as step
-use Rattle.iox_hub_commands.specs.Described.{described}
+use Rattle.iox_hub_commands.specs.Asking.{agreed_of}
 
 -- a step on the service of a name; a service that is published has these types
 abbrev pub step_of : List ℕ → MessageTypeDetails → Named → ForeignStep
 step_of name types (named.Lock node) = step.Lock node
 step_of name types (named.GiveUp node) = step.GiveUp node
-step_of name types (named.Publish node options) = step.Publish node (described name options types)
-step_of name types (named.PublishV1 node options) = step.PublishV1 node (described name options types)
+step_of name types (named.Publish node options) = step.Publish node (agreed_of name options types [])
+step_of name types (named.PublishV1 node options) = step.PublishV1 node (agreed_of name options types [])
 step_of name types (named.Register node) = step.Register node
 step_of name types (named.Leave node) = step.Leave node
 step_of name types (named.Remove node) = step.Remove node

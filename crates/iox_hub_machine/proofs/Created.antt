@@ -16,8 +16,6 @@ use Rattle.iox_command.specs.NegotiateBase.DescribeBase.declared.attribute.Attri
 use Rattle.iox_command.specs.NegotiateBase.DescribeBase.declared.message_type.MessageTypeDetails.{MessageTypeDetails}
 use Rattle.iox_command.specs.NegotiateBase.DescribeBase.declared.pattern.MessagingPattern.{MessagingPattern}
 use Rattle.iox_command.specs.NegotiateBase.DescribeBase.declared.type_detail.TypeVariant.{TypeVariant}
-use Rattle.iox_command.specs.NegotiateBase.DescribeSettings.Agreement.{AreWithinLimits, agreement}
-use Rattle.iox_command.specs.NegotiateBase.DescribeSettings.declared.static_config.Settings.{Settings}
 use Rattle.iox_command.specs.NegotiateBase.DescribeSettings.declared.static_config.Settings.TheVariants as settings
 use Rattle.iox_command.specs.NegotiateBase.DescribeSettings.declared.static_config.publish_subscribe.StaticConfig.{StaticConfig}
 use Rattle.iox_command.specs.NegotiateBase.EventErrors as event
@@ -40,10 +38,9 @@ use Rattle.iox_domain_machine.specs.Naming.{Naming}
 use Rattle.iox_hub_base.proofs.SameTable.{went-keeps}
 use Rattle.iox_hub_base.specs.Hubs.{is_node}
 use Rattle.iox_hub_base.specs.declared.hub.HashState.TheVariants as lying
-use Rattle.iox_hub_commands.specs.Asking.{IsHistoryTooLong, agreed_of, hash_of}
+use Rattle.iox_hub_commands.specs.Asking.{agreed_of, hash_of}
 use Rattle.iox_hub_commands.specs.CommandSteps as hub
 use Rattle.iox_hub_commands.specs.Creating.{CreatesAgreed, CreatesAs, CreatesNumbered, CreatesPrepared, create_lacking}
-use Rattle.iox_hub_commands.specs.Described.{settings_of as named_settings}
 use Rattle.iox_hub_commands.specs.Refusing.{IsUncreated, create_refused, first_look}
 use Rattle.iox_hub_commands.specs.Replies.{factory_reply}
 use Rattle.iox_hub_commands.specs.ServicesNumbering.{GetsNumber, IsRefusedWith, Prepares}
@@ -55,9 +52,7 @@ use Rattle.iox_hub_machine.proofs.Entering.{created_enters, uncreated_keeps}
 use Rattle.iox_hub_machine.proofs.FittingThen.{FitsHere, new_fits}
 use Rattle.iox_hub_machine.proofs.Formed.{AreMade, formed_so, listed_so}
 use Rattle.iox_hub_machine.proofs.FoundStanding.{described_so, look_finds, refuses_to_create, same_phase}
-use Rattle.iox_hub_machine.proofs.SameSteps.{same_settings}
 use Rattle.iox_hub_machine.proofs.Skipping.{by_none, skipped_matches, stands_still}
-use Rattle.iox_hub_machine.proofs.Verdicts.{same_history}
 use Rattle.iox_hub_machine.specs.CreateLaws.{CreateMatches}
 use Rattle.iox_hub_machine.specs.OpenLaws.{HasNumbersFor}
 use Rattle.iox_hub_machine.specs.ServiceLaws.{IsFollowed}
@@ -71,16 +66,10 @@ use Rattle.iox_machine.specs.Negotiation.{Call, Creates}
 use Rattle.iox_machine.specs.Phase.{Node, Own, Phase, Published}
 use Rattle.iox_machine.specs.Run as machine
 use Rattle.iox_machine.specs.State.{State}
-use Rattle.iox_negotiate.specs.Asked.{IsRefusal}
-use Rattle.iox_negotiate.specs.Negotiation as built
-use Rattle.iox_negotiate.specs.declared.factory.Membership.{Membership}
 use Rattle.iox_negotiate_machine.proofs.CreateCalls.{create-matches}
 use Rattle.iox_negotiate_machine.proofs.Refusing.{unfit-is}
-use Rattle.iox_negotiate_machine.specs.CallLaws.{HasNoRoomForHistory}
 use Rattle.iox_negotiate_machine.specs.Laws.{HaveOwnHashes}
-use Rattle.iox_negotiate_machine.specs.Standing.{description_of}
 use Rattle.iox_negotiate_machine.proofs.Told.{event-create-told, publish-subscribe-create-told, request-response-create-told}
-use Rattle.iox_negotiate_table.specs.Stepped.{Steps, SteppedSight}
 use Rattle.iox_negotiate_table.specs.declared.step.ForeignStep.{ForeignStep as TableStep}
 use Rattle.iox_machine.specs.Refusals.{create_refusal}
 
@@ -117,14 +106,6 @@ refusal_is : (named : ServiceOptions) (why : CreateFailure) → create_refused n
 refusal_is (options.PublishSubscribe named) why = publish-subscribe-create-told named why
 refusal_is (options.Event named) why = event-create-told named why
 refusal_is (options.RequestResponse named) why = request-response-create-told named why
-
--- settings can't be where the machine says so
-unfit_so : (types : MessageTypeDetails) (named : ServiceOptions) (refused : Option CreateFailure)
-    → IsUncreated (named_settings named types) refused → unfit (settings_of types named) ≡ refused
-unfit_so types named refused is =
-    unfit-is types named refused
-    (subst (λ (long : Type 0). IsRefusal (AreWithinLimits (settings_of types named)) long refused) (same_history (settings_of types named))
-    (subst (λ (s : Settings). IsUncreated s refused) (same_settings types named) is))
 
 -- what is done where this is found
 by_some : {V : Type 0} (P : Type 0) (Q : V → Type 0) (found : Option V) (v : V) → found ≡ Some v → Q v → MatchOption found P Q
@@ -175,21 +156,6 @@ module _ (payload user_header : Detail) (variant : TypeVariant) where
         node old new state stands Calls (create_refusal named) (λ is_new. uncreated.OutOfMemory)
 
     module _ {E : Type 0} (error : CreateFailure → E) where
-      -- what the hub asks for is what the machine asks for
-      same_asked : (storage : ℕ) (before : Steps) (came : Result Membership E) (end : Steps)
-          → built.Creates SteppedSight storage (hash_of name named) node (agreed_of name named types attributes)
-          (AreWithinLimits (agreed_of name named types attributes).settings)
-          (IsHistoryTooLong (agreed_of name named types attributes).settings) error before came end
-          → built.Creates SteppedSight storage (hash_of name named) node (description_of (pattern_of named) name agreed_on)
-          (AreWithinLimits (settings_of types named)) (HasNoRoomForHistory (settings_of types named)) error before came end
-      same_asked storage before came end creates =
-          subst (λ (long : Type 0). built.Creates SteppedSight storage (hash_of name named) node
-          (description_of (pattern_of named) name agreed_on) (AreWithinLimits (settings_of types named)) long error before came end)
-          (same_history (settings_of types named))
-          (subst (λ (s : Settings). built.Creates SteppedSight storage (hash_of name named) node
-          (agreement name (hash_of name named) s attributes) (AreWithinLimits s) (IsHistoryTooLong s) error before came end)
-          (same_settings types named) creates)
-
       module _ (told : E → Refusal) (tells : (why : CreateFailure) → told (error why) ≡ create_refusal named why)
           (lists : List (List TableStep)) (listed : AreMade types name steps lists) (roomier : FactoryTable)
           (same : SameNumbers old.factories.made roomier) (same_made : new.made ≡ old.made) (result : Result ℕ Refusal) where
@@ -226,7 +192,7 @@ module _ (payload user_header : Detail) (variant : TypeVariant) where
             (create-matches T E names types name node old.hub.table.id named attributes steps lists taken old.hub.table opens.mid error
             opens.answer state own asked (formed_so types name steps lists listed) (let locks = ready.locks in omega (arith, locks))
             (listed_so types name steps lists listed) stands.table
-            (same_asked old.hub.table.id (record { table = old.hub.table; lists = lists }) opens.answer opens.mid opens.negotiated))
+            opens.negotiated)
             opens.settled numbers
 
     -- ---- the reply
@@ -287,7 +253,7 @@ module _ (payload user_header : Detail) (variant : TypeVariant) where
     -- where the first look finds the service the machine refuses, too
     standing_so : (failure : CreateFailure) → failure ≡ uncreated.AlreadyExists
         → first_look (record { node = node; name = name; options = named }) steps old.hub ≡ Some lying.Described
-        → IsUncreated (named_settings named types) None → new.hub ≡ old.hub → new.factories.made ≡ old.factories.made
+        → IsUncreated (settings_of types named) None → new.hub ≡ old.hub → new.factories.made ≡ old.factories.made
         → new.made ≡ old.made → Replied (factory_reply (Some (Err (create_refused named failure))))
     standing_so failure is finds fits still same same_made =
         let it = look_finds (record { node = node; name = name; options = named }) steps old.hub lying.Described finds in
@@ -302,7 +268,7 @@ module _ (payload user_header : Detail) (variant : TypeVariant) where
             refuses_to_create types (pattern_of named) steps (Own node) agreed_on (state.phases (pattern_of named) name)
                 (described_so (pattern_of named) name old.hub.table (state.phases (pattern_of named) name)
                 (taken (pattern_of named) name) (stands.table.phases (pattern_of named) name asked).lies it.1) it.0
-                (unfit_so types named None fits),
+                (unfit-is types named None fits),
             (
               ap (λ (why : Refusal). factory_reply {T = T} (Some (Err why)))
                   (refusal_is named failure ∙ ap (create_refusal named) is),
@@ -314,7 +280,7 @@ module _ (payload user_header : Detail) (variant : TypeVariant) where
         }
 
     -- where it isn't refused first, the machine goes on as the call does
-    pub creation_followed : is_node node old.hub.nodes ≡ true → IsUncreated (named_settings named types) None
+    pub creation_followed : is_node node old.hub.nodes ≡ true → IsUncreated (settings_of types named) None
         → (prepared : Result (List (List TableStep)) AllocError) (roomier : FactoryTable) (result : Result ℕ Refusal)
         → new.made ≡ old.made → Prepares name types steps old.factories.made prepared roomier
         → CreatesPrepared prepared payload user_header types (record { node = node; name = name; options = named }) attributes roomier
@@ -327,7 +293,7 @@ module _ (payload user_header : Detail) (variant : TypeVariant) where
           order = it.order_then;
           after = it.after;
           step = by_none (λ why. RefusesNode node (create_refusal named why) state (factory_reply (Some result)) it.after)
-              (unfit (settings_of types named)) (unfit_so types named None fits)
+              (unfit (settings_of types named)) (unfit-is types named None fits)
               (by_true _ _ (nat_le 1 node && nat_le node state.made.nodes)
               (ap (λ (n : ℕ). nat_le 1 node && nat_le node n) (sym stands.nodes) ∙ is) it.came);
           stands = it.stands_then;
@@ -341,7 +307,7 @@ module _ (payload user_header : Detail) (variant : TypeVariant) where
       order = order;
       after = state;
       step = by_some _ (λ failure. RefusesNode node (create_refusal named failure) state answer state) (unfit (settings_of types named))
-          failure (unfit_so types named (Some failure) unfitting)
+          failure (unfit-is types named (Some failure) unfitting)
           (by_true _ _ (nat_le 1 node && nat_le node state.made.nodes)
           (ap (λ (n : ℕ). nat_le 1 node && nat_le node n) (sym stands.nodes) ∙ is) (
             replied ∙ ap factory_reply made_is ∙ ap (λ (why : Refusal). factory_reply {T = T} (Some (Err why))) (refusal_is named failure),
@@ -363,7 +329,7 @@ module _ (payload user_header : Detail) (variant : TypeVariant) where
               (sym (replied ∙ ap factory_reply made_is))
               (by_none (λ why. RefusesNode node (create_refusal named why) state (factory_reply (Some (Err (create_refused named failure))))
               it.after)
-              (unfit (settings_of types named)) (unfit_so types named None fits)
+              (unfit (settings_of types named)) (unfit-is types named None fits)
               (by_true _ _ (nat_le 1 node && nat_le node state.made.nodes)
               (ap (λ (n : ℕ). nat_le 1 node && nat_le node n) (sym stands.nodes) ∙ is) it.came));
           stands = it.stands_then;

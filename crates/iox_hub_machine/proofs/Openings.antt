@@ -47,7 +47,7 @@ use Rattle.iox_domain_machine.specs.Naming.{Naming}
 use Rattle.iox_hub_base.proofs.SameTable.{went-keeps}
 use Rattle.iox_hub_base.specs.Hubs.{is_node}
 use Rattle.iox_hub_base.specs.Opening.{Made, OpensInHub}
-use Rattle.iox_hub_commands.specs.Asking.{required_event, required_publish_subscribe, required_request_response}
+use Rattle.iox_hub_commands.specs.Asked.{required_event, required_publish_subscribe, required_request_response}
 use Rattle.iox_hub_commands.specs.Opening.{OpensAs, OpensNumbered, OpensPrepared, open_lacking}
 use Rattle.iox_hub_commands.specs.Replies.{factory_reply}
 use Rattle.iox_hub_commands.specs.ServicesNumbering.{IsRefusedWith, Numbers, Prepares}

@@ -18,7 +18,7 @@ use Rattle.iox_command.specs.NegotiateBase.DescribeBase.Hash.{service_hash_of}
 use Rattle.iox_command.specs.NegotiateBase.DescribeBase.declared.message_type.MessageTypeDetails.{MessageTypeDetails}
 use Rattle.iox_command.specs.NegotiateBase.DescribeBase.declared.pattern.MessagingPattern.{MessagingPattern}
 use Rattle.iox_command.specs.NegotiateBase.DescribeBase.declared.pattern.MessagingPattern.TheVariants as pattern
-use Rattle.iox_command.specs.NegotiateBase.DescribeSettings.Agreement.{Agreement as Description, AreWithinLimits}
+use Rattle.iox_command.specs.NegotiateBase.DescribeSettings.Agreement.{Agreement as Description, AreWithinLimits, HasNoRoomForHistory}
 use Rattle.iox_command.specs.NegotiateBase.DescribeVerdict.EventClauses as event_clauses
 use Rattle.iox_command.specs.NegotiateBase.DescribeVerdict.PublishSubscribeClauses as publish_subscribe_clauses
 use Rattle.iox_command.specs.NegotiateBase.DescribeVerdict.RequestResponseClauses as request_response_clauses
@@ -48,8 +48,8 @@ use Rattle.iox_domain_machine.specs.Naming.{Naming}
 use Rattle.iox_hub_base.proofs.SameTable.{went-keeps}
 use Rattle.iox_hub_base.specs.Hubs.{is_node}
 use Rattle.iox_hub_base.specs.Opening.{Made, OpensInHub, lacking_either}
-use Rattle.iox_hub_commands.specs.Asking.{IsHistoryTooLong, required_agreement, required_event, required_publish_subscribe}
-use Rattle.iox_hub_commands.specs.Asking.{required_request_response}
+use Rattle.iox_hub_commands.specs.Asked.{required_event, required_publish_subscribe, required_request_response}
+use Rattle.iox_hub_commands.specs.Asking.{agreed_of}
 use Rattle.iox_hub_commands.specs.Either.{EitherAs, EitherNumbered, EitherPrepared, either_lacking}
 use Rattle.iox_hub_commands.specs.Replies.{factory_reply}
 use Rattle.iox_hub_commands.specs.ServicesNumbering.{IsRefusedWith, Numbers, Prepares}
@@ -65,8 +65,8 @@ use Rattle.iox_hub_machine.proofs.Formed.{AreMade, formed_so, listed_so}
 use Rattle.iox_hub_machine.proofs.Openings.{agreed_there, by_true, is_event, is_request_response}
 use Rattle.iox_hub_machine.proofs.Skipping.{skipped_matches}
 use Rattle.iox_hub_machine.proofs.Verdicts.{event_judge, publish_subscribe_judge, request_response_judge}
-use Rattle.iox_hub_machine.proofs.Verdicts.{new_agreement, same_event_verdict, same_history, same_publish_subscribe_verdict}
-use Rattle.iox_hub_machine.proofs.Verdicts.{same_request_response_verdict, same_required_agreement}
+use Rattle.iox_hub_machine.proofs.Verdicts.{new_agreement, same_event_verdict, same_publish_subscribe_verdict}
+use Rattle.iox_hub_machine.proofs.Verdicts.{same_request_response_verdict}
 use Rattle.iox_hub_machine.specs.OpenLaws.{HasNumbersFor, OpeningOrCreatingMatches}
 use Rattle.iox_hub_machine.specs.ServiceLaws.{IsFollowed}
 use Rattle.iox_hub_machine.specs.Services.{HubStandsFor, factory_as}
@@ -84,14 +84,12 @@ use Rattle.iox_machine.specs.Phase.{Node, Own, Published}
 use Rattle.iox_machine.specs.Run as machine
 use Rattle.iox_machine.specs.State.{Factory, State}
 use Rattle.iox_negotiate.specs.Negotiation as built
-use Rattle.iox_negotiate.specs.declared.factory.Membership.{Membership}
 use Rattle.iox_negotiate_machine.proofs.OpenCalls.{open-or-create-matches}
-use Rattle.iox_negotiate_machine.specs.CallLaws.{HasNoRoomForHistory}
 use Rattle.iox_negotiate_machine.proofs.Told.{either-told, event-either-told, event_clause, publish-subscribe-either-told}
 use Rattle.iox_negotiate_machine.proofs.Told.{publish_subscribe_clause, request-response-either-told, request_response_clause}
 use Rattle.iox_negotiate_machine.specs.Laws.{HaveOwnHashes}
 use Rattle.iox_negotiate_machine.specs.Standing.{description_of}
-use Rattle.iox_negotiate_table.specs.Stepped.{Steps, SteppedSight}
+use Rattle.iox_negotiate_table.specs.Stepped.{SteppedSight}
 use Rattle.iox_negotiate_table.specs.declared.step.ForeignStep.{ForeignStep as TableStep}
 use Rattle.iox_machine.proofs.Shorthands.{OpensOrCreates}
 
@@ -153,20 +151,6 @@ module _ {T U B D : Type 0} (payload user_header : Detail) (variant : TypeVarian
           new state
           stands Goes tell told_of.either_lacking
 
-      abbrev Negotiated : Description → Type 0 → List (List TableStep) → Result Membership E → Steps → Type 0
-      Negotiated agreed too_long lists answer mid = built.Either SteppedSight old.hub.table.id (service_hash_of kind name) node judge agreed
-          (AreWithinLimits agreed.settings) too_long error (record { table = old.hub.table; lists = lists }) answer mid
-
-      negotiated_so : (lists : List (List TableStep)) (answer : Result Membership E) (mid : Steps)
-          → Negotiated (required_agreement name named types required)
-          (IsHistoryTooLong (required_agreement name named types required).settings) lists answer mid
-          → Negotiated (description_of kind name fresh_one) (HasNoRoomForHistory (settings_of types named)) lists answer mid
-      negotiated_so lists answer mid does =
-          subst (λ (too_long : Type 0). Negotiated (description_of kind name fresh_one) too_long lists answer mid)
-          (same_history (settings_of types named))
-          (subst (λ (agreed : Description). Negotiated agreed (IsHistoryTooLong agreed.settings) lists answer mid)
-          (same_required_agreement types required name named) does)
-
       either_so : (fits : (fresh : Bool) (last : Call)
           → Goes (record { phase = state.phases kind name; accesses = 0 }) (Some (Ok fresh)) last
           → kind ≡ pattern.PublishSubscribe → (life : ℕ) (agreed : Agreement) (nodes : List (Node × ℕ))
@@ -176,9 +160,8 @@ module _ {T U B D : Type 0} (payload user_header : Detail) (variant : TypeVarian
           → (opened : Result Made E)
           → OpensInHub payload user_header (Unit {0}) (λ was_new. error (lacking_either was_new))
           (λ before came after. built.Either SteppedSight before.table.id (service_hash_of kind name) node judge
-          (required_agreement name named types required)
-          (AreWithinLimits (required_agreement name named types required).settings)
-          (IsHistoryTooLong (required_agreement name named types required).settings) error before came after)
+          (agreed_of name named types required.pairs) (AreWithinLimits (settings_of types named))
+          (HasNoRoomForHistory (settings_of types named)) error before came after)
           lists old.hub opened new.hub
           → Numbers kind refused opened roomier result new.factories.made
           → Is (factory_reply (Some result))
@@ -188,7 +171,6 @@ module _ {T U B D : Type 0} (payload user_header : Detail) (variant : TypeVarian
           (ap (λ (why : OpenOrCreateFailure V). refused (error why)) (same_lacking false)) opened is roomier result same same_made numbers
           still
       either_so fits lists listed roomier same same_made result opened (inl does) numbers =
-          let negotiated = negotiated_so lists does.answer does.mid does.negotiated in
           answered payload user_header choices degrades decides reader_degrades names own kind name asked taken naming order node old new
           state
           stands Goes tell told_of.either_lacking error refused (λ why. refl) (λ was_new. error (lacking_either was_new))
@@ -198,8 +180,8 @@ module _ {T U B D : Type 0} (payload user_header : Detail) (variant : TypeVarian
           (λ fresh last goes. either_enters kind name (taken kind name) (state.phases kind name) types steps node verdict last fresh_one
           fresh goes)
           fits stands.factories.numbers (entering kind) roomier same same_made does.mid.table
-          (went-keeps negotiated.negotiated.done.made (record { table = old.hub.table; lists = lists }) does.mid
-          negotiated.negotiated.done.went)
+          (went-keeps does.negotiated.negotiated.done.made (record { table = old.hub.table; lists = lists }) does.mid
+          does.negotiated.negotiated.done.went)
           result does.answer opened
           (open-or-create-matches T V E names types name node old.hub.table.id judge verdict named required.pairs steps lists taken
           old.hub.table does.mid error does.answer state own asked (formed_so types name steps lists listed)
@@ -207,7 +189,7 @@ module _ {T U B D : Type 0} (payload user_header : Detail) (variant : TypeVarian
           (listed_so types name steps lists listed) stands.table
           (few_held kind name node (state.phases kind name) old.factories.made.entries old.factories.made.next factory_as state.factories
           fit.rise fit.factories stands.factories.same (stands.factories.seats kind name node asked))
-          judged negotiated)
+          judged does.negotiated)
           does.settled numbers
 
     -- ---- by pattern

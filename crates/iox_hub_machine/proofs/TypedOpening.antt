@@ -39,7 +39,6 @@ use Rattle.iox_hub_base.specs.declared.hub.Hub.{Hub}
 use Rattle.iox_hub_commands.proofs.FirstLook.{none_next}
 use Rattle.iox_hub_commands.specs.Asking.{agreed_of, hash_of}
 use Rattle.iox_hub_commands.specs.Creating.{CreatesAgreed, CreatesAs, CreatesNumbered, CreatesUnlessRefused}
-use Rattle.iox_hub_commands.specs.Described.{settings_of}
 use Rattle.iox_hub_commands.specs.Either.{EitherNumbered}
 use Rattle.iox_hub_commands.specs.Opening.{OpensNumbered}
 use Rattle.iox_hub_commands.specs.Refusing.{IsRefusedFirst, IsUncreated, create_refused, first_look}
@@ -58,6 +57,7 @@ use Rattle.iox_hub_machine.specs.ClosingLaws.{IsCome}
 use Rattle.iox_hub_machine.specs.Ran.{RanAtMost}
 use Rattle.iox_hub_machine.specs.TypedOpening.{CreateIsStep, ForeignIsStep, OpenIsStep, OpenOrCreateIsStep, opened_then}
 use Rattle.iox_hub_machine.specs.TypedSteps.{IsStepBy, hub_after_call}
+use Rattle.iox_machine.specs.Asked.{settings_of}
 use Rattle.iox_machine.specs.Choices.{as_named}
 use Rattle.iox_negotiate.specs.Factory.{membership}
 use Rattle.iox_negotiate.specs.declared.factory.Membership.{Membership}
@@ -173,7 +173,7 @@ module _ {T U B D : Type 0} (payload user_header : Detail) (variant : TypeVarian
     -- Why nothing is created, if that is told of the settings, and what follows. Where it isn't, nothing changes beside a service that
     -- stands.
     abbrev Known : ServiceOptions → List Attribute → Type 0
-    Known named attributes = (refused : Option CreateFailure) × IsUncreated (settings_of named types) refused
+    Known named attributes = (refused : Option CreateFailure) × IsUncreated (settings_of types named) refused
         × Unless named attributes refused × (refused ≡ None → Stands named → (table ≡ old.factories.made) × (hub ≡ old.hub))
 
     module _ (named : ServiceOptions) (attributes : List Attribute)
@@ -234,7 +234,7 @@ module _ {T U B D : Type 0} (payload user_header : Detail) (variant : TypeVarian
 
       -- it is a step where it does what the command does
       as_commanded : (refused : Option CreateFailure)
-          → IsRefusedFirst (settings_of named types) (first_look (asked_by named) steps old.hub) refused → Unless named attributes refused
+          → IsRefusedFirst (settings_of types named) (first_look (asked_by named) steps old.hub) refused → Unless named attributes refused
           → IsStep
       as_commanded refused first unless =
           by_step payload user_header variant is_default is_default_header fixed degrades decides fixed_reader reader_degrades
@@ -248,7 +248,7 @@ module _ {T U B D : Type 0} (payload user_header : Detail) (variant : TypeVarian
           ))
 
       -- Beside a service that stands the call may want memory, where the command doesn't ask for any. So may the machine.
-      as_standing : IsUncreated (settings_of named types) None
+      as_standing : IsUncreated (settings_of types named) None
           → CreatesAs named payload user_header types node name attributes (lists_of name types steps) old.factories.made old.hub answer
           table hub
           → table ≡ old.factories.made → hub ≡ old.hub → IsStep
@@ -285,7 +285,7 @@ module _ {T U B D : Type 0} (payload user_header : Detail) (variant : TypeVarian
             buffer,
           )
 
-      step_so : (refused : Option CreateFailure) → IsUncreated (settings_of named types) refused → Unless named attributes refused
+      step_so : (refused : Option CreateFailure) → IsUncreated (settings_of types named) refused → Unless named attributes refused
           → CreatesAs named payload user_header types node name attributes (lists_of name types steps) old.factories.made old.hub answer
           table hub
           → (refused ≡ None → Stands named → (table ≡ old.factories.made) × (hub ≡ old.hub)) → (found : Option HashState)

@@ -357,7 +357,7 @@ module _ (types : MessageTypeDetails) (pattern : MessagingPattern) (name : List 
           and-true _ _ (all-said version (settings_of types options) is.3)
           (and-true _ _ (subst (λ (kind : MessagingPattern). same_pattern kind pattern ≡ true) (sym (own (pattern_of options) is.1))
           (pattern-itself pattern))
-          (limits-back types options is.0.limits))
+          (limits-back (settings_of types options) is.0.limits))
 
       published : (life number : ℕ) (by : Node) → OwnHash pattern name → PhaseStands pattern name old taken (BeingMade life by)
           → IsFor version hash (described (pattern_of options))

@@ -1,6 +1,5 @@
 pub mod Beginning
 pub mod Seats
-pub mod Saying
 pub mod Told
 pub mod Limits
 pub mod Acting

@@ -1,8 +1,7 @@
--- Whether settings are within the limits, for the machine and for a description.
-use Rattle.std.proofs.Common.{◌≡◌, Bool, true, false, ◌&&◌, [], refl, subst, arith}
+-- The settings that are asked for are within the limits of the machine just if they are within those of a description.
+use Rattle.std.proofs.Common.{◌≡◌, ◌≤◌, Bool, true, false, ◌&&◌, refl, arith}
 use Rattle.std.proofs.lemmas.Bool.{ltb-true, lt-ltb}
 use Rattle.std.proofs.lemmas.List.Elements.{All-from_recursion}
-use Rattle.iox_command.specs.NegotiateBase.DescribeBase.Attributes.{required}
 use Rattle.iox_command.specs.NegotiateBase.DescribeBase.declared.message_type.MessageTypeDetails.{MessageTypeDetails}
 use Rattle.iox_command.specs.NegotiateBase.DescribeSettings.Agreement.{AreWithinLimits}
 use Rattle.iox_command.specs.NegotiateBase.DescribeSettings.EventSettings as event
@@ -11,66 +10,16 @@ use Rattle.iox_command.specs.NegotiateBase.DescribeSettings.RequestResponseSetti
 use Rattle.iox_command.specs.NegotiateBase.DescribeSettings.Setting.{IsAllowed}
 use Rattle.iox_command.specs.NegotiateBase.DescribeSettings.declared.static_config.Settings.{Settings}
 use Rattle.iox_command.specs.NegotiateBase.DescribeSettings.declared.static_config.Settings.TheVariants as settings
-use Rattle.iox_command.specs.NegotiateBase.DescribeSettings.declared.static_config.event.Setting.{Setting as EventSetting}
 use Rattle.iox_command.specs.NegotiateBase.DescribeSettings.declared.static_config.event.Setting.TheVariants as event_setting
-use Rattle.iox_command.specs.NegotiateBase.DescribeSettings.declared.static_config.event.StaticConfig.{StaticConfig as Event}
-use Rattle.iox_command.specs.NegotiateBase.DescribeSettings.declared.static_config.publish_subscribe.Setting.{Setting as PublishSubscribeSetting}
 use Rattle.iox_command.specs.NegotiateBase.DescribeSettings.declared.static_config.publish_subscribe.Setting.TheVariants as
     publish_subscribe_setting
-use Rattle.iox_command.specs.NegotiateBase.DescribeSettings.declared.static_config.publish_subscribe.StaticConfig.{StaticConfig as PublishSubscribe}
-use Rattle.iox_command.specs.NegotiateBase.DescribeSettings.declared.static_config.request_response.Setting.{Setting as RequestResponseSetting}
 use Rattle.iox_command.specs.NegotiateBase.DescribeSettings.declared.static_config.request_response.Setting.TheVariants as
     request_response_setting
-use Rattle.iox_command.specs.NegotiateBase.DescribeSettings.declared.static_config.request_response.StaticConfig.{StaticConfig as RequestResponse}
 use Rattle.iox_command.specs.declared.service.ServiceOptions.{ServiceOptions}
 use Rattle.iox_command.specs.declared.service.ServiceOptions.TheVariants as options
 use Rattle.iox_machine.specs.Agreement.{are_within_limits}
 use Rattle.iox_machine.specs.Asked.{settings_of}
 use Rattle.iox_negotiate.proofs.Maps.{no}
-use Rattle.iox_negotiate_machine.proofs.Saying.{ruled_settings, settings-are}
-
-event-within : (c : Event) → are_within_limits (settings.Event (event.adjusted c)) ≡ true → event.IsWithinLimits (event.adjusted c)
-event-within c is =
-    All-from_recursion (λ (s : EventSetting). IsAllowed (event.rule s) (event.value s (event.adjusted c))) event.all
-    (tt, ((omega arith, tt), ((omega arith, tt), ((omega arith, ltb-true _ _ is), ((omega arith, tt), (tt, (tt, (tt, tt))))))))
-
-event-back : (c : Event) → event.IsWithinLimits (event.adjusted c) → are_within_limits (settings.Event (event.adjusted c)) ≡ true
-event-back c within = lt-ltb _ _ (within 3 event_setting.MaxNodes (omega arith)).1
-
-request_response-within : (c : RequestResponse) → are_within_limits (settings.RequestResponse (request_response.adjusted c)) ≡ true
-    → request_response.IsWithinLimits (request_response.adjusted c)
-request_response-within c is =
-    All-from_recursion (λ (s : RequestResponseSetting). IsAllowed (request_response.rule s)
-    (request_response.value s (request_response.adjusted c)))
-    request_response.all (
-      tt,
-      (
-        tt,
-        (
-          tt,
-          (
-            (omega arith, tt),
-            (
-              (omega arith, tt),
-              (
-                (omega arith, tt),
-                (
-                  (omega arith, tt),
-                  (
-                    (omega arith, ltb-true _ _ is),
-                    ((omega arith, tt), ((omega arith, tt), (tt, (tt, tt)))),
-                  ),
-                ),
-              ),
-            ),
-          ),
-        ),
-      ),
-    )
-
-request_response-back : (c : RequestResponse) → request_response.IsWithinLimits (request_response.adjusted c)
-    → are_within_limits (settings.RequestResponse (request_response.adjusted c)) ≡ true
-request_response-back c within = lt-ltb _ _ (within 7 request_response_setting.MaxNodes (omega arith)).1
 
 pub both : (b c : Bool) → (b && c) ≡ true → (b ≡ true) × (c ≡ true)
 both true c is = (refl, is)
@@ -80,64 +29,82 @@ pub and-true : (b c : Bool) → b ≡ true → c ≡ true → (b && c) ≡ true
 and-true true c is also = also
 and-true false c is also = is
 
-publish_subscribe-within : (c : PublishSubscribe) → are_within_limits (settings.PublishSubscribe (publish_subscribe.adjusted c)) ≡ true
-    → publish_subscribe.IsWithinLimits (publish_subscribe.adjusted c)
-publish_subscribe-within c is =
-    let nodes = both _ _ is in
-    let publishers = both _ _ nodes.1 in
-    let subscribers = both _ _ publishers.1 in
-    let buffer = both _ _ subscribers.1 in
-    let borrowed = both _ _ buffer.1 in
-    All-from_recursion
-    (λ (s : PublishSubscribeSetting). IsAllowed (publish_subscribe.rule s) (publish_subscribe.value s (publish_subscribe.adjusted c)))
-    publish_subscribe.all (
+-- each number is one at least where 0 can't serve
+abbrev CanServe : Settings → Type 0
+CanServe (settings.PublishSubscribe c) =
+    (1 ≤ c.max_nodes) × (1 ≤ c.max_publishers) × (1 ≤ c.max_subscribers) × (1 ≤ c.subscriber_max_borrowed_samples)
+    × (1 ≤ c.subscriber_max_buffer_size)
+CanServe (settings.Event c) = (1 ≤ c.max_listeners) × (1 ≤ c.max_nodes) × (1 ≤ c.max_notifiers)
+CanServe (settings.RequestResponse c) =
+    (1 ≤ c.max_active_requests_per_client) × (1 ≤ c.max_borrowed_responses_per_pending_response) × (1 ≤ c.max_clients)
+    × (1 ≤ c.max_loaned_requests) × (1 ≤ c.max_nodes) × (1 ≤ c.max_response_buffer_size) × (1 ≤ c.max_servers)
+
+can-serve : (types : MessageTypeDetails) (named : ServiceOptions) → CanServe (settings_of types named)
+can-serve types (options.PublishSubscribe named) = (omega arith, omega arith, omega arith, omega arith, omega arith)
+can-serve types (options.Event named) = (omega arith, omega arith, omega arith)
+can-serve types (options.RequestResponse named) =
+    (omega arith, omega arith, omega arith, omega arith, omega arith, omega arith, omega arith)
+
+limits-there : (s : Settings) → CanServe s → are_within_limits s ≡ true → AreWithinLimits s
+limits-there (settings.PublishSubscribe c) (nodes, publishers, subscribers, borrowed, buffer) is =
+    let below_nodes = both _ _ is in
+    let below_publishers = both _ _ below_nodes.1 in
+    let below_subscribers = both _ _ below_publishers.1 in
+    let below_buffer = both _ _ below_subscribers.1 in
+    let below_borrowed = both _ _ below_buffer.1 in
+    All-from_recursion (λ setting. IsAllowed (publish_subscribe.rule setting) (publish_subscribe.value setting c)) publish_subscribe.all (
       tt,
       (
-        (omega arith, ltb-true _ _ borrowed.1),
+        (omega arith, ltb-true _ _ below_borrowed.1),
         (
-          (omega arith, ltb-true _ _ nodes.0),
+          (nodes, ltb-true _ _ below_nodes.0),
           (
-            (omega arith, ltb-true _ _ publishers.0),
+            (publishers, ltb-true _ _ below_publishers.0),
             (
-              (omega arith, ltb-true _ _ subscribers.0),
-              (tt, ((omega arith, ltb-true _ _ borrowed.0), ((omega arith, ltb-true _ _ buffer.0), (tt, tt)))),
+              (subscribers, ltb-true _ _ below_subscribers.0),
+              (tt, ((borrowed, ltb-true _ _ below_borrowed.0), ((buffer, ltb-true _ _ below_buffer.0), (tt, tt)))),
+            ),
+          ),
+        ),
+      ),
+    )
+limits-there (settings.Event c) (listeners, nodes, notifiers) is =
+    All-from_recursion (λ setting. IsAllowed (event.rule setting) (event.value setting c)) event.all
+    (tt, ((omega arith, tt), ((listeners, tt), ((nodes, ltb-true _ _ is), ((notifiers, tt), (tt, (tt, (tt, tt))))))))
+limits-there (settings.RequestResponse c) (active, borrowed, clients, loaned, nodes, buffer, servers) is =
+    All-from_recursion (λ setting. IsAllowed (request_response.rule setting) (request_response.value setting c)) request_response.all (
+      tt,
+      (
+        tt,
+        (
+          tt,
+          (
+            (active, tt),
+            (
+              (borrowed, tt),
+              (
+                (clients, tt),
+                ((loaned, tt), ((nodes, ltb-true _ _ is), ((buffer, tt), ((servers, tt), (tt, (tt, tt)))))),
+              ),
             ),
           ),
         ),
       ),
     )
 
-publish_subscribe-back : (c : PublishSubscribe) → publish_subscribe.IsWithinLimits (publish_subscribe.adjusted c)
-    → are_within_limits (settings.PublishSubscribe (publish_subscribe.adjusted c)) ≡ true
-publish_subscribe-back c within =
-    and-true _ _ (lt-ltb _ _ (within 2 publish_subscribe_setting.MaxNodes (omega arith)).1)
-    (and-true _ _ (lt-ltb _ _ (within 3 publish_subscribe_setting.MaxNodes (omega arith)).1)
-    (and-true _ _ (lt-ltb _ _ (within 4 publish_subscribe_setting.MaxNodes (omega arith)).1)
-    (and-true _ _ (lt-ltb _ _ (within 7 publish_subscribe_setting.MaxNodes (omega arith)).1)
-    (and-true _ _ (lt-ltb _ _ (within 6 publish_subscribe_setting.MaxNodes (omega arith)).1)
-    (lt-ltb _ _ (within 1 publish_subscribe_setting.MaxNodes (omega arith)).1)))))
-
-ruled-within : (types : MessageTypeDetails) (named : ServiceOptions)
-    → are_within_limits (ruled_settings types (required [] []) named) ≡ true → AreWithinLimits (ruled_settings types (required [] []) named)
-ruled-within types (options.PublishSubscribe named) is = publish_subscribe-within _ is
-ruled-within types (options.Event named) is = event-within _ is
-ruled-within types (options.RequestResponse named) is = request_response-within _ is
-
-ruled-back : (types : MessageTypeDetails) (named : ServiceOptions) → AreWithinLimits (ruled_settings types (required [] []) named)
-    → are_within_limits (ruled_settings types (required [] []) named) ≡ true
-ruled-back types (options.PublishSubscribe named) within = publish_subscribe-back _ within
-ruled-back types (options.Event named) within = event-back _ within
-ruled-back types (options.RequestResponse named) within = request_response-back _ within
-
--- what is asked for is within the limits of the machine just if it is within those of a description
+-- what is asked for is within the limits of a description where it is within those of the machine
 pub limits-within : (types : MessageTypeDetails) (named : ServiceOptions) → are_within_limits (settings_of types named) ≡ true
     → AreWithinLimits (settings_of types named)
-limits-within types named =
-    subst (λ (s : Settings). are_within_limits s ≡ true → AreWithinLimits s) (settings-are types (required [] []) named)
-    (ruled-within types named)
+limits-within types named = limits-there (settings_of types named) (can-serve types named)
 
-pub limits-back : (types : MessageTypeDetails) (named : ServiceOptions) → AreWithinLimits (settings_of types named)
-    → are_within_limits (settings_of types named) ≡ true
-limits-back types named =
-    subst (λ (s : Settings). AreWithinLimits s → are_within_limits s ≡ true) (settings-are types (required [] []) named)
-    (ruled-back types named)
+-- and back, whatever is asked for
+pub limits-back : (s : Settings) → AreWithinLimits s → are_within_limits s ≡ true
+limits-back (settings.PublishSubscribe c) within =
+    and-true _ _ (lt-ltb _ _ (within 2 publish_subscribe_setting.MaxNodes (omega arith)).1)
+    (and-true _ _ (lt-ltb _ _ (within 3 publish_subscribe_setting.MaxPublishers (omega arith)).1)
+    (and-true _ _ (lt-ltb _ _ (within 4 publish_subscribe_setting.MaxSubscribers (omega arith)).1)
+    (and-true _ _ (lt-ltb _ _ (within 7 publish_subscribe_setting.SubscriberMaxBufferSize (omega arith)).1)
+    (and-true _ _ (lt-ltb _ _ (within 6 publish_subscribe_setting.SubscriberMaxBorrowedSamples (omega arith)).1)
+    (lt-ltb _ _ (within 1 publish_subscribe_setting.HistorySize (omega arith)).1)))))
+limits-back (settings.Event c) within = lt-ltb _ _ (within 3 event_setting.MaxNodes (omega arith)).1
+limits-back (settings.RequestResponse c) within = lt-ltb _ _ (within 7 request_response_setting.MaxNodes (omega arith)).1

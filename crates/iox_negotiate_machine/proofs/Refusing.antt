@@ -2,7 +2,7 @@
 use Rattle.std.proofs.Common.{◌≡◌, Bool, true, false, cond, not, ◌&&◌, Option, None, Some, nat_lt, refl, ◌∙◌}
 use Rattle.std.proofs.lemmas.Bool.{lt-ltb, ltb-true}
 use Rattle.iox_command.specs.NegotiateBase.DescribeBase.declared.message_type.MessageTypeDetails.{MessageTypeDetails}
-use Rattle.iox_command.specs.NegotiateBase.DescribeSettings.Agreement.{AreWithinLimits}
+use Rattle.iox_command.specs.NegotiateBase.DescribeSettings.Agreement.{AreWithinLimits, HasNoRoomForHistory}
 use Rattle.iox_command.specs.NegotiateBase.DescribeSettings.PublishSubscribeSettings as publish_subscribe
 use Rattle.iox_command.specs.NegotiateBase.DescribeSettings.declared.static_config.Settings.{Settings}
 use Rattle.iox_command.specs.NegotiateBase.DescribeSettings.declared.static_config.Settings.TheVariants as settings
@@ -15,7 +15,6 @@ use Rattle.iox_machine.specs.Asked.{settings_of}
 use Rattle.iox_negotiate.proofs.Maps.{no, on}
 use Rattle.iox_negotiate.specs.Asked.{IsRefusal}
 use Rattle.iox_negotiate_machine.proofs.Limits.{and-true, both, limits-back, limits-within}
-use Rattle.iox_negotiate_machine.specs.CallLaws.{HasNoRoomForHistory}
 
 -- what the machine says, by its two tests
 abbrev refused_by : Bool → Bool → Option CreateFailure
@@ -60,29 +59,31 @@ short-from : (c : StaticConfig) → publish_subscribe.IsHistoryTooLong c
 short-from c is = and-true _ _ (not-of c.enable_safe_overflow is.0) (lt-ltb _ _ is.1)
 
 refused-as : (c : StaticConfig) → (are_within_limits (settings.PublishSubscribe c) ≡ true → AreWithinLimits (settings.PublishSubscribe c))
-    → (AreWithinLimits (settings.PublishSubscribe c) → are_within_limits (settings.PublishSubscribe c) ≡ true)
     → (refusal : Option CreateFailure)
     → IsRefusal (AreWithinLimits (settings.PublishSubscribe c)) (HasNoRoomForHistory (settings.PublishSubscribe c)) refusal
     → unfit (settings.PublishSubscribe c) ≡ refusal
-refused-as c to from refusal is =
+refused-as c to refusal is =
     tells (AreWithinLimits (settings.PublishSubscribe c)) (publish_subscribe.IsHistoryTooLong c)
     (are_within_limits (settings.PublishSubscribe c))
-    (not c.enable_safe_overflow && nat_lt c.subscriber_max_buffer_size c.history_size) to from (short-to c) (short-from c) refusal is
+    (not c.enable_safe_overflow && nat_lt c.subscriber_max_buffer_size c.history_size) to (limits-back (settings.PublishSubscribe c))
+    (short-to c) (short-from c) refusal is
 
 plain : (within : Bool) → cond within None (Some uncreated.InternalFailure) ≡ refused_by within false
 plain true = refl
 plain false = refl
 
-any-unfit : (s : Settings) → (are_within_limits s ≡ true → AreWithinLimits s) → (AreWithinLimits s → are_within_limits s ≡ true)
-    → (refusal : Option CreateFailure) → IsRefusal (AreWithinLimits s) (HasNoRoomForHistory s) refusal → unfit s ≡ refusal
-any-unfit (settings.PublishSubscribe c) to from refusal is = refused-as c to from refusal is
-any-unfit (settings.Event c) to from refusal is =
-    plain (are_within_limits (settings.Event c)) ∙ tells _ _ _ false to from no (λ never. absurd never) refusal is
-any-unfit (settings.RequestResponse c) to from refusal is =
-    plain (are_within_limits (settings.RequestResponse c)) ∙ tells _ _ _ false to from no (λ never. absurd never) refusal is
+any-unfit : (s : Settings) → (are_within_limits s ≡ true → AreWithinLimits s) → (refusal : Option CreateFailure)
+    → IsRefusal (AreWithinLimits s) (HasNoRoomForHistory s) refusal → unfit s ≡ refusal
+any-unfit (settings.PublishSubscribe c) to refusal is = refused-as c to refusal is
+any-unfit (settings.Event c) to refusal is =
+    plain (are_within_limits (settings.Event c))
+    ∙ tells _ _ _ false to (limits-back (settings.Event c)) no (λ never. absurd never) refusal is
+any-unfit (settings.RequestResponse c) to refusal is =
+    plain (are_within_limits (settings.RequestResponse c))
+    ∙ tells _ _ _ false to (limits-back (settings.RequestResponse c)) no (λ never. absurd never) refusal is
 
 -- a builder refuses settings just as the machine does
 pub unfit-is : (types : MessageTypeDetails) (named : ServiceOptions) (refusal : Option CreateFailure)
     → IsRefusal (AreWithinLimits (settings_of types named)) (HasNoRoomForHistory (settings_of types named)) refusal
     → unfit (settings_of types named) ≡ refusal
-unfit-is types named = any-unfit (settings_of types named) (limits-within types named) (limits-back types named)
+unfit-is types named = any-unfit (settings_of types named) (limits-within types named)

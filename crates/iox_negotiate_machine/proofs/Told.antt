@@ -7,8 +7,8 @@ use Rattle.iox_command.specs.NegotiateBase.DescribeBase.Attributes.{Required}
 use Rattle.iox_command.specs.NegotiateBase.DescribeBase.declared.message_type.MessageTypeDetails.{MessageTypeDetails}
 use Rattle.iox_command.specs.NegotiateBase.DescribeBase.declared.pattern.MessagingPattern.{MessagingPattern}
 use Rattle.iox_command.specs.NegotiateBase.DescribeVerdict.declared.requirement.event.ClauseError.{ClauseError as EventClause}
-use Rattle.iox_command.specs.NegotiateBase.DescribeVerdict.declared.requirement.publish_subscribe.ClauseError.{ClauseError as PublishSubscribeClause}
-use Rattle.iox_command.specs.NegotiateBase.DescribeVerdict.declared.requirement.request_response.ClauseError.{ClauseError as RequestResponseClause}
+use Rattle.iox_command.specs.NegotiateBase.DescribeVerdict.declared.requirement.publish_subscribe.ClauseError as publish_subscribe_unmet
+use Rattle.iox_command.specs.NegotiateBase.DescribeVerdict.declared.requirement.request_response.ClauseError as request_response_unmet
 use Rattle.iox_command.specs.NegotiateBase.DescribeSettings.Agreement.{max_nodes_of}
 use Rattle.iox_command.specs.NegotiateBase.EventErrors as event
 use Rattle.iox_command.specs.NegotiateBase.PublishSubscribeErrors as publish_subscribe
@@ -321,10 +321,10 @@ publish-subscribe-create-told named uncreated.SubscriberBufferMustBeLargerThanHi
 publish-subscribe-create-told named uncreated.OutOfMemory = refl
 
 -- the clause that isn't met, as it is told
-abbrev pub publish_subscribe_clause : PublishSubscribeClause → Refusal
+abbrev pub publish_subscribe_clause : publish_subscribe_unmet.ClauseError → Refusal
 publish_subscribe_clause unmet = refusal.PublishSubscribeOpen (publish_subscribe.clause_error unmet)
 
-pub publish-subscribe-open-told : (named : PublishSubscribeOptions) (failure : OpenFailure PublishSubscribeClause)
+pub publish-subscribe-open-told : (named : PublishSubscribeOptions) (failure : OpenFailure publish_subscribe_unmet.ClauseError)
     → refusal.PublishSubscribeOpen (publish_subscribe.open_error failure)
     ≡ open_refusal (options.PublishSubscribe named) (open_as publish_subscribe_clause failure)
 publish-subscribe-open-told named (unopened.Clause unmet) = refl
@@ -337,7 +337,7 @@ publish-subscribe-open-told named unopened.ExceedsMaxNumberOfNodes = refl
 publish-subscribe-open-told named unopened.IsMarkedForDestruction = refl
 publish-subscribe-open-told named unopened.OutOfMemory = refl
 
-pub publish-subscribe-either-told : (named : PublishSubscribeOptions) (failure : OpenOrCreateFailure PublishSubscribeClause)
+pub publish-subscribe-either-told : (named : PublishSubscribeOptions) (failure : OpenOrCreateFailure publish_subscribe_unmet.ClauseError)
     → refusal.PublishSubscribeOpenOrCreate (publish_subscribe.open_or_create_error failure)
     ≡ either_refusal (options.PublishSubscribe named) (either_as publish_subscribe_clause failure)
 publish-subscribe-either-told named (neither.Open failure) = ap within_either (publish-subscribe-open-told named failure)
@@ -391,10 +391,10 @@ request-response-create-told named uncreated.SubscriberBufferMustBeLargerThanHis
 request-response-create-told named uncreated.OutOfMemory = refl
 
 -- the clause that isn't met, as it is told
-abbrev pub request_response_clause : RequestResponseClause → Refusal
+abbrev pub request_response_clause : request_response_unmet.ClauseError → Refusal
 request_response_clause unmet = refusal.RequestResponseOpen (request_response.clause_error unmet)
 
-pub request-response-open-told : (named : RequestResponseOptions) (failure : OpenFailure RequestResponseClause)
+pub request-response-open-told : (named : RequestResponseOptions) (failure : OpenFailure request_response_unmet.ClauseError)
     → refusal.RequestResponseOpen (request_response.open_error failure)
     ≡ open_refusal (options.RequestResponse named) (open_as request_response_clause failure)
 request-response-open-told named (unopened.Clause unmet) = refl
@@ -407,7 +407,7 @@ request-response-open-told named unopened.ExceedsMaxNumberOfNodes = refl
 request-response-open-told named unopened.IsMarkedForDestruction = refl
 request-response-open-told named unopened.OutOfMemory = refl
 
-pub request-response-either-told : (named : RequestResponseOptions) (failure : OpenOrCreateFailure RequestResponseClause)
+pub request-response-either-told : (named : RequestResponseOptions) (failure : OpenOrCreateFailure request_response_unmet.ClauseError)
     → refusal.RequestResponseOpenOrCreate (request_response.open_or_create_error failure)
     ≡ either_refusal (options.RequestResponse named) (either_as request_response_clause failure)
 request-response-either-told named (neither.Open failure) = ap within_either (request-response-open-told named failure)

@@ -6,10 +6,7 @@ use Rattle.iox_command.specs.NegotiateBase.DescribeBase.Hash.{service_hash_of}
 use Rattle.iox_command.specs.NegotiateBase.DescribeBase.declared.attribute.Attribute.{Attribute}
 use Rattle.iox_command.specs.NegotiateBase.DescribeBase.declared.message_type.MessageTypeDetails.{MessageTypeDetails}
 use Rattle.iox_command.specs.NegotiateBase.DescribeBase.declared.pattern.MessagingPattern.{MessagingPattern}
-use Rattle.iox_command.specs.NegotiateBase.DescribeSettings.Agreement.{Agreement as Description, AreWithinLimits}
-use Rattle.iox_command.specs.NegotiateBase.DescribeSettings.PublishSubscribeSettings as publish_subscribe_settings
-use Rattle.iox_command.specs.NegotiateBase.DescribeSettings.declared.static_config.Settings.{Settings}
-use Rattle.iox_command.specs.NegotiateBase.DescribeSettings.declared.static_config.Settings.TheVariants as settings
+use Rattle.iox_command.specs.NegotiateBase.DescribeSettings.Agreement.{Agreement as Description, AreWithinLimits, HasNoRoomForHistory}
 use Rattle.iox_command.specs.NegotiateBase.declared.failure.CreateFailure.{CreateFailure}
 use Rattle.iox_command.specs.NegotiateBase.declared.failure.OpenFailure.{OpenFailure}
 use Rattle.iox_command.specs.NegotiateBase.declared.failure.OpenFailure.TheVariants as unopened
@@ -44,12 +41,6 @@ AreListed types name steps lists =
 -- options that are named.
 abbrev pub HaveStepForms : MessageTypeDetails → List ℕ → List StepBefore → Type 0
 HaveStepForms types name steps = (made : ℕ) → made < 16 → AllByRecursion (HasStepForm types name) (steps_at steps (made + 1))
-
--- a full buffer holds the publisher up, and has no room for the history: of publish-subscribe alone
-abbrev pub HasNoRoomForHistory : Settings → Type 0
-HasNoRoomForHistory (settings.PublishSubscribe c) = publish_subscribe_settings.IsHistoryTooLong c
-HasNoRoomForHistory (settings.Event c) = ⊥
-HasNoRoomForHistory (settings.RequestResponse c) = ⊥
 
 -- whether a service that was opened or created is new, or why it wasn't
 abbrev pub newness_of : {F : Type 0} → Result Opened F → Result Bool F

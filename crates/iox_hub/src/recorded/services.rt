@@ -11,8 +11,8 @@ ghost use Rattle.iox_hub_base.specs.DescribeSettings.Agreement.{agreement};
 ghost use Rattle.iox_hub_base.specs.Negotiate.Asked.{IsRefusal};
 ghost use Rattle.iox_hub_base.specs.Negotiate.Negotiation.{Creates, Either, Negotiates};
 ghost use Rattle.iox_hub_base.specs.Opening.{OpensInHub, lacking_either};
-ghost use Rattle.iox_hub_commands.specs.Asked.{types_of};
-ghost use Rattle.iox_hub_commands.specs.Asking.{agreed_of, hash_of, required_agreement, required_publish_subscribe};
+ghost use Rattle.iox_hub_commands.specs.Asked.{required_publish_subscribe, types_of};
+ghost use Rattle.iox_hub_commands.specs.Asking.{agreed_of, hash_of};
 ghost use Rattle.iox_hub_commands.specs.Creating.{CreatesAgreed, CreatesAs};
 ghost use Rattle.iox_hub_commands.specs.DescribeBase.Attributes.{Required};
 ghost use Rattle.iox_hub_commands.specs.DescribeBase.Detail.{detail};
@@ -335,8 +335,9 @@ fn opens_or_creates<
         publish_subscribe_errors.open_or_create_error (hash_of builder.name (options.PublishSubscribe asked.now)) builder.node
         (λ given. first_unmet (publish_subscribe_clauses.clauses
         (required_publish_subscribe asked.now (types_of T.name T.size T.alignment U.name U.size U.alignment) attributes) given))
-        (required_agreement builder.name (options.PublishSubscribe asked.now) (types_of T.name T.size T.alignment U.name U.size U.alignment)
-        attributes) [] hub.old (result_map_both (λ factory. (factory.service.membership, factory.owner)) (λ error. error) result) hub.new }
+        (agreed_of builder.name (options.PublishSubscribe asked.now) (types_of T.name T.size T.alignment U.name U.size U.alignment)
+        attributes.pairs) [] hub.old (result_map_both (λ factory. (factory.service.membership, factory.owner)) (λ error. error) result)
+        hub.new }
     ensures form { IfOk result (λ factory. HasForm factory.service.membership.service.description) }
 {
     let requirement = publish_subscribe(asked, message_types::<T, U>());

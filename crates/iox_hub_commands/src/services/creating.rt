@@ -5,7 +5,7 @@ ghost use Rattle.iox_hub_base.specs.DescribeBase.declared.type_detail.TypeVarian
 ghost use Rattle.iox_hub_base.specs.Hubs.{is_node};
 ghost use Rattle.iox_hub_commands.specs.Asked.{types_of};
 ghost use Rattle.iox_hub_commands.specs.Creating.{CreatesNumbered, create_lacking};
-ghost use Rattle.iox_hub_commands.specs.Described.{settings_of};
+ghost use Rattle.iox_machine.specs.Asked.{settings_of};
 ghost use Rattle.iox_command.specs.NegotiateBase.declared.failure.CreateFailure.{CreateFailure};
 ghost use Rattle.iox_command.specs.declared.refusal.Refusal.{Refusal};
 ghost use Rattle.iox_hub_base.specs.declared.hub.HashState.TheVariants.{Described, Locked};
@@ -51,15 +51,15 @@ impl Factories {
             (detail FixedSize U.name U.size U.alignment) (types_of T.name T.size T.alignment U.name U.size U.alignment) asked.now
             attributes.now steps.now self.old.made hub.old result self.new.made hub.new }
         ensures settings_first { is_node asked.now.node hub.old.nodes ≡ true → (failure : CreateFailure)
-            → IsUncreated (settings_of asked.now.options (types_of T.name T.size T.alignment U.name U.size U.alignment)) (Some failure)
+            → IsUncreated (settings_of (types_of T.name T.size T.alignment U.name U.size U.alignment) asked.now.options) (Some failure)
             → (result ≡ Some (Err (create_refused asked.now.options failure))) × (self.new.made ≡ self.old.made) × (hub.new ≡ hub.old) }
         ensures locked_first { is_node asked.now.node hub.old.nodes ≡ true
-            → IsUncreated (settings_of asked.now.options (types_of T.name T.size T.alignment U.name U.size U.alignment)) None
+            → IsUncreated (settings_of (types_of T.name T.size T.alignment U.name U.size U.alignment) asked.now.options) None
             → first_look asked.now steps.now hub.old ≡ Some Locked
             → (result ≡ Some (Err (create_refused asked.now.options uncreated.HangsInCreation))) × (self.new.made ≡ self.old.made)
             × (hub.new ≡ hub.old) }
         ensures standing_first { is_node asked.now.node hub.old.nodes ≡ true
-            → IsUncreated (settings_of asked.now.options (types_of T.name T.size T.alignment U.name U.size U.alignment)) None
+            → IsUncreated (settings_of (types_of T.name T.size T.alignment U.name U.size U.alignment) asked.now.options) None
             → first_look asked.now steps.now hub.old ≡ Some Described
             → (result ≡ Some (Err (create_refused asked.now.options uncreated.AlreadyExists))) × (self.new.made ≡ self.old.made)
             × (hub.new ≡ hub.old) }
@@ -84,15 +84,15 @@ impl Factories {
             (detail FixedSize U.name U.size U.alignment) (types_of T.name T.size T.alignment U.name U.size U.alignment) asked.now
             attributes.now steps.now self.old.made hub.old (Some result) self.new.made hub.new }
         ensures settings_first { (failure : CreateFailure)
-            → IsUncreated (settings_of asked.now.options (types_of T.name T.size T.alignment U.name U.size U.alignment)) (Some failure)
+            → IsUncreated (settings_of (types_of T.name T.size T.alignment U.name U.size U.alignment) asked.now.options) (Some failure)
             → (result ≡ Err (create_refused asked.now.options failure)) × (self.new.made ≡ self.old.made) × (hub.new ≡ hub.old) }
-        ensures locked_first { IsUncreated (settings_of asked.now.options
-            (types_of T.name T.size T.alignment U.name U.size U.alignment)) None
+        ensures locked_first { IsUncreated (settings_of (types_of T.name T.size T.alignment U.name U.size U.alignment)
+            asked.now.options) None
             → first_look asked.now steps.now hub.old ≡ Some Locked
             → (result ≡ Err (create_refused asked.now.options uncreated.HangsInCreation)) × (self.new.made ≡ self.old.made)
             × (hub.new ≡ hub.old) }
-        ensures standing_first { IsUncreated (settings_of asked.now.options
-            (types_of T.name T.size T.alignment U.name U.size U.alignment)) None
+        ensures standing_first { IsUncreated (settings_of (types_of T.name T.size T.alignment U.name U.size U.alignment)
+            asked.now.options) None
             → first_look asked.now steps.now hub.old ≡ Some Described
             → (result ≡ Err (create_refused asked.now.options uncreated.AlreadyExists)) × (self.new.made ≡ self.old.made)
             × (hub.new ≡ hub.old) }
@@ -113,8 +113,8 @@ impl Factories {
         steps: &[StepBefore],
     ) -> Result<u64, Refusal>
         requires number { self.old.made.next + 1 < 2 ^ 64 }
-        requires settings { IsUncreated (settings_of asked.now.options
-            (types_of T.name T.size T.alignment U.name U.size U.alignment)) None }
+        requires settings { IsUncreated (settings_of (types_of T.name T.size T.alignment U.name U.size U.alignment)
+            asked.now.options) None }
         ensures creates { CreatesNumbered true (detail FixedSize T.name T.size T.alignment)
             (detail FixedSize U.name U.size U.alignment) (types_of T.name T.size T.alignment U.name U.size U.alignment) asked.now
             attributes.now steps.now self.old.made hub.old (Some result) self.new.made hub.new }

@@ -5,8 +5,8 @@ ghost use Rattle.iox_hub_base.specs.DescribeBase.declared.type_detail.TypeVarian
 ghost use Rattle.iox_hub_base.specs.Hubs.{is_node};
 ghost use Rattle.iox_command.specs.NegotiateBase.declared.failure.CreateFailure.{CreateFailure};
 ghost use Rattle.iox_hub_commands.specs.Asked.{types_of};
-ghost use Rattle.iox_hub_commands.specs.Described.{settings_of};
 ghost use Rattle.iox_hub_commands.specs.Either.{EitherNumbered, either_lacking};
+ghost use Rattle.iox_machine.specs.Asked.{settings_of};
 ghost use Rattle.iox_hub_base.specs.declared.hub.HashState.TheVariants.{Absent, Locked};
 ghost use Rattle.iox_hub_commands.specs.Refusing.{IsUncreated, either_locked, either_refused, first_look};
 
@@ -51,7 +51,7 @@ impl Factories {
             (detail FixedSize U.name U.size U.alignment) (types_of T.name T.size T.alignment U.name U.size U.alignment) asked.now
             attributes steps.now self.old.made hub.old result self.new.made hub.new }
         ensures settings_first { is_node asked.now.node hub.old.nodes ≡ true → (failure : CreateFailure)
-            → IsUncreated (settings_of asked.now.options (types_of T.name T.size T.alignment U.name U.size U.alignment)) (Some failure)
+            → IsUncreated (settings_of (types_of T.name T.size T.alignment U.name U.size U.alignment) asked.now.options) (Some failure)
             → first_look asked.now steps.now hub.old ≡ Some Absent
             → (result ≡ Some (Err (either_refused asked.now.options failure))) × (self.new.made ≡ self.old.made) × (hub.new ≡ hub.old) }
         ensures locked_first { is_node asked.now.node hub.old.nodes ≡ true → first_look asked.now steps.now hub.old ≡ Some Locked
@@ -77,7 +77,7 @@ impl Factories {
             (detail FixedSize U.name U.size U.alignment) (types_of T.name T.size T.alignment U.name U.size U.alignment) asked.now
             attributes steps.now self.old.made hub.old (Some result) self.new.made hub.new }
         ensures settings_first { (failure : CreateFailure)
-            → IsUncreated (settings_of asked.now.options (types_of T.name T.size T.alignment U.name U.size U.alignment)) (Some failure)
+            → IsUncreated (settings_of (types_of T.name T.size T.alignment U.name U.size U.alignment) asked.now.options) (Some failure)
             → first_look asked.now steps.now hub.old ≡ Some Absent
             → (result ≡ Err (either_refused asked.now.options failure)) × (self.new.made ≡ self.old.made) × (hub.new ≡ hub.old) }
         ensures locked_first { first_look asked.now steps.now hub.old ≡ Some Locked

@@ -50,11 +50,13 @@ pub(crate) trait CommandPattern: Negotiated {
 
 impl CommandPattern for PublishSubscribe {
     ghost use Rattle.iox_command.specs.declared.refusal.Refusal.TheVariants as refusal;
-    ghost use Rattle.iox_hub_commands.specs.Asked.{asked_publish_subscribe};
+    ghost use Rattle.std.specs.Prelude.{[]};
+    ghost use Rattle.iox_hub_base.specs.DescribeBase.Attributes.{required};
+    ghost use Rattle.iox_hub_commands.specs.Asked.{required_publish_subscribe};
 
     type Options = PublishSubscribeOptions;
 
-    ghost asks = { asked_publish_subscribe };
+    ghost asks = { λ options types. required_publish_subscribe options types (required [] []) };
 
     ghost create_refusal = { refusal.PublishSubscribeCreate };
 
@@ -81,11 +83,13 @@ impl CommandPattern for PublishSubscribe {
 
 impl CommandPattern for Event {
     ghost use Rattle.iox_command.specs.declared.refusal.Refusal.TheVariants as refusal;
-    ghost use Rattle.iox_hub_commands.specs.Asked.{asked_event};
+    ghost use Rattle.std.specs.Prelude.{[]};
+    ghost use Rattle.iox_hub_base.specs.DescribeBase.Attributes.{required};
+    ghost use Rattle.iox_hub_commands.specs.Asked.{required_event};
 
     type Options = EventOptions;
 
-    ghost asks = { λ options types. asked_event options };
+    ghost asks = { λ options types. required_event options (required [] []) };
 
     ghost create_refusal = { refusal.EventCreate };
 
@@ -112,11 +116,13 @@ impl CommandPattern for Event {
 
 impl CommandPattern for RequestResponse {
     ghost use Rattle.iox_command.specs.declared.refusal.Refusal.TheVariants as refusal;
-    ghost use Rattle.iox_hub_commands.specs.Asked.{asked_request_response};
+    ghost use Rattle.std.specs.Prelude.{[]};
+    ghost use Rattle.iox_hub_base.specs.DescribeBase.Attributes.{required};
+    ghost use Rattle.iox_hub_commands.specs.Asked.{required_request_response};
 
     type Options = RequestResponseOptions;
 
-    ghost asks = { asked_request_response };
+    ghost asks = { λ options types. required_request_response options types (required [] []) };
 
     ghost create_refusal = { refusal.RequestResponseCreate };
 

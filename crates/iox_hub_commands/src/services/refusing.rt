@@ -3,9 +3,9 @@
 ghost use Rattle.std.specs.Prelude.{◌≡◌, Option};
 ghost use Rattle.iox_command.specs.NegotiateBase.declared.failure.CreateFailure.{CreateFailure};
 ghost use Rattle.iox_hub_commands.specs.Asked.{types_of};
-ghost use Rattle.iox_hub_commands.specs.Described.{settings_of};
 ghost use Rattle.iox_hub_commands.specs.Refusing.{IsUncreated, create_refused, either_refused, open_absent, open_locked, either_locked};
 ghost use Rattle.iox_hub_commands.specs.Refusing.{first_look, open_told, create_told, either_told};
+ghost use Rattle.iox_machine.specs.Asked.{settings_of};
 
 use crate::services::asked::ServiceAsked;
 use crate::services::requests::{
@@ -24,14 +24,14 @@ use iox_negotiate_base::{CreateFailure, OpenFailure, OpenOrCreateFailure};
 pub fn uncreated<T: ZeroCopySend, U: ZeroCopySend>(
     options: &ServiceOptions,
 ) -> Option<CreateFailure>
-    ensures { IsUncreated (settings_of options.now (types_of T.name T.size T.alignment U.name U.size U.alignment)) result }
+    ensures { IsUncreated (settings_of (types_of T.name T.size T.alignment U.name U.size U.alignment) options.now) result }
 {
     uncreated_of(options, message_types::<T, U>())
 }
 
 // The same, for messages of these types.
 fn uncreated_of(options: &ServiceOptions, types: MessageTypeDetails) -> Option<CreateFailure>
-    ensures { IsUncreated (settings_of options.now types) result }
+    ensures { IsUncreated (settings_of types options.now) result }
 {
     match options {
         ServiceOptions::PublishSubscribe(options) => settings_refusal::<PublishSubscribe>(
@@ -202,7 +202,7 @@ pub fn neither_at_first_look<T: Copy + ZeroCopySend, U: Copy + ZeroCopySend, B: 
     steps: &[StepBefore],
 ) -> Option<Refusal>
     ensures told { (refused : Option CreateFailure)
-        × IsUncreated (settings_of asked.now.options (types_of T.name T.size T.alignment U.name U.size U.alignment)) refused
+        × IsUncreated (settings_of (types_of T.name T.size T.alignment U.name U.size U.alignment) asked.now.options) refused
         × (result ≡ either_told asked.now.options refused (first_look asked.now steps.now hub.old)) }
     ensures same { hub.new ≡ hub.old }
 {

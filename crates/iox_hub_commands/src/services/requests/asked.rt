@@ -1,7 +1,8 @@
 //! What is asked of a service of each pattern.
-ghost use Rattle.std.specs.Prelude.{◌≡◌};
+ghost use Rattle.std.specs.Prelude.{◌≡◌, []};
 ghost use Rattle.std.specs.Option.{option_map};
-ghost use Rattle.iox_hub_commands.specs.Asked.{types_of, set_to, asked_event, asked_publish_subscribe, asked_request_response};
+ghost use Rattle.iox_hub_base.specs.DescribeBase.Attributes.{required};
+ghost use Rattle.iox_hub_commands.specs.Asked.{types_of, set_to, required_event, required_publish_subscribe, required_request_response};
 
 use iox_command::{EventOptions, NumberOrOff, PublishSubscribeOptions, RequestResponseOptions};
 use iox_describe_base::{AttributeVerifier, Header, MessageTypeDetails, TypeVariant, ZeroCopySend};
@@ -19,7 +20,7 @@ pub fn publish_subscribe(
     options: &PublishSubscribeOptions,
     types: MessageTypeDetails,
 ) -> requirement::publish_subscribe::Requirement
-    ensures { result ≡ asked_publish_subscribe options.now types }
+    ensures { result ≡ required_publish_subscribe options.now types (required [] []) }
 {
     requirement::publish_subscribe::Requirement {
         types,
@@ -37,7 +38,7 @@ pub fn publish_subscribe(
 
 /// What is asked of an event service: each setting that is named, and no attribute.
 pub fn event(options: &EventOptions) -> requirement::event::Requirement
-    ensures { result ≡ asked_event options.now }
+    ensures { result ≡ required_event options.now (required [] []) }
 {
     requirement::event::Requirement {
         attributes: AttributeVerifier::new(),
@@ -58,7 +59,7 @@ pub fn request_response(
     options: &RequestResponseOptions,
     types: MessageTypeDetails,
 ) -> requirement::request_response::Requirement
-    ensures { result ≡ asked_request_response options.now types }
+    ensures { result ≡ required_request_response options.now types (required [] []) }
 {
     let same = types;
     requirement::request_response::Requirement {

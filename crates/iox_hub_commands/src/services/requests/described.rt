@@ -1,12 +1,13 @@
 //! The service that a foreign node publishes.
-ghost use Rattle.std.specs.Prelude.{◌≡◌};
+ghost use Rattle.std.specs.Prelude.{◌≡◌, []};
 ghost use Rattle.iox_negotiate_table.specs.Describe.Within.{HasForm};
 ghost use Rattle.iox_hub_commands.specs.Asking.{agreed_of};
-ghost use Rattle.iox_hub_commands.specs.Described.{settings_of, described};
+ghost use Rattle.iox_machine.specs.Asked.{settings_of};
 
 use crate::services::requests::asked::{event, publish_subscribe, request_response};
 use iox_command::ServiceOptions;
-use iox_describe::pattern::{Event, PublishSubscribe, RequestResponse, RequiredPattern};
+use iox_describe::has_form;
+use iox_describe::pattern::{Event, Pattern, PublishSubscribe, RequestResponse};
 use iox_describe_base::{AttributeSpecifier, MessageTypeDetails, ServiceName, service_hash};
 use iox_describe_settings::{Description, Settings};
 use iox_negotiate::laws::parts_have_form;
@@ -18,14 +19,14 @@ pub fn description(
     options: &ServiceOptions,
     types: &MessageTypeDetails,
 ) -> Description
-    ensures value { result ≡ described name.now options.now types.now }
+    ensures value { result ≡ agreed_of name.now options.now types.now [] }
     ensures form { HasForm result }
 {
+    let hash = service_hash(options.pattern(), name);
     let settings = settings(options, *types);
-    let hash = service_hash(settings.pattern(), name);
-    let attributes = AttributeSpecifier::new();
-    parts_have_form(*name, hash, settings, &attributes);
-    Description::of_parts(*name, hash, settings, attributes)
+    let described = Description::of_parts(*name, hash, settings, AttributeSpecifier::new());
+    has_form(&described);
+    described
 }
 
 /// What would be agreed of a service that is created with these options and attributes has the form of a description, which is told of it.
@@ -44,20 +45,24 @@ pub fn agreed_has_form(
     parts_have_form(*name, hash, settings(options, *types), attributes);
 }
 
+// The settings that a service is created with of which options ask.
 fn settings(options: &ServiceOptions, types: MessageTypeDetails) -> Settings
-    ensures { result ≡ settings_of options.now types }
+    ensures { result ≡ settings_of types options.now }
 {
     match options {
         ServiceOptions::PublishSubscribe(options) => {
-            let asked = PublishSubscribe::asked(&publish_subscribe(options, types));
-            Settings::PublishSubscribe(asked.adjusted())
+            created_settings::<PublishSubscribe>(&publish_subscribe(options, types))
         }
-        ServiceOptions::Event(options) => {
-            Settings::Event(Event::asked(&event(options)).adjusted())
-        }
+        ServiceOptions::Event(options) => created_settings::<Event>(&event(options)),
         ServiceOptions::RequestResponse(options) => {
-            let asked = RequestResponse::asked(&request_response(options, types));
-            Settings::RequestResponse(asked.adjusted())
+            created_settings::<RequestResponse>(&request_response(options, types))
         }
     }
+}
+
+// Those that a service of a pattern is created with of which this is asked.
+fn created_settings<P: Pattern>(requirement: &P::Requirement) -> Settings
+    ensures { result ≡ P.settings (P.adjusted (P.asked requirement.now)) }
+{
+    P::settings(P::adjusted(P::asked(requirement)))
 }

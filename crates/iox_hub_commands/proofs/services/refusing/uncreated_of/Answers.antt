@@ -1,10 +1,16 @@
+use Rattle.iox_hub_commands.proofs.Ruled.{refused_by_rules}
 use Rattle.iox_hub_commands.proofs.services.refusing.uncreated_of.Goals as goal
 
 pub returns-in-PublishSubscribe : goal.returns-in-PublishSubscribe
-returns-in-PublishSubscribe c = rw c.in-PublishSubscribe.is (rw c.publish_subscribe.ensures at c.settings_refusal.ensures)
+returns-in-PublishSubscribe c =
+    refused_by_rules c.args.types c.args.options.now _
+    (rw c.in-PublishSubscribe.is (rw c.publish_subscribe.ensures at c.settings_refusal.ensures))
 
 pub returns-in-Event : goal.returns-in-Event
-returns-in-Event c = rw c.in-Event.is (rw c.event.ensures at c.settings_refusal-in-Event.ensures)
+returns-in-Event c =
+    refused_by_rules c.args.types c.args.options.now _ (rw c.in-Event.is (rw c.event.ensures at c.settings_refusal-in-Event.ensures))
 
 pub returns-in-RequestResponse : goal.returns-in-RequestResponse
-returns-in-RequestResponse c = rw c.in-RequestResponse.is (rw c.request_response.ensures at c.settings_refusal-in-RequestResponse.ensures)
+returns-in-RequestResponse c =
+    refused_by_rules c.args.types c.args.options.now _
+    (rw c.in-RequestResponse.is (rw c.request_response.ensures at c.settings_refusal-in-RequestResponse.ensures))
