@@ -38,7 +38,7 @@ module _ {X : Type 0} (IsSo : X → Type 0) where
   nobody_each = (All-nil IsSo, All-nil IsSo)
 
   -- another connection stands at an index
-  pub set_each : (connections : List (Connection X)) (index : ℕ) (connection : Connection X)
+  set_each : (connections : List (Connection X)) (index : ℕ) (connection : Connection X)
       → ((other : ℕ) → EachAt (get_or connections other nobody)) → EachAt connection → (other : ℕ)
       → EachAt (get_or (set connections index connection) other nobody)
   set_each [] index connection all here other = all other
@@ -148,7 +148,7 @@ module _ {T U : Type 0} (P : Header → Message T U → Type 0) where
     so_if false one other is_one is_other = is_other
 
     -- a connection ends
-    pub so_ended : (index : ℕ) (port : PublisherPort T U) → IsSo port → IsSo (ended_at index port)
+    so_ended : (index : ℕ) (port : PublisherPort T U) → IsSo port → IsSo (ended_at index port)
     so_ended index port so =
         so_if (is_live index port)
         (record (with_connection_of index (ended (connection_of index port)) port) { readers = set port.readers index None }) port (

@@ -20,6 +20,7 @@ use Rattle.iox_domain.specs.DomainValues.declared.backpressure.BackpressureDecis
 use Rattle.iox_domain.specs.DomainValues.declared.backpressure.BackpressureInfo.{BackpressureInfo}
 use Rattle.iox_domain.specs.DomainValues.declared.degradation.DegradationAction.{DegradationAction}
 use Rattle.iox_domain.specs.DomainValues.declared.degradation.DegradationInfo.{DegradationInfo}
+use Rattle.iox_domain.specs.DomainValues.declared.port_error.LoanError.{LoanError}
 use Rattle.iox_domain.specs.DomainValues.declared.port_error.SendError.{SendError}
 use Rattle.iox_domain.specs.Lending as lending
 use Rattle.iox_domain.specs.Lending.{LoansOne}
@@ -86,8 +87,16 @@ module _ {T U : Type 0} (may : DegradationInfo → DegradationAction → Type 0)
   tell_more : (more : List (SentHeader T U)) → TellAsSent names_then (sent ++ more) old
   tell_more more = longer names_then sent more old (renamed names names_then sent old still tell)
 
-  abbrev Comes : Option (Result Sent SendError) → ServicePorts T U → Type 0
-  Comes answer new = (slot : ℕ) × TellAsSent names_then (sent ++ headed_as_put names_then number slot values answer old) new
+  -- so it is where a loan is made, or refused
+  pub lends_tell : (answer : Option (Result ℕ LoanError)) (new : ServicePorts T U)
+      → LoansBy number (length values) (length values) old answer new → (more : List (SentHeader T U))
+      → TellAsSent names_then (sent ++ more) new
+  lends_tell answer new lends more =
+      calls_go (Among names_then (sent ++ more)) any_slots may decide (Lends number (length values) (length values) answer) old new lends tt
+      (tell_more more)
+
+  abbrev Tells : ℕ → Option (Result Sent SendError) → ServicePorts T U → Type 0
+  Tells slot answer new = TellAsSent names_then (sent ++ headed_as_put names_then number slot values answer old) new
 
   module _ (slot : ℕ) (port lender : PublisherPort T U) (there : port_of number old.publishers ≡ Some port)
       (loans : LoansOne (length values) (length values) port (Some (Ok slot)) lender) where
@@ -144,23 +153,19 @@ module _ {T U : Type 0} (may : DegradationInfo → DegradationAction → Type 0)
     sends_put : (result : Result Sent SendError) (new : ServicePorts T U)
         → SendsBy may decide number slot written (Some result) new
         → LoansBy number (length values) (length values) old (Some (Ok slot)) (with_publisher number lender old)
-        → Comes (Some result) new
-    sends_put result new sends lends = (
-      slot,
-      calls_go (Among names_then (sent ++ more result)) any_slots may decide (Sends number slot (Some result)) written new sends
-          (begun result)
-          (calls_go (Among names_then (sent ++ more result)) any_slots may decide
-          (Writes number slot (λ one. has_length slot (length values) one.sender.uses) (write_all values))
-          (with_publisher number lender old) written refl tt
-          (calls_go (Among names_then (sent ++ more result)) any_slots may decide
-          (Lends number (length values) (length values) (Some (Ok slot))) old (with_publisher number lender old) lends tt
-          (tell_more (more result)))),
-    )
+        → Tells slot (Some result) new
+    sends_put result new sends lends =
+        calls_go (Among names_then (sent ++ more result)) any_slots may decide (Sends number slot (Some result)) written new sends
+        (begun result)
+        (calls_go (Among names_then (sent ++ more result)) any_slots may decide
+        (Writes number slot (λ one. has_length slot (length values) one.sender.uses) (write_all values))
+        (with_publisher number lender old) written refl tt
+        (lends_tell (Some (Ok slot)) (with_publisher number lender old) lends (more result)))
 
-  made_puts : (slot : ℕ) (found : Option (PublisherPort T U)) (made new : ServicePorts T U) (result : Result Sent SendError)
+  pub made_puts : (slot : ℕ) (found : Option (PublisherPort T U)) (made new : ServicePorts T U) (result : Result Sent SendError)
       → port_of number old.publishers ≡ found
       → AtPublisher number (LoansOne (length values) (length values)) found old (Some (Ok slot)) made
-      → SendsBy may decide number slot (with_values_in number slot values made) (Some result) new → Comes (Some result) new
+      → SendsBy may decide number slot (with_values_in number slot values made) (Some result) new → Tells slot (Some result) new
   made_puts slot None made new result there call sends = never_some (Ok slot) (sym call.0)
   made_puts slot (Some port) made new result there (lender, loans, is) sends =
       sends_put slot port lender there loans result new
@@ -171,25 +176,24 @@ module _ {T U : Type 0} (may : DegradationInfo → DegradationAction → Type 0)
       (with_publisher number lender old)) (sym there) (lender, loans, refl))
 
   parts_put : (answer : Option (Result Sent SendError)) (new : ServicePorts T U) → PutParts may decide number values old answer new
-      → Comes answer new
+      → (slot : ℕ) × Tells slot answer new
   parts_put answer new (inl busy) = (
     0,
-    subst (λ (ports : ServicePorts T U). TellAsSent names_then
-        (sent ++ headed_as_put names_then number 0 values answer old) ports) (sym busy.1)
+    subst (λ (ports : ServicePorts T U). Tells 0 answer ports) (sym busy.1)
         (tell_more (headed_as_put names_then number 0 values answer old)),
   )
   parts_put answer new (inr (inl refused)) = (
     0,
-    calls_go (Among names_then (sent ++ headed_as_put names_then number 0 values answer old)) any_slots may decide
-        (Lends number (length values) (length values) (Some (Err refused.0))) old new refused.2 tt
-        (tell_more (headed_as_put names_then number 0 values answer old)),
+    lends_tell (Some (Err refused.0)) new refused.2 (headed_as_put names_then number 0 values answer old),
   )
-  parts_put answer new (inr (inr (slot, made, result, is, lends, goes))) =
-      subst (λ (told : Option (Result Sent SendError)). Comes told new) (sym is)
-      (made_puts slot (port_of number old.publishers) made new result refl lends goes)
+  parts_put answer new (inr (inr (slot, made, result, is, lends, goes))) = (
+    slot,
+    subst (λ (told : Option (Result Sent SendError)). Tells slot told new) (sym is)
+        (made_puts slot (port_of number old.publishers) made new result refl lends goes),
+  )
 
-  pub puts_go_on : (new : ServicePorts T U) (answer : Option (Result Sent SendError)) → PutsBy may decide number values old answer new
-      → Comes answer new
+  puts_go_on : (new : ServicePorts T U) (answer : Option (Result Sent SendError)) → PutsBy may decide number values old answer new
+      → (slot : ℕ) × Tells slot answer new
   puts_go_on new answer call = parts_put answer new (puts_in_parts may decide number values old answer new call)
 
 pub headers_are_as_sent : (T U : Type 0) (overrides : ℕ → ℕ → Type 0) (may : DegradationInfo → DegradationAction → Type 0)

@@ -1,7 +1,8 @@
 -- A publisher puts, of a domain and of the machine.
 use Rattle.std.proofs.Common.{◌≡◌, ◌≢◌, ◌+◌, ◌∷◌, [], ◌++◌, ℕ, Bool, false, cond, List, length, map, nat_lt, true, Option, None, Some}
-use Rattle.std.proofs.Common.{Result, Ok, Err, refl, sym, ap, subst, inl, inr, ◌∙◌, arith}
-use Rattle.std.specs.Prelude.{⊤, filter_map, option_and_then, MatchBool}
+use Rattle.std.proofs.Common.{Result, Ok, Err, refl, sym, ap, subst, inl, inr, ◌∙◌, arith, ◌&&◌, if◌then◌else◌, is_some, ⊎_elim}
+use Rattle.std.proofs.lemmas.Bool.{cases_Bool, eq-eqb}
+use Rattle.std.specs.Prelude.{⊤, filter_map, option_and_then, option_map, option_to_list, MatchBool}
 use Rattle.iox_command.specs.DomainValues.declared.backpressure.BackpressureDecision.{BackpressureDecision}
 use Rattle.iox_command.specs.DomainValues.declared.backpressure.BackpressureInfo.{BackpressureInfo}
 use Rattle.iox_command.specs.DomainValues.declared.degradation.DegradationAction.{DegradationAction}
@@ -17,37 +18,49 @@ use Rattle.iox_command.specs.declared.reply.Reply.{Reply}
 use Rattle.iox_command.specs.declared.reply.Reply.TheVariants as reply
 use Rattle.iox_domain.proofs.StayRoomy.{stay_roomy}
 use Rattle.iox_domain.specs.Calls.{Lends, Writes}
-use Rattle.iox_domain.specs.DomainPorts.Messages.{write_all}
+use Rattle.iox_domain.specs.DomainPorts.Messages.{write_all, written_of}
 use Rattle.iox_domain.specs.DomainPorts.MessagesSending.{has_length}
+use Rattle.iox_domain.specs.DomainPorts.Publishers.{port_of}
 use Rattle.iox_domain.specs.DomainPorts.declared.attached.Taken.{Taken}
 use Rattle.iox_domain.specs.DomainPorts.declared.meeting.Sent.{Sent}
 use Rattle.iox_domain.specs.DomainPorts.declared.meeting.Sent.TheVariants as sent
+use Rattle.iox_domain.specs.DomainPorts.declared.publisher_port.PublisherPort.{PublisherPort}
+use Rattle.iox_domain.specs.DomainValues.Sequences.{next_sequence}
+use Rattle.iox_domain.specs.Lending.{LoansOne}
+use Rattle.iox_domain.specs.Order as order
+use Rattle.iox_domain.specs.Ports.{AtPublisher}
 use Rattle.iox_domain.specs.Roomy.{AreRoomy}
-use Rattle.iox_domain.specs.Steps.{LoansBy}
+use Rattle.iox_domain.specs.Steps.{LoansBy, SendsBy}
 use Rattle.iox_domain.specs.declared.ports.service_ports.ServicePorts.{ServicePorts}
-use Rattle.iox_domain_machine.specs.Laws.{Matches}
+use Rattle.iox_domain_machine.specs.Laws.{Matches, with_alone}
 use Rattle.iox_domain_machine.specs.LendingLaws.{with_lent_name, with_values_in}
-use Rattle.iox_domain_machine.specs.Naming.{Naming, with_name}
+use Rattle.iox_domain_machine.specs.Naming.{Naming, message_as, with_name}
 use Rattle.iox_domain_machine.specs.PublisherUpdateLaws.{DegradesAs}
 use Rattle.iox_domain_machine.specs.PutLaws.{PutMatches}
 use Rattle.iox_domain_machine.specs.SendLaws.{sent_or_skipped, DecidesAs}
-use Rattle.iox_domain_machine.specs.SentHeaders.{AreStillNamed}
+use Rattle.iox_domain_machine.specs.SentHeaders.{AreStillNamed, PutTells, SentHeader, headed_as_put, headed_where_put, put_from}
 use Rattle.iox_domain_machine.specs.Standing.{StandsFor}
-use Rattle.iox_domain_machine.specs.Tables.{LentSlot}
+use Rattle.iox_domain_machine.specs.Tables.{LentSlot, loan_as}
 use Rattle.iox_domain_machine.proofs.AloneDid.{by_bool, by_option}
 use Rattle.iox_domain_machine.proofs.Found.{same_some, never_some, at_changed}
 use Rattle.iox_domain_machine.proofs.Lending.{lend_uninit_matches}
 use Rattle.iox_domain_machine.proofs.LendingBack.{LentBy, service_with, free_does, busy_skips}
 use Rattle.iox_domain_machine.proofs.LendingFilled.{LoanMatched, lent_so, none_there, filled_stands}
+use Rattle.iox_domain_machine.proofs.PutHeaders.{lends_tell, made_puts}
 use Rattle.iox_domain_machine.proofs.PuttingParts.{PutParts, puts_in_parts}
-use Rattle.iox_domain_machine.proofs.SentHeaders.{lends_stays, others_stay}
+use Rattle.iox_domain_machine.proofs.SendBegins.{written_as}
+use Rattle.iox_domain_machine.proofs.SendHeaders.{same_begun}
+use Rattle.iox_domain_machine.proofs.SentHeaders.{lends_stays, longer, others_stay}
 use Rattle.iox_domain_machine.proofs.SendingBack.{sending_back}
 use Rattle.iox_domain_machine.proofs.SendingLoan.{send_matches}
 use Rattle.iox_domain_machine.proofs.TableEnds.{at_end, removed_end, numbers_total, none_above}
+use Rattle.iox_domain_machine.proofs.Writing.{goes_there}
 use Rattle.iox_machine.specs.Choices.{Choices}
 use Rattle.iox_machine.specs.Lending.{loan_refusal}
 use Rattle.iox_machine.specs.Message as machine
+use Rattle.iox_machine.specs.MessageLaws.{begun_by, first_in, next_message}
 use Rattle.iox_machine.specs.Ports.{publisher_in, Puts}
+use Rattle.iox_machine.specs.RunLaws.{has_begun}
 use Rattle.iox_machine.specs.Sending.{Sends}
 use Rattle.iox_machine.specs.Service.{Service, Publisher}
 use Rattle.iox_machine.proofs.Shorthands.{with_publisher, LendsLonger}
@@ -158,7 +171,7 @@ module _ {T U : Type 0} (types : MessageTypeDetails) (choices : Choices T) (buff
 
   abbrev Comes : Option (Result Sent SendError) → ServicePorts T U → Type 0
   Comes answer new = (message : ℕ → ℕ → ℕ) × (reader : ℕ → ℕ → ℕ)
-      × AreStillNamed names (record names { message = message; reader = reader }) old
+      × (slot : ℕ) × PutTells names (record names { message = message; reader = reader }) number slot values answer old new service state
       × Matches T U choices types buffer (command.Put name values) (sent_or_skipped answer) state service
       (record names { message = message; reader = reader }) lent held new
 
@@ -168,6 +181,15 @@ module _ {T U : Type 0} (types : MessageTypeDetails) (choices : Choices T) (buff
   came answer made lends = lend_uninit_matches T U choices types buffer names lent held old made service before number (length values)
       answer stands roomy.sound known fresh lends
 
+  -- the machine begins no send
+  begins_none : (told : Reply T) → has_begun told ≡ false
+      → [] ≡ option_to_list (begun_by name (command.Put name values) (with_alone service state) told)
+  begins_none told off =
+      ap option_to_list (sym (ap (λ (b : Bool). if b && has_begun told then option_map (next_message values)
+      (first_in (publisher_in name) (with_alone service state)) else None) (eq-eqb name name refl)
+      ∙ ap (λ (b : Bool). if b then option_map (next_message values) (first_in (publisher_in name) (with_alone service state)) else None)
+      off))
+
   -- nobody puts
   none_puts : LoansBy number (length values) (length values) old None old → Comes None old
   none_puts lends =
@@ -175,7 +197,12 @@ module _ {T U : Type 0} (types : MessageTypeDetails) (choices : Choices T) (buff
       let busy = lent_so types choices buffer names lent held old old service before number (length values) stands fresh None here in (
         names.message,
         names.reader,
-        others_stay names names old refl refl,
+        0,
+        record {
+          still = others_stay names names old refl refl;
+          begins = begins_none reply.Skipped refl;
+          goes_on = λ told tell. longer names told [] old tell;
+        },
         (service, busy_skips name service state (Puts choices name values) busy.0, stands),
       )
 
@@ -189,7 +216,14 @@ module _ {T U : Type 0} (types : MessageTypeDetails) (choices : Choices T) (buff
       let by = so.0 in (
         names.message,
         names.reader,
-        others_stay names names old refl refl,
+        0,
+        record {
+          still = others_stay names names old refl refl;
+          begins = begins_none (reply.Refused (refusal.Send (error.LoanError why))) refl;
+          goes_on = λ told tell.
+              lends_tell may_degrade may names names told number values old (others_stay names names old refl refl) tell
+              (Some (Err why)) new lends [];
+        },
         (
           service,
           free_does name service state (Puts choices name values) by.publisher by.there by.free
@@ -251,12 +285,74 @@ module _ {T U : Type 0} (types : MessageTypeDetails) (choices : Choices T) (buff
         (lender_keeps (DecidesAs choices may name) (λ one room segments first next as_before. as_before) name (length values) service by
         (decides by.publisher (standing_at name service by.publisher by.there) (standing_there name service by.publisher by.there)))
 
+    -- what is told of it is told of the message that the machine's publisher puts
+    its_number : names_now.message number slot ≡ by.publisher.next
+    its_number =
+        ap (λ (it : machine.Loan T). it.number)
+        (same_some (loan_as names_now written out) one
+        (sym (goes_there names_now lent_now held buffer written now loan out now_stands (at_end loan out lent fresh))
+        ∙ at_end loan one service.loans none_here))
+
+    its_port : (found : Option (PublisherPort T U)) → port_of number old.publishers ≡ found
+        → AtPublisher number (LoansOne (length values) (length values)) found old (Some (Ok slot)) made
+        → (port : PublisherPort T U) × (port_of number old.publishers ≡ Some port)
+    its_port None none call = never_some (Ok slot) (sym call.0)
+    its_port (Some port) there call = (port, there)
+
+    put_is : (port : PublisherPort T U) → port_of number old.publishers ≡ Some port
+        → message_as (names_now.message port.number) (put_from slot values port) ≡ next_message values by.publisher
+    put_is port there =
+        let was = stands.publishers number port there in
+        let same : was.0 ≡ by.publisher
+        = same_some was.0 by.publisher (sym was.1 ∙ standing_at name service by.publisher by.there) in
+        let last : port.last_sequence ≡ by.publisher.last_sequence
+        = sym was.2.last_sequence ∙ ap (λ (it : Publisher T). it.last_sequence) same in
+        let whole : written_of (map Some values) ≡ values = sym (written_as (map Some values)) ∙ values_written values in
+        ap (λ (n : ℕ). record (message_as (names_now.message port.number) (put_from slot values port)) { number = n })
+        (ap (λ n. names_now.message n slot) (stands.numbered number port there) ∙ its_number)
+        ∙ ap (λ (last : Option ℕ). record (next_message (written_of (map Some values)) by.publisher) { sequence = next_sequence last }) last
+        ∙ ap (λ (it : List T). next_message it by.publisher) whole
+
+    put_begins : (told : Reply T) → has_begun told ≡ true
+        → begun_by name (command.Put name values) (with_alone service state) told ≡ Some (next_message values by.publisher)
+    put_begins told on =
+        ap (λ (b : Bool). if b && has_begun told then option_map (next_message values)
+        (first_in (publisher_in name) (with_alone service state)) else None) (eq-eqb name name refl)
+        ∙ ap (λ (b : Bool). if b then option_map (next_message values) (first_in (publisher_in name) (with_alone service state)) else None)
+        on
+        ∙ ap (λ (found : Option (Publisher T)). option_map (next_message values)
+        (option_and_then (publisher_in name) (cond (is_some found) (Some service) None))) by.there
+        ∙ ap (option_map (next_message values)) by.there
+
+    put_told : (answer : Result Sent SendError)
+        → map (λ (told : SentHeader T U). told.message) (headed_as_put names_now number slot values (Some answer) old)
+        ≡ option_to_list (begun_by name (command.Put name values) (with_alone service state) (sent_or_skipped (Some answer)))
+    put_told answer = ⊎_elim
+        (λ on.
+        let (port, there) = its_port (port_of number old.publishers) refl lends in
+        ap (λ (b : Bool). map (λ (told : SentHeader T U). told.message)
+        (if b then headed_where_put names_now slot values (port_of number old.publishers) else [])) on
+        ∙ ap (λ (found : Option (PublisherPort T U)). map (λ (told : SentHeader T U). told.message)
+        (headed_where_put names_now slot values found)) there
+        ∙ ap (λ (it : machine.Message T). it ∷ []) (put_is port there)
+        ∙ sym (ap option_to_list (put_begins (sent_or_skipped (Some answer)) (same_begun T (Some answer) ∙ on))))
+        (λ off.
+        ap (λ (b : Bool). map (λ (told : SentHeader T U). told.message)
+        (if b then headed_where_put names_now slot values (port_of number old.publishers) else [])) off
+        ∙ begins_none (sent_or_skipped (Some answer)) (same_begun T (Some answer) ∙ off))
+        (cases_Bool (order.has_begun (Some answer)))
+
+    -- what was in use keeps its names
+    still_now : AreStillNamed names names_now old
+    still_now = lends_stays names lent held buffer old service stands number (length values) (length values) here.0 (Some (Ok slot)) made
+        lends
+
     -- and is sent
     sends_now : (answer : Result Sent SendError) (new : ServicePorts T U) (reader : ℕ → ℕ → ℕ)
         → Matches T U choices types buffer (command.Send loan) (sent_or_skipped (Some answer)) state now
         (record names_now { reader = reader }) (removed loan lent_now) held new
-        → Comes (Some answer) new
-    sends_now answer new reader sent =
+        → SendsBy may_degrade may number slot written (Some answer) new → Comes (Some answer) new
+    sends_now answer new reader sent goes =
         let sends = sending_back choices loan now sent.0 (sent_or_skipped (Some answer)) (not_skipped answer) types buffer state one
         by.after (at_end loan one service.loans none_here) there_now sent.1 in
         let as_put : Sends choices name (record { number = by.publisher.next; sequence = None; values = values }) by.after
@@ -270,7 +366,14 @@ module _ {T U : Type 0} (types : MessageTypeDetails) (choices : Choices T) (buff
         (record now { loans = removed loan now.loans }) (sent_or_skipped (Some answer)) sent.0) (values_written values) sends) in (
           names_now.message,
           reader,
-          lends_stays names lent held buffer old service stands number (length values) (length values) here.0 (Some (Ok slot)) made lends,
+          slot,
+          record {
+            still = still_now;
+            begins = put_told answer;
+            goes_on = λ told tell.
+                made_puts may_degrade may names names_now told number values old still_now tell slot (port_of number old.publishers) made
+                new answer refl lends goes;
+          },
           (
             sent.0,
             free_does name service state (Puts choices name values) by.publisher by.there by.free (sent_or_skipped (Some answer)) sent.0
@@ -304,7 +407,7 @@ module _ {T U : Type 0} (types : MessageTypeDetails) (choices : Choices T) (buff
       (now_stands slot made lends) (now_roomy slot made lends) (at_end loan (out slot made lends) lent fresh)
       (decides_now slot made lends) (degrades_now slot made lends degrades) goes in
       subst (λ (told : Option (Result Sent SendError)). Comes told new) (sym is)
-      (sends_now slot made lends result new (with_name number sent.0 names.reader) sent.1)
+      (sends_now slot made lends result new (with_name number sent.0 names.reader) sent.1 goes)
 
 pub put_matches : (T U : Type 0) (choices : Choices T) (may : BackpressureInfo → BackpressureDecision → Type 0)
     (may_degrade : DegradationInfo → DegradationAction → Type 0) → PutMatches T U choices may may_degrade

@@ -36,7 +36,7 @@ use Rattle.iox_machine.specs.State.{State}
 use Rattle.iox_machine.specs.Table.{at}
 
 -- both tell alike whether a send began
-same_begun : (T : Type 0) (answer : Option (Result Sent SendError)) → has_begun {T = T} (sent_or_skipped answer) ≡ order.has_begun answer
+pub same_begun : (T : Type 0) (answer : Option (Result Sent SendError)) → has_begun {T = T} (sent_or_skipped answer) ≡ order.has_begun answer
 same_begun T None = refl
 same_begun T (Some (Ok (sent.Delivered count))) = refl
 same_begun T (Some (Ok sent.Blocked)) = refl

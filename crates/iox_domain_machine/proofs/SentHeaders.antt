@@ -68,7 +68,7 @@ use Rattle.iox_machine.specs.Table.{at}
 -- ---- messages in use
 
 module _ {T U : Type 0} (port : PublisherPort T U) where
-  pub each_then : (A B : Message T U → Type 0) → ((message : Message T U) → A message → B message) → EachInUse A port → EachInUse B port
+  each_then : (A B : Message T U → Type 0) → ((message : Message T U) → A message → B message) → EachInUse A port → EachInUse B port
   each_then A B follows each = (
     λ message sends. follows message (each.0 message sends),
     All-weaker A B follows port.sender.uses.history each.1,

@@ -16,7 +16,7 @@ use Rattle.iox_domain_machine.specs.Laws.{Matches}
 use Rattle.iox_domain_machine.specs.Naming.{Naming}
 use Rattle.iox_domain_machine.specs.PublisherUpdateLaws.{DegradesAs}
 use Rattle.iox_domain_machine.specs.SendLaws.{sent_or_skipped, DecidesAs}
-use Rattle.iox_domain_machine.specs.SentHeaders.{AreStillNamed}
+use Rattle.iox_domain_machine.specs.SentHeaders.{PutTells}
 use Rattle.iox_domain_machine.specs.Standing.{StandsFor}
 use Rattle.iox_domain_machine.specs.Tables.{LentSlot}
 use Rattle.iox_machine.specs.Choices.{Choices}
@@ -26,8 +26,8 @@ use Rattle.iox_machine.specs.Table.{at}
 
 -- A publisher lends a message for some values, and sends it with them, or it is told why not. It follows the list of subscribers before it
 -- sends, where that changed. No loan that goes by a number is made. The message and connections get names, and what is in use keeps its
--- names. The ports are roomy: so they are after any calls, as `SamplesLeft` says. What may be decided at a full mailbox, and answered where
--- a connection failed, may be chosen for the machine's publisher.
+-- names. What is told of the message is told as its send begins. The ports are roomy: so they are after any calls, as `SamplesLeft` says.
+-- What may be decided at a full mailbox, and answered where a connection failed, may be chosen for the machine's publisher.
 abbrev pub PutMatches : (T U : Type 0) → Choices T → (BackpressureInfo → BackpressureDecision → Type 0)
     → (DegradationInfo → DegradationAction → Type 0) → Type 0
 PutMatches T U choices may may_degrade = (types : MessageTypeDetails) (buffer : ℕ) (names : Naming) (lent : List (ℕ × LentSlot))
@@ -38,6 +38,7 @@ PutMatches T U choices may may_degrade = (types : MessageTypeDetails) (buffer : 
     → DecidesAs choices may (names.publisher number) publisher)
     → DegradesAs choices may_degrade (names.publisher number) service
     → PutsBy may_degrade may number values old answer new
-    → (message : ℕ → ℕ → ℕ) × (reader : ℕ → ℕ → ℕ) × AreStillNamed names (record names { message = message; reader = reader }) old
+    → (message : ℕ → ℕ → ℕ) × (reader : ℕ → ℕ → ℕ) × (slot : ℕ)
+    × PutTells names (record names { message = message; reader = reader }) number slot values answer old new service state
     × Matches T U choices types buffer (command.Put (names.publisher number) values) (sent_or_skipped answer) state service
     (record names { message = message; reader = reader }) lent held new

@@ -116,6 +116,17 @@ module _ {T U : Type 0} where
       × EachInUse (λ message. names_then.message entry.1.number message.slot ≡ names.message entry.1.number message.slot) entry.1)
       ports.publishers
 
+  -- A put, from the slot that it takes, tells of the message of which the machine's command begins the send, or nothing where it begins
+  -- none. Names stay for what is in use, and nothing else changes what a message in use tells.
+  pub record PutTells (names names_then : Naming) (number slot : ℕ) (values : List T) (answer : Option (Result Sent SendError))
+      (old new : ServicePorts T U) (service : Service T) (state : State T) : Type 0 where
+    pub still : AreStillNamed names names_then old
+    pub begins : map (λ told. told.message) (headed_as_put names_then number slot values answer old)
+        ≡ option_to_list (begun_by (names.publisher number) (command.Put (names.publisher number) values) (with_alone service state)
+        (sent_or_skipped answer))
+    pub goes_on : (sent : List (SentHeader T U)) → TellAsSent names sent old
+        → TellAsSent names_then (sent ++ headed_as_put names_then number slot values answer old) new
+
   -- A sample reads what was told as the send of its message began: its header and its user header are of a send of the publisher and of the
   -- message that the machine's sample has.
   pub record ReadsAsSent (sent : List (SentHeader T U)) (ports : ServicePorts T U) (taken : Taken) (sample : Sample T) : Type 0 where

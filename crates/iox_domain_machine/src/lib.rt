@@ -209,7 +209,8 @@ pub fn sending_a_loan_matches<T: Default, U, B: Decides + Degrades, D: Degrades>
 /// happens; and it is refused as the machine's is, for the loan's reason or for the send's. Where the list of subscribers changed the
 /// publisher follows it between the loan and the send, as in a send. The ports are roomy, as they are after any calls
 /// (`iox_domain::allowances::samples::samples_left_by_calls`), and what may be decided at a full mailbox, and answered where a connection
-/// failed, may be chosen for the machine's publisher.
+/// failed, may be chosen for the machine's publisher. What a subscriber reads of the header and the user header of the message is told as
+/// its send begins, as in `headers_are_as_sent`.
 pub fn putting_matches<T: Default, U, B: Decides + Degrades, D: Degrades>(_handlers: &B)
     ensures { (handed : Handed B D) → PutMatches T U (chosen_by T.is_default (λ who. B.decides who)
         (λ who. B.degrades who) (λ who. D.degrades who) handed) (B.decides _handlers.now)
