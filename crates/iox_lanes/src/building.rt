@@ -262,7 +262,7 @@ fn first_slot(lanes: &Lanes, place: usize) -> u64
     ensures { result ≡ first_slot (slice_get lanes.now.publishers place) }
 {
     match lanes.publishers().get(place) {
-        Some(lane) => lane.first_slot(),
+        Some(lane) => lane.port().book().first(),
         None => 0,
     }
 }
@@ -569,7 +569,7 @@ fn route_place(lanes: &Lanes, place: usize, publishers: &[u64], number: u64) -> 
     let Some(lane) = lanes.subscribers().get(place) else {
         return u64::MAX;
     };
-    match route_from(lanes, publishers, number, lane.routes()) {
+    match route_from(lanes, publishers, number, lane.port().routes()) {
         Some(at) => at as u64,
         None => u64::MAX,
     }

@@ -273,13 +273,14 @@ fn restore_lane<T: Words, U: Words>(
         port.new.sender }
     ensures room { vec_capacity one.new ≡ vec_capacity one.old }
 {
+    let book = lane.port().book();
     let source = LeftPublisher {
         lanes,
         numbered,
         from,
         indices: row,
-        first: lane.first_slot(),
-        history: lane.history(),
+        first: book.first(),
+        history: book.history(),
     };
     let _rested = restore(&source, &mut port.sender, one);
     port.last_sequence = lane.last_sequence();

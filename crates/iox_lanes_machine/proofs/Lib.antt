@@ -3,6 +3,7 @@ pub mod Runs
 pub mod InTable
 pub mod Within
 pub mod StandsWithin
+pub mod StateSteps
 pub mod Ends
 pub mod Kept
 pub mod Steps

@@ -131,11 +131,20 @@ impl State {
         requires { IsWithin (world_of self.now) }
         ensures { result ≡ waits_of (world_of self.now) place slot (slice_get self.now.publishers.items publisher) }
     {
-        match self.publishers.get(publisher) {
-            Some(lane) => match lane.route(place) {
-                Some(route) => lane.may_have(place, slot) && self.may_wait(route.connection),
-                None => false,
-            },
+        match self.publisher(publisher) {
+            Some(lane) => self.waits_at(lane, place, slot),
+            None => false,
+        }
+    }
+
+    // Whether a slot may be found to wait at a place of the publisher.
+    fn waits_at(&self, lane: &PublisherLane, place: u64, slot: u64) -> bool
+        requires { IsWithin (world_of self.now) }
+        ensures { result ≡ waits_at (world_of self.now) place slot lane.now (slice_get lane.now.port.routes place) }
+    {
+        let port = lane.port();
+        match port.route(place) {
+            Some(route) => port.book().may_have(place, slot) && self.may_wait(route.connection),
             None => false,
         }
     }
@@ -155,8 +164,9 @@ impl State {
         requires { IsWithin (world_of self.now) }
         ensures { result ≡ back_at (world_of self.now) place slot lane.now (slice_get lane.now.port.routes place) }
     {
-        match lane.route(place) {
-            Some(route) => lane.may_have(place, slot) && self.may_be_back(route.connection),
+        let port = lane.port();
+        match port.route(place) {
+            Some(route) => port.book().may_have(place, slot) && self.may_be_back(route.connection),
             None => false,
         }
     }
@@ -165,7 +175,7 @@ impl State {
         ensures { result ≡ newest_of slot (slice_get self.now.publishers.items publisher) }
     {
         match self.publishers.get(publisher) {
-            Some(lane) => lane.may_remember(slot),
+            Some(lane) => lane.port().book().may_remember(slot),
             None => false,
         }
     }
@@ -175,7 +185,7 @@ impl State {
         ensures { result ≡ buffers_of (world_of self.now) place messages (slice_get self.now.publishers.items publisher) }
     {
         match self.publishers.get(publisher) {
-            Some(lane) => match lane.route(place) {
+            Some(lane) => match lane.port().route(place) {
                 Some(route) => self.may_buffer(route.connection, messages),
                 None => false,
             },
@@ -187,7 +197,7 @@ impl State {
         ensures { result ≡ resizes_of slots (slice_get self.now.publishers.items publisher) }
     {
         match self.publishers.get(publisher) {
-            Some(lane) => lane.may_resize(slots),
+            Some(lane) => lane.port().book().may_resize(slots),
             None => false,
         }
     }
@@ -197,7 +207,7 @@ impl State {
     {
         match self.subscribers.get(subscriber) {
             Some(lane) => {
-                let connections = lane.connections() as u64;
+                let connections = lane.port().routes().len() as u64;
                 one < connections && other < connections
             }
             None => false,
@@ -324,7 +334,7 @@ impl State {
         let Some(lane) = self.publishers.get_mut(publisher) else {
             return Ok(());
         };
-        let Some(route) = lane.route(place) else {
+        let Some(route) = lane.port().route(place) else {
             return Ok(());
         };
         let Some(link) = self.links.get_mut(route.connection as usize) else {
@@ -351,7 +361,7 @@ impl State {
         let Some(lane) = self.publishers.get_mut(publisher) else {
             return;
         };
-        let Some(route) = lane.route(place) else {
+        let Some(route) = lane.port().route(place) else {
             return;
         };
         let cell = back_found(&self.table, route.connection);
@@ -390,7 +400,7 @@ impl State {
         let Some(lane) = self.publishers.get_mut(publisher) else {
             return;
         };
-        let Some(route) = lane.route(place) else {
+        let Some(route) = lane.port().route(place) else {
             return;
         };
         let Some(link) = self.links.get_mut(route.connection as usize) else {

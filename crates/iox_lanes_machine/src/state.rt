@@ -169,11 +169,11 @@ impl State {
     {
         match party {
             Party::Publisher(place) => match self.publishers.get(place) {
-                Some(lane) => lane.is_over(),
+                Some(lane) => lane.stage().is_over(),
                 None => false,
             },
             Party::Subscriber(place) => match self.subscribers.get(place) {
-                Some(lane) => lane.is_over(),
+                Some(lane) => lane.stage().is_over(),
                 None => false,
             },
         }
@@ -219,20 +219,22 @@ impl State {
         requires within { IsWithin (world_of self.old) }
         ensures { world_of self.new ≡ publisher_begins (world_of self.old) place call.now (slice_get self.old.publishers.items place) }
     {
-        if let Some(lane) = self.publishers.get_mut(place) {
-            lane.begin(self.moments, call);
-            self.moments = self.moments.saturating_add(1);
-        }
+        let Some(lane) = self.publishers.get_mut(place) else {
+            return;
+        };
+        lane.begin(self.moments, call);
+        self.moments = self.moments.saturating_add(1);
     }
 
     fn begin_subscriber(&mut self, place: usize, call: &Call)
         requires fits { fits (world_of self.old) (Party.Subscriber place) (Move.Begin call.now) ≡ true }
         ensures { world_of self.new ≡ subscriber_begins (world_of self.old) place call.now (slice_get self.old.subscribers.items place) }
     {
-        if let Some(lane) = self.subscribers.get_mut(place) {
-            lane.begin(self.moments, call);
-            self.moments = self.moments.saturating_add(1);
-        }
+        let Some(lane) = self.subscribers.get_mut(place) else {
+            return;
+        };
+        lane.begin(self.moments, call);
+        self.moments = self.moments.saturating_add(1);
     }
 
     // What stands at the next step of a party.
@@ -385,18 +387,19 @@ impl State {
             → vec_len self.old.finished < vec_capacity self.old.finished }
         ensures { world_of self.new ≡ publisher_goes_on (world_of self.old) place (slice_get self.old.publishers.items place) }
     {
-        if let Some(lane) = self.publishers.get_mut(place) {
-            let answer = go_on_publisher(&mut self.table, lane);
-            end_call(
-                &mut self.finished,
-                Party::Publisher(place),
-                lane.call(),
-                lane.first(),
-                self.moments,
-                answer,
-            );
-            self.moments = self.moments.saturating_add(1);
-        }
+        let Some(lane) = self.publishers.get_mut(place) else {
+            return;
+        };
+        let answer = go_on_publisher(&mut self.table, lane);
+        end_call(
+            &mut self.finished,
+            Party::Publisher(place),
+            lane.call(),
+            lane.first(),
+            self.moments,
+            answer,
+        );
+        self.moments = self.moments.saturating_add(1);
     }
 
     fn go_on_subscriber(&mut self, place: usize)
@@ -407,20 +410,21 @@ impl State {
             ≤ vec_capacity self.old.read }
         ensures { world_of self.new ≡ subscriber_goes_on (world_of self.old) place (slice_get self.old.subscribers.items place) }
     {
-        if let Some(lane) = self.subscribers.get_mut(place) {
-            let from = self.read.len();
-            add_reserved(&mut self.read, lane.words_read());
-            let answer = go_on_subscriber(&mut self.table, lane, from);
-            end_call(
-                &mut self.finished,
-                Party::Subscriber(place),
-                lane.call(),
-                lane.first(),
-                self.moments,
-                answer,
-            );
-            self.moments = self.moments.saturating_add(1);
-        }
+        let Some(lane) = self.subscribers.get_mut(place) else {
+            return;
+        };
+        let from = self.read.len();
+        add_reserved(&mut self.read, lane.words_read());
+        let answer = go_on_subscriber(&mut self.table, lane, from);
+        end_call(
+            &mut self.finished,
+            Party::Subscriber(place),
+            lane.call(),
+            lane.first(),
+            self.moments,
+            answer,
+        );
+        self.moments = self.moments.saturating_add(1);
     }
 
     /// Makes one step.
@@ -495,7 +499,7 @@ fn go_on_publisher(table: &mut WordTable, lane: &mut PublisherLane) -> Option<An
     ensures answer { result ≡ publisher_ending table.old lane.old }
     ensures ends { is_some result ≡ publisher_is_over lane.old.port.call }
 {
-    let given = table.apply(lane.next());
+    let given = table.apply(lane.stage().next());
     lane.go_on(given)
 }
 
@@ -507,7 +511,7 @@ fn go_on_subscriber(table: &mut WordTable, lane: &mut SubscriberLane, from: usiz
     ensures answer { result ≡ subscriber_answer lane.old.port.call from }
     ensures ends { is_some result ≡ subscriber_is_over lane.old.port.call }
 {
-    let given = table.apply(lane.next());
+    let given = table.apply(lane.stage().next());
     lane.go_on(given, from)
 }
 

@@ -1,7 +1,6 @@
 -- A subscriber with the call that it is in, and what it keeps for itself.
-use Rattle.std.specs.Prelude.{ℕ, ◌-◌, List, length, set, get_or, replicate, Option, None, Some, if◌then◌else◌, nat_lt, false}
+use Rattle.std.specs.Prelude.{ℕ, List, length, replicate, Option, None, Some, false}
 use Rattle.std.specs.List.{swap}
-use Rattle.iox_lanes_base.specs.QueuesSteps.Access.{successor}
 use Rattle.iox_lanes_base.specs.QueuesSteps.declared.rings.refusing.push.Push.TheVariants.{Begun}
 use Rattle.iox_lanes_base.specs.Subscribing.{subscriber_take, subscriber_change, receive_at, read_at}
 use Rattle.iox_lanes_base.specs.Routes.{rerouted}
@@ -11,6 +10,7 @@ use Rattle.iox_lanes_base.specs.declared.calls.subscriber.SubscriberCall.{Subscr
 use Rattle.iox_lanes_base.specs.declared.calls.subscriber.SubscriberCall.TheVariants.{Idle, Releasing}
 use Rattle.iox_lanes_base.specs.declared.calls.subscriber.SubscriberChange.{SubscriberChange}
 use Rattle.iox_lanes_base.specs.declared.calls.subscriber.SubscriberChange.TheVariants.{Nothing, Borrow, Note, GiveBack}
+pub use Rattle.iox_lanes_parties.specs.PublisherKeeping.{put_at, counted_up, counted_down}
 
 -- A subscriber. `routes` are its connections, `borrowed` how many samples of each it borrows, `samples` for each slot the place
 -- of the connection that it is borrowed of, `words` what it read last.
@@ -42,18 +42,6 @@ met_anew route state = record state { routes = rerouted route state.routes }
 -- the connections at two places change places
 abbrev pub swapped : ℕ → ℕ → SubscriberState → SubscriberState
 swapped one other state = record state { routes = swap state.routes one other }
-
--- another value at a place; beyond the end nothing happens
-abbrev pub put_at : {X : Type 0} → List X → ℕ → X → List X
-put_at list at value = if nat_lt at (length list) then set list at value else list
-
--- one more at a place
-abbrev pub counted_up : List ℕ → ℕ → List ℕ
-counted_up list at = put_at list at (successor (get_or list at 0))
-
--- one fewer at a place
-abbrev pub counted_down : List ℕ → ℕ → List ℕ
-counted_down list at = put_at list at (get_or list at 0 - 1)
 
 -- a sample is borrowed or given back, or a word of it was read
 abbrev pub changed : SubscriberChange → SubscriberState → SubscriberState

@@ -4,6 +4,7 @@
 //! - [`head`]: the header and user header of a slot.
 //! - [`publisher`], [`subscriber`]: a port, and what it keeps for itself.
 //! - [`laws`]: ports keep to their own service.
+//! - `places`: places of lists that may be beyond their end.
 //! - `sequences`: the numbers that sends give messages.
 //! - [`values`]: a program's own values as the words of a call.
 //! - [`with_sequence`]: a user header behind the number of its message.
@@ -21,6 +22,7 @@
 pub mod call;
 pub mod head;
 pub mod laws;
+mod places;
 pub mod publisher;
 pub mod publisher_lane;
 mod sequences;

@@ -11,7 +11,7 @@
 //! let mut publisher = LanePublisher::new(alloc, &[], book, 1, 3)?;
 //! publisher.begin_loan();
 //! publisher.take(0);
-//! Ok(publisher.answer())
+//! Ok(publisher.book().answer())
 //! ```
 
 pub mod lane_publisher;

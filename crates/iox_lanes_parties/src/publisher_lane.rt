@@ -1,8 +1,8 @@
 //! A publisher, its call in hand, and the headers of its slots.
-ghost use Rattle.std.specs.Prelude.{◌≡◌, ◌+◌, ◌<◌, ◌&&◌, ◌==◌, true, false, [], length, slice_get, IfOk, IsSome, is_some};
+ghost use Rattle.std.specs.Prelude.{◌≡◌, ◌+◌, ◌<◌, ◌&&◌, ◌==◌, true, false, [], length, IfOk, IsSome, is_some};
 ghost use Rattle.std.specs.List.{All};
-ghost use Rattle.iox_lanes_parties.specs.LanesBase.Publishing.{publisher_next, publisher_is_idle, publisher_is_over};
-ghost use Rattle.iox_lanes_parties.specs.PublisherKeeping.{may_have, may_remember, may_resize};
+ghost use Rattle.iox_lanes_parties.specs.LanesBase.Publishing.{publisher_is_idle, publisher_is_over};
+ghost use Rattle.iox_lanes_parties.specs.PublisherKeeping.{may_remember};
 ghost use Rattle.iox_lanes_parties.specs.Publishers.{words_of};
 ghost use Rattle.iox_lanes_parties.specs.Parties.{lane_found, lane_meets, lane_named, lane_remembers, lane_resized, name_of, is_out};
 ghost use Rattle.iox_lanes_parties.specs.Parties.{is_written, publisher_may, publisher_fits, publisher_begun, publisher_after};
@@ -13,7 +13,6 @@ use crate::head::Head;
 use crate::publisher::{LanePublisher, LoanAnswer, LoanMark};
 use crate::sequences::{number_after, put_number};
 use iox_lanes_base::calls::{PublisherCall, Route};
-use iox_lanes_base::words::SharedAccess;
 use std::alloc::{AllocError, Global};
 use std::marker::Model;
 
@@ -84,15 +83,17 @@ impl PublisherLane {
     pub fn fits(&self, step: &Move) -> bool
         ensures { result ≡ publisher_fits self.now step.now }
     {
+        let is_idle = self.port.call().is_idle();
         match step {
-            Move::Begin(call) => self.port.is_idle() && self.may(call),
-            Move::GoOn => !self.port.is_idle(),
+            Move::Begin(call) => is_idle && self.may(call),
+            Move::GoOn => !is_idle,
         }
     }
 
     fn may(&self, call: &Call) -> bool
         ensures { result ≡ publisher_may self.now call.now }
     {
+        let book = self.port.book();
         match call {
             Call::LoanUninit => true,
             Call::Write {
@@ -100,12 +101,12 @@ impl PublisherLane {
                 payload,
                 user_header,
             } => {
-                is_out(self.port.loan(*loan))
+                is_out(book.loan(*loan))
                     && payload.len() == self.port.payload_words()
                     && is_head(user_header.len(), self.port.head_words())
             }
-            Call::Send { loan } => is_written(self.port.loan(*loan)),
-            Call::DropLoan { loan } => is_out(self.port.loan(*loan)),
+            Call::Send { loan } => is_written(book.loan(*loan)),
+            Call::DropLoan { loan } => is_out(book.loan(*loan)),
             Call::Receive | Call::Read { .. } | Call::Release { .. } => false,
         }
     }
@@ -148,7 +149,7 @@ impl PublisherLane {
     fn index(&self, slot: u64) -> usize
         ensures { result ≡ index_of slot self.now }
     {
-        slot.saturating_sub(self.port.first_slot()) as usize
+        slot.saturating_sub(self.port.book().first()) as usize
     }
 
     // Keeps the user header of a slot for its send.
@@ -188,13 +189,6 @@ impl PublisherLane {
         self.last = number;
     }
 
-    /// The access that comes next.
-    pub fn next(&self) -> SharedAccess
-        ensures { result ≡ publisher_next self.now.port.call }
-    {
-        self.port.next()
-    }
-
     /// Goes on after the answer of that access. It tells what the call answers, if that was its last step.
     #[inline(always)]
     pub fn go_on(&mut self, given: u64) -> Option<Answer>
@@ -205,7 +199,7 @@ impl PublisherLane {
         match *self.port.call() {
             PublisherCall::Lending => {
                 self.port.take(given);
-                Some(lent(self.port.answer()))
+                Some(lent(self.port.book().answer()))
             }
             PublisherCall::Written { .. } => {
                 self.port.take(given);
@@ -240,39 +234,19 @@ impl PublisherLane {
         self.port.take_from(call, given);
     }
 
+    /// The publisher: its connections, what its slots are used for, and where its call stands.
+    #[inline(always)]
+    pub fn port(&self) -> &LanePublisher
+        ensures { result.now ≡ self.now.port }
+    {
+        &self.port
+    }
+
     /// The words that the call in hand stores.
     pub fn stored(&self) -> &[u64]
         ensures { result.now ≡ words_of self.now.port }
     {
         self.port.stored()
-    }
-
-    /// The number of its first slot.
-    pub fn first_slot(&self) -> u64
-        ensures { result ≡ self.now.port.book.first }
-    {
-        self.port.first_slot()
-    }
-
-    /// How many slots it has.
-    pub fn slots(&self) -> usize
-        ensures { result ≡ length self.now.port.book.loans }
-    {
-        self.port.slots()
-    }
-
-    /// How many loans it may have out.
-    pub fn most_loans(&self) -> u64
-        ensures { result ≡ self.now.port.book.most_loans }
-    {
-        self.port.most_loans()
-    }
-
-    /// Whether its sends fail at a full mailbox: then a send that a mailbox refuses is `UnableToDeliver`.
-    pub fn fails(&self) -> bool
-        ensures { result ≡ self.now.fails }
-    {
-        self.fails
     }
 
     /// The number that it gave last, or the one before the first; None where messages have no numbers.
@@ -282,67 +256,11 @@ impl PublisherLane {
         self.last
     }
 
-    /// Of how many of the last messages its history is.
-    pub fn kept(&self) -> usize
-        ensures { result ≡ self.now.port.book.kept }
-    {
-        self.port.kept()
-    }
-
-    /// The slots of its history, the oldest first.
-    pub fn history(&self) -> &[u64]
-        ensures { result.now ≡ self.now.port.book.history }
-    {
-        self.port.history()
-    }
-
-    /// How many uses each of its slots has: one as a loan, one in the history, one at each connection that has it.
-    pub fn uses(&self) -> &[u64]
-        ensures { result.now ≡ self.now.port.book.uses }
-    {
-        self.port.uses()
-    }
-
-    /// Its connections, in place order.
-    pub fn routes(&self) -> &[Route]
-        ensures { result.now ≡ self.now.port.routes }
-    {
-        self.port.routes()
-    }
-
-    /// The words that the headers of its slots say, slot by slot.
-    pub fn heads(&self) -> &[Head]
-        ensures { result.now ≡ self.now.heads }
-    {
-        self.heads.as_slice()
-    }
-
-    /// The connection at a place, if there is one.
-    pub fn route(&self, place: u64) -> Option<Route>
-        ensures { result ≡ slice_get self.now.port.routes place }
-    {
-        self.port.route(place)
-    }
-
-    /// Whether the connection at a place may be found to have a slot.
-    pub fn may_have(&self, place: u64, slot: u64) -> bool
-        ensures { result ≡ may_have place slot self.now.port.book }
-    {
-        self.port.may_have(place, slot)
-    }
-
     /// The connection at a place was found to have a slot.
     pub fn find(&mut self, place: u64, slot: u64)
         ensures { self.new ≡ lane_found place slot self.old }
     {
         self.port.find(place, slot);
-    }
-
-    /// Whether a slot may be found to be the newest of the history.
-    pub fn may_remember(&self, slot: u64) -> bool
-        ensures { result ≡ may_remember slot self.now.port.book }
-    {
-        self.port.may_remember(slot)
     }
 
     /// A slot was found to be the newest of the history.
@@ -351,13 +269,6 @@ impl PublisherLane {
         ensures { self.new ≡ lane_remembers slot self.old }
     {
         self.port.find_newest(slot);
-    }
-
-    /// Whether it may have so many slots: no more than it has, of which none has a use.
-    pub fn may_resize(&self, slots: u64) -> bool
-        ensures { result ≡ may_resize slots self.now.port.book }
-    {
-        self.port.may_resize(slots)
     }
 
     /// From now on it has just its first slots, and so many loans may be out.
@@ -388,17 +299,11 @@ impl PublisherLane {
     }
 
     /// Where its call stands.
+    #[inline(always)]
     pub fn stage(&self) -> PublisherCall
         ensures { result ≡ self.now.port.call }
     {
         *self.port.call()
-    }
-
-    /// The next step is the last of its call.
-    pub fn is_over(&self) -> bool
-        ensures { result ≡ publisher_is_over self.now.port.call }
-    {
-        self.port.is_over()
     }
 
     /// The call that it began last.

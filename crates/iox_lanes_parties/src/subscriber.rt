@@ -7,7 +7,7 @@
 //! ```
 //! let mut subscriber = LaneSubscriber::new(alloc, &[], 4, ONE_WORD, 4, 1)?;
 //! subscriber.begin_read(slot);
-//! let access = subscriber.next();
+//! let access = subscriber.call().next();
 //! subscriber.take(answer);
 //! ```
 

@@ -1,6 +1,6 @@
 //! A subscriber and its call in hand.
 ghost use Rattle.std.specs.Prelude.{◌≡◌, ◌<◌, ◌&&◌, true, false, length, is_some};
-ghost use Rattle.iox_lanes_parties.specs.LanesBase.Subscribing.{subscriber_next, subscriber_is_idle, subscriber_is_over};
+ghost use Rattle.iox_lanes_parties.specs.LanesBase.Subscribing.{subscriber_is_idle, subscriber_is_over};
 ghost use Rattle.iox_lanes_parties.specs.LanesBase.declared.calls.subscriber.SubscriberChange.TheVariants as SubscriberChange;
 ghost use Rattle.iox_lanes_parties.specs.Keeping.{changed};
 ghost use Rattle.iox_lanes_parties.specs.Parties.{receiver_meets, receiver_swapped, subscriber_may, subscriber_fits, subscriber_begun};
@@ -10,7 +10,6 @@ ghost use Rattle.iox_lanes_parties.specs.Parties.{is_borrowed, release_begun};
 use crate::call::{Answer, Call, CallName, Move};
 use crate::subscriber::LaneSubscriber;
 use iox_lanes_base::calls::{Route, SubscriberCall};
-use iox_lanes_base::words::SharedAccess;
 use std::marker::Model;
 
 /// A subscriber, and the call that it began last.
@@ -55,9 +54,10 @@ impl SubscriberLane {
     pub fn fits(&self, step: &Move) -> bool
         ensures { result ≡ subscriber_fits self.now step.now }
     {
+        let is_idle = self.port.call().is_idle();
         match step {
-            Move::Begin(call) => self.port.is_idle() && self.may(call),
-            Move::GoOn => !self.port.is_idle(),
+            Move::Begin(call) => is_idle && self.may(call),
+            Move::GoOn => !is_idle,
         }
     }
 
@@ -97,25 +97,12 @@ impl SubscriberLane {
         self.port.meet(route);
     }
 
-    /// Its connections, in the order in which it receives from them.
-    pub fn routes(&self) -> &[Route]
-        ensures { result.now ≡ self.now.port.routes }
+    /// The subscriber: its connections, and where its call stands.
+    #[inline(always)]
+    pub fn port(&self) -> &LaneSubscriber
+        ensures { result.now ≡ self.now.port }
     {
-        self.port.routes()
-    }
-
-    /// How many samples of a connection it may borrow.
-    pub fn most_borrowed(&self) -> u64
-        ensures { result ≡ self.now.port.most_borrowed }
-    {
-        self.port.most_borrowed()
-    }
-
-    /// How many connections it has.
-    pub fn connections(&self) -> usize
-        ensures { result ≡ length self.now.port.routes }
-    {
-        self.port.connections()
+        &self.port
     }
 
     /// The connections at two places change places.
@@ -164,13 +151,6 @@ impl SubscriberLane {
         self.first = moment;
     }
 
-    /// The access that comes next.
-    pub fn next(&self) -> SharedAccess
-        ensures { result ≡ subscriber_next self.now.port.call }
-    {
-        self.port.next()
-    }
-
     /// The words of a read whose next step is its last.
     pub fn words_read(&self) -> &[u64]
         ensures { result.now ≡ words_read self.now.port.call self.now.port.words }
@@ -210,17 +190,11 @@ impl SubscriberLane {
     }
 
     /// Where its call stands.
+    #[inline(always)]
     pub fn stage(&self) -> SubscriberCall
         ensures { result ≡ self.now.port.call }
     {
         *self.port.call()
-    }
-
-    /// The next step is the last of its call.
-    pub fn is_over(&self) -> bool
-        ensures { result ≡ subscriber_is_over self.now.port.call }
-    {
-        self.port.is_over()
     }
 
     /// The call that it began last.

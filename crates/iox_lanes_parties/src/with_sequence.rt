@@ -20,7 +20,7 @@ pub trait FewWords: Words {
 }
 
 /// A user header, and the number of its message. It is no matter which number is written: the send of the loan sets it.
-#[derive(Clone, Copy, Debug, PartialEq, Eq)]
+#[derive(Clone, Copy)]
 pub struct WithSequence<U> {
     pub sequence: u64,
     pub user_header: U,

@@ -30,7 +30,8 @@ pub(crate) fn step<K: Opening>(
     ensures answer { result ≡ publisher_answer lane.old.fails lane.old.port.call lane.new.port.book.answer }
     ensures ends { is_some result ≡ publisher_is_over lane.old.port.call }
 {
-    let given = access_ahead(words, seat, sizes, lane, lane.stage(), lane.next());
+    let call = lane.stage();
+    let given = access_ahead(words, seat, sizes, lane, call, call.next());
     lane.go_on(given)
 }
 
@@ -54,7 +55,7 @@ pub(crate) fn run<K: Opening>(
 {
     let mut made = 0;
     while made < most {
-        if lane.is_over() {
+        if lane.stage().is_over() {
             return lane.go_on(0);
         }
         made += stride(words, seat, sizes, lane, most - made);

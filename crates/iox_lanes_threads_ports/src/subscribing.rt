@@ -27,7 +27,8 @@ pub(crate) fn step<K: Opening>(
     ensures table { (seat.new.table_id ≡ seat.old.table_id) × (seat.new.id ≡ seat.old.id) }
     ensures steps { SubscriberSteps (port_of seat.old.me) lane.old seat.new.me lane.new }
 {
-    let given = access_ahead(words, seat, sizes, lane, lane.stage(), lane.next());
+    let call = lane.stage();
+    let given = access_ahead(words, seat, sizes, lane, call, call.next());
     lane.go_on(given, 0);
 }
 
@@ -51,7 +52,7 @@ pub(crate) fn finish<K: Opening>(
     ensures over { subscriber_is_over lane.new.port.call ≡ true }
 {
     stride_on(words, seat, sizes, lane);
-    while !lane.is_over() {
+    while !lane.stage().is_over() {
         step(words, seat, sizes, lane);
     }
 }
@@ -75,7 +76,7 @@ pub(crate) fn run_on<R: Wait, K: Opening>(
     ensures over { subscriber_is_over lane.new.port.call ≡ true }
 {
     for _ in rt.forever() {
-        if lane.is_over() {
+        if lane.stage().is_over() {
             return;
         }
         receive_on(words, seat, sizes, lane);

@@ -1,5 +1,5 @@
 //! Lanes that keep the messages which are sent on them.
-ghost use Rattle.std.specs.Prelude.{◌≡◌, ◌<◌, ◌==◌, [], ◌∷◌, Some, slice_get, option_copied, option_to_list, IfOk, OnErr, true, length};
+ghost use Rattle.std.specs.Prelude.{◌≡◌, ◌<◌, [], ◌∷◌, Some, slice_get, option_copied, option_to_list, IfOk, OnErr, true, length};
 ghost use Rattle.std.specs.Prelude.{option_map, if◌then◌else◌, ◌++◌, ◌+◌, ◌≤◌, IfErr, IfSome, OnOk, drop, get_or, take};
 ghost use Rattle.iox_lanes_machine.specs.LanesParties.Values.{AreValues};
 ghost use Rattle.iox_lanes_machine.specs.LanesBase.Numbers.{words_of};
@@ -10,6 +10,7 @@ ghost use Rattle.iox_lanes_laws.specs.Numbered.{with_number};
 use crate::messages::message::Message;
 use crate::messages::placed_message::PlacedMessage;
 use iox_lanes_machine::{Lanes, Positions};
+use iox_lanes_parties::publisher::SlotBook;
 use iox_lanes_parties::{Call, Entry, FinishedCall, Move, Party, PublisherLane, values_in};
 use iox_queues_base::Words;
 use iox_queues_steps::{Act, Placed, PopAnswer, Stepped};
@@ -238,13 +239,6 @@ impl RecordedLanes {
         self.messages.len()
     }
 
-    /// Whether none is kept.
-    pub fn is_empty(&self) -> bool
-        ensures { result ≡ (length self.now.messages == 0) }
-    {
-        self.messages.is_empty()
-    }
-
     /// The message of a number, if so many were found or sent.
     pub fn message(&self, number: usize) -> Option<&Message>
         ensures { option_copied result ≡ slice_get self.now.messages number }
@@ -410,18 +404,19 @@ fn find_slots(
 {
     // No number of a slot is beyond the words that there are.
     let _slots = lanes.table().sizes().slots;
-    for at in 0..lane.slots() {
-        let slot = lane.first_slot() + at as u64;
-        find_slot(alloc, lanes, publisher, slot, uses_at(lane, at), messages)?;
+    let book = lane.port().book();
+    for at in 0..book.slots() {
+        let slot = book.first() + at as u64;
+        find_slot(alloc, lanes, publisher, slot, uses_at(book, at), messages)?;
     }
     Ok(())
 }
 
 // How many uses the slot of a publisher at a place has.
-fn uses_at(lane: &PublisherLane, at: usize) -> u64
-    ensures { result ≡ get_or lane.now.port.book.uses at 0 }
+fn uses_at(book: &SlotBook, at: usize) -> u64
+    ensures { result ≡ get_or book.now.uses at 0 }
 {
-    match lane.uses().get(at) {
+    match book.uses().get(at) {
         Some(uses) => *uses,
         None => 0,
     }

@@ -1,15 +1,14 @@
 //! A publisher, free of any words.
 ghost use Rattle.std.specs.Prelude.{◌≡◌, true, if◌then◌else◌, length, replicate, slice_get, IfOk};
-ghost use Rattle.iox_lanes_base.specs.Publishing.{publisher_next, publisher_is_idle, publisher_is_over};
-ghost use Rattle.iox_lanes_parties.specs.PublisherKeeping.{loan_of, may_have, may_remember, may_resize};
+ghost use Rattle.iox_lanes_base.specs.Publishing.{publisher_is_idle};
+ghost use Rattle.iox_lanes_parties.specs.PublisherKeeping.{may_remember};
 ghost use Rattle.iox_lanes_parties.specs.Publishers.{after_answer, found_at, found_last, with_slots, met_anew, begun_loan, begun_write};
 ghost use Rattle.iox_lanes_parties.specs.Publishers.{begun_send, begun_drop, new_publisher, words_of};
 ghost use Rattle.iox_lanes_parties.specs.Sequences.{with_number};
 
-use crate::publisher::slot_book::{LoanAnswer, LoanMark, SlotBook};
+use crate::publisher::slot_book::SlotBook;
 use crate::sequences::put_number;
 use iox_lanes_base::calls::{PublisherCall, PublisherChange, Route, reroute};
-use iox_lanes_base::words::SharedAccess;
 use std::alloc::{AllocError, Global};
 use std::marker::Model;
 
@@ -65,67 +64,12 @@ impl LanePublisher {
         })
     }
 
-    /// What the last loan answered.
-    pub fn answer(&self) -> Option<LoanAnswer>
-        ensures { result ≡ self.now.book.answer }
+    /// What its slots are used for.
+    #[inline(always)]
+    pub fn book(&self) -> &SlotBook
+        ensures { result.now ≡ self.now.book }
     {
-        self.book.answer()
-    }
-
-    /// The number of its first slot.
-    pub fn first_slot(&self) -> u64
-        ensures { result ≡ self.now.book.first }
-    {
-        self.book.first()
-    }
-
-    /// How many slots it has.
-    pub fn slots(&self) -> usize
-        ensures { result ≡ length self.now.book.loans }
-    {
-        self.book.slots()
-    }
-
-    /// How many loans it may have out.
-    pub fn most_loans(&self) -> u64
-        ensures { result ≡ self.now.book.most_loans }
-    {
-        self.book.most_loans()
-    }
-
-    /// Of how many of the last messages its history is.
-    pub fn kept(&self) -> usize
-        ensures { result ≡ self.now.book.kept }
-    {
-        self.book.kept()
-    }
-
-    /// The slots of its history, the oldest first.
-    pub fn history(&self) -> &[u64]
-        ensures { result.now ≡ self.now.book.history }
-    {
-        self.book.history()
-    }
-
-    /// How many uses each of its slots has.
-    pub fn uses(&self) -> &[u64]
-        ensures { result.now ≡ self.now.book.uses }
-    {
-        self.book.uses()
-    }
-
-    /// Its connections, in place order.
-    pub fn routes(&self) -> &[Route]
-        ensures { result.now ≡ self.now.routes }
-    {
-        self.routes.as_slice()
-    }
-
-    /// Whether a slot of the service is its loan.
-    pub fn loan(&self, slot: u64) -> LoanMark
-        ensures { result ≡ loan_of slot self.now.book }
-    {
-        self.book.loan(slot)
+        &self.book
     }
 
     /// The connection at a place, if there is one.
@@ -135,25 +79,11 @@ impl LanePublisher {
         self.routes.get(place as usize).copied()
     }
 
-    /// Whether the connection at a place may be found to have a slot.
-    pub fn may_have(&self, place: u64, slot: u64) -> bool
-        ensures { result ≡ may_have place slot self.now.book }
-    {
-        self.book.may_have(place, slot)
-    }
-
     /// The connection at a place was found to have a slot.
     pub fn find(&mut self, place: u64, slot: u64)
         ensures { self.new ≡ found_at place slot self.old }
     {
         self.book.change(PublisherChange::Put { place, slot });
-    }
-
-    /// Whether a slot may be found to be the newest of the history.
-    pub fn may_remember(&self, slot: u64) -> bool
-        ensures { result ≡ may_remember slot self.now.book }
-    {
-        self.book.may_remember(slot)
     }
 
     /// A slot was found to be the newest of the history.
@@ -162,13 +92,6 @@ impl LanePublisher {
         ensures { self.new ≡ found_last slot self.old }
     {
         self.book.find_newest(slot);
-    }
-
-    /// Whether it may have so many slots: no more than it has, of which none has a use.
-    pub fn may_resize(&self, slots: u64) -> bool
-        ensures { result ≡ may_resize slots self.now.book }
-    {
-        self.book.may_resize(slots)
     }
 
     /// From now on it has just its first slots, and so many loans may be out.
@@ -201,6 +124,7 @@ impl LanePublisher {
     }
 
     /// The call that it is in.
+    #[inline(always)]
     pub fn call(&self) -> &PublisherCall
         ensures { result.now ≡ self.now.call }
     {
@@ -247,13 +171,6 @@ impl LanePublisher {
         self.call = PublisherCall::drop_loan(slot);
     }
 
-    /// The access that comes next.
-    pub fn next(&self) -> SharedAccess
-        ensures { result ≡ publisher_next self.now.call }
-    {
-        self.call.next()
-    }
-
     /// Goes on after the answer of that access, and keeps what it changes.
     #[inline(always)]
     pub fn take(&mut self, answer: u64)
@@ -281,20 +198,6 @@ impl LanePublisher {
         ensures { result.now ≡ words_of self.now }
     {
         stored(self.sends, &self.head, &self.payload)
-    }
-
-    /// No call is under way.
-    pub fn is_idle(&self) -> bool
-        ensures { result ≡ publisher_is_idle self.now.call }
-    {
-        self.call.is_idle()
-    }
-
-    /// The next step is the last of its call.
-    pub fn is_over(&self) -> bool
-        ensures { result ≡ publisher_is_over self.now.call }
-    {
-        self.call.is_over()
     }
 }
 

@@ -1,11 +1,12 @@
 //! What the slots of a publisher are used for.
 ghost use Rattle.std.specs.Prelude.{◌≡◌, ◌+◌, ◌-◌, ◌*◌, ◌<◌, ◌≤◌, ◌^◌, ◌++◌, ◌∷◌, [], None, true, false, length, take, get_or, remove};
 ghost use Rattle.std.specs.Prelude.{replicate, IfOk, vec_len, vec_capacity};
-ghost use Rattle.iox_lanes_parties.specs.PublisherKeeping.{put_at, counted_up, counted_down, first_free, number_in, new_book, loan_of};
+ghost use Rattle.iox_lanes_parties.specs.PublisherKeeping.{put_at, first_free, number_in, new_book, loan_of};
 ghost use Rattle.iox_lanes_parties.specs.PublisherKeeping.{changed, lent, remembered, dropped, marked, referred_at, unreferred_at};
 ghost use Rattle.iox_lanes_parties.specs.PublisherKeeping.{newest_of, is_own, may_have, stands_in, may_remember, found_newest};
 ghost use Rattle.iox_lanes_parties.specs.PublisherKeeping.{are_unused, may_resize, resized};
 
+use crate::places::{count_down, count_up, put};
 use iox_lanes_base::calls::PublisherChange;
 use std::alloc::{AllocError, Global};
 use std::marker::Model;
@@ -119,20 +120,6 @@ impl SlotBook {
         ensures { result ≡ length self.now.loans }
     {
         self.loans.len()
-    }
-
-    /// How many loans may be out.
-    pub fn most_loans(&self) -> u64
-        ensures { result ≡ self.now.most_loans }
-    {
-        self.most_loans
-    }
-
-    /// Of how many of the last messages its history is.
-    pub fn kept(&self) -> usize
-        ensures { result ≡ self.now.kept }
-    {
-        self.kept
     }
 
     /// The slots of its history, the oldest first.
@@ -389,34 +376,4 @@ fn mark_at(list: &mut Vec<bool>, row: u64, width: u64, place: u64, value: bool)
         return;
     };
     put(list, at, value);
-}
-
-// Puts a value at a place of a list; beyond its end nothing happens.
-fn put<T: Copy>(list: &mut Vec<T>, at: u64, value: T)
-    ensures { list.new.items ≡ put_at list.old.items at value }
-{
-    let at = at as usize;
-    if at < list.len() {
-        list[at] = value;
-    }
-}
-
-// One more at a place.
-fn count_up(list: &mut Vec<u64>, at: u64)
-    ensures { list.new.items ≡ counted_up list.old.items at }
-{
-    let at = at as usize;
-    if at < list.len() {
-        list[at] = list[at].saturating_add(1);
-    }
-}
-
-// One fewer at a place.
-fn count_down(list: &mut Vec<u64>, at: u64)
-    ensures { list.new.items ≡ counted_down list.old.items at }
-{
-    let at = at as usize;
-    if at < list.len() {
-        list[at] = list[at].saturating_sub(1);
-    }
 }

@@ -1,12 +1,12 @@
 //! A subscriber, free of any words.
 ghost use Rattle.std.specs.Prelude.{◌≡◌, ◌-◌, ◌<◌, true, false, None, Some, get_or, slice_get, length, replicate, IfOk};
-ghost use Rattle.iox_lanes_base.specs.Subscribing.{subscriber_next, subscriber_is_idle, subscriber_is_over};
-ghost use Rattle.iox_lanes_parties.specs.Keeping.{put_at, met_anew, swapped, counted_up, counted_down, changed, after_answer};
+ghost use Rattle.iox_lanes_base.specs.Subscribing.{subscriber_is_idle};
+ghost use Rattle.iox_lanes_parties.specs.Keeping.{met_anew, swapped, changed, after_answer};
 ghost use Rattle.iox_lanes_parties.specs.Keeping.{begun_receive, begun_read, begun_release, new_subscriber};
 
+use crate::places::{count_down, count_up, put};
 use iox_lanes_base::calls::subscriber::SlotExtent;
 use iox_lanes_base::calls::{Route, SubscriberCall, SubscriberChange, reroute};
-use iox_lanes_base::words::SharedAccess;
 use std::alloc::{AllocError, Global};
 use std::marker::Model;
 
@@ -83,13 +83,6 @@ impl LaneSubscriber {
         self.routes.as_slice()
     }
 
-    /// How many samples of a connection it may borrow.
-    pub fn most_borrowed(&self) -> u64
-        ensures { result ≡ self.now.most_borrowed }
-    {
-        self.most_borrowed
-    }
-
     /// The connection at a place; None beyond the last one.
     pub fn route(&self, place: u64) -> Option<Route>
         ensures { result ≡ slice_get self.now.routes place }
@@ -105,13 +98,6 @@ impl LaneSubscriber {
         ensures { self.new ≡ met_anew route self.old }
     {
         reroute(&mut self.routes, route);
-    }
-
-    /// How many connections it has.
-    pub fn connections(&self) -> usize
-        ensures { result ≡ length self.now.routes }
-    {
-        self.routes.len()
     }
 
     /// The connections at two places change places.
@@ -131,6 +117,7 @@ impl LaneSubscriber {
     }
 
     /// The call that it is in.
+    #[inline(always)]
     pub fn call(&self) -> &SubscriberCall
         ensures { result.now ≡ self.now.call }
     {
@@ -159,13 +146,6 @@ impl LaneSubscriber {
         ensures { self.new ≡ begun_release place route slot self.old }
     {
         self.call = SubscriberCall::release(place, route, slot);
-    }
-
-    /// The access that comes next.
-    pub fn next(&self) -> SharedAccess
-        ensures { result ≡ subscriber_next self.now.call }
-    {
-        self.call.next()
     }
 
     /// Goes on after the answer of that access, and keeps what it changes.
@@ -213,49 +193,5 @@ impl LaneSubscriber {
                 put(&mut self.samples, slot, None);
             }
         }
-    }
-
-    /// No call is under way.
-    pub fn is_idle(&self) -> bool
-        ensures { result ≡ subscriber_is_idle self.now.call }
-    {
-        self.call.is_idle()
-    }
-
-    /// The next step is the last of its call.
-    pub fn is_over(&self) -> bool
-        ensures { result ≡ subscriber_is_over self.now.call }
-    {
-        self.call.is_over()
-    }
-}
-
-// Puts a value at a place of a list; beyond its end nothing happens.
-fn put<T: Copy>(list: &mut Vec<T>, at: u64, value: T)
-    ensures { list.new.items ≡ put_at list.old.items at value }
-{
-    let at = at as usize;
-    if at < list.len() {
-        list[at] = value;
-    }
-}
-
-// One more at a place.
-fn count_up(list: &mut Vec<u64>, at: u64)
-    ensures { list.new.items ≡ counted_up list.old.items at }
-{
-    let at = at as usize;
-    if at < list.len() {
-        list[at] = list[at].saturating_add(1);
-    }
-}
-
-// One fewer at a place.
-fn count_down(list: &mut Vec<u64>, at: u64)
-    ensures { list.new.items ≡ counted_down list.old.items at }
-{
-    let at = at as usize;
-    if at < list.len() {
-        list[at] = list[at].saturating_sub(1);
     }
 }

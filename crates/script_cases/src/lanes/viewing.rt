@@ -122,7 +122,7 @@ fn link(lanes: &Lanes, connection: u64) -> Said<'_> {
 // The slot at a place of a publisher's history, the oldest at 0.
 fn remembered(lanes: &Lanes, publisher: u64, at: u64) -> Option<u64> {
     let lane = lanes.publishers().get(publisher as usize)?;
-    lane.history().get(at as usize).copied()
+    lane.port().book().history().get(at as usize).copied()
 }
 
 fn history(lanes: &Lanes, publisher: u64, at: u64) -> Said<'_> {

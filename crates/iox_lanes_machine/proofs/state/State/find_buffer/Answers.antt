@@ -1,5 +1,6 @@
 use Rattle.std.proofs.Common.{ℕ, ◌≡◌, true, set, slice_get, Option, Some, sym, ◌∙◌, ap, subst}
 use Rattle.iox_lanes_machine.specs.LanesBase.declared.calls.route.Route.{Route}
+use Rattle.iox_lanes_machine.specs.LanesParties.Publishers.{PublisherState}
 use Rattle.iox_lanes_machine.specs.LanesParties.Parties.{PublisherLaneState, lane_meets}
 use Rattle.iox_lanes_machine.specs.Findings.{buffers_of, with_buffer, subscribers_meet, buffered_in, buffered_at, buffered_of}
 use Rattle.iox_lanes_machine.specs.Links.{LinkState}
@@ -16,7 +17,8 @@ with_buffer-known-requires c =
     let route : Route = c.in-Some-route.route in
     let found : slice_get m.publishers c.args.publisher ≡ Some lane
     = get_is m.publishers c.args.publisher lane ((c.in-Some.ensures.item).3).0 (c.in-Some.ensures.item).1 in
-    let here : slice_get lane.port.routes c.args.place ≡ Some route = sym c.route.ensures ∙ c.in-Some-route.is in
+    let here : slice_get lane.port.routes c.args.place ≡ Some route
+    = sym (c.route.ensures ∙ ap (λ (port : PublisherState). slice_get port.routes c.args.place) c.port.ensures) ∙ c.in-Some-route.is in
     buffer_fits m c.args.publisher c.args.place c.args.messages lane route c.requires.within found here
     (subst (λ (at : Option PublisherLaneState). buffers_of m c.args.place c.args.messages at ≡ true) found c.requires.fits)
 
@@ -30,7 +32,8 @@ returns c =
     let known : Route = with_buffer c.args.messages route in
     let found : slice_get m.publishers c.args.publisher ≡ Some lane
     = get_is m.publishers c.args.publisher lane ((c.in-Some.ensures.item).3).0 (c.in-Some.ensures.item).1 in
-    let here : slice_get lane.port.routes c.args.place ≡ Some route = sym c.route.ensures ∙ c.in-Some-route.is in
+    let here : slice_get lane.port.routes c.args.place ≡ Some route
+    = sym (c.route.ensures ∙ ap (λ (port : PublisherState). slice_get port.routes c.args.place) c.port.ensures) ∙ c.in-Some-route.is in
     let there : slice_get m.links route.connection ≡ Some link
     = get_is m.links route.connection link ((c.in-Some-get_mut.ensures.item).3).0 (c.in-Some-get_mut.ensures.item).1 in
     c.subscriber_meets.ensures

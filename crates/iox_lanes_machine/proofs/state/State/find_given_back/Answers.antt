@@ -2,6 +2,7 @@ use Rattle.std.proofs.Common.{ℕ, ◌≡◌, ◌<◌, true, set, slice_get, Opt
 use Rattle.iox_lanes_machine.specs.LanesBase.Table.{TableWords}
 use Rattle.iox_lanes_machine.specs.LanesBase.declared.words.word.ConnectionRing.TheVariants.{Completion}
 use Rattle.iox_lanes_machine.specs.LanesBase.declared.calls.route.Route.{Route}
+use Rattle.iox_lanes_machine.specs.LanesParties.Publishers.{PublisherState}
 use Rattle.iox_lanes_machine.specs.LanesParties.Parties.{PublisherLaneState}
 use Rattle.iox_lanes_machine.specs.Findings.{back_found, back_of, laid, given_at, given_of}
 use Rattle.iox_lanes_machine.specs.State.{world_of}
@@ -16,7 +17,8 @@ back_found-cell-requires c =
     let route : Route = c.in-Some-route.route in
     let found : slice_get m.publishers c.args.publisher ≡ Some lane
     = get_is m.publishers c.args.publisher lane ((c.in-Some.ensures.item).3).0 (c.in-Some.ensures.item).1 in
-    let here : slice_get lane.port.routes c.args.place ≡ Some route = sym c.route.ensures ∙ c.in-Some-route.is in
+    let here : slice_get lane.port.routes c.args.place ≡ Some route
+    = sym (c.route.ensures ∙ ap (λ (port : PublisherState). slice_get port.routes c.args.place) c.port.ensures) ∙ c.in-Some-route.is in
     (back_cell m c.args.place c.args.slot lane route c.requires.within
     (subst (λ (at : Option PublisherLaneState). back_of m c.args.place c.args.slot at ≡ true) found c.requires.fits) here).0
 
@@ -27,7 +29,8 @@ lay-requires c =
     let route : Route = c.in-Some-route.route in
     let found : slice_get m.publishers c.args.publisher ≡ Some lane
     = get_is m.publishers c.args.publisher lane ((c.in-Some.ensures.item).3).0 (c.in-Some.ensures.item).1 in
-    let here : slice_get lane.port.routes c.args.place ≡ Some route = sym c.route.ensures ∙ c.in-Some-route.is in
+    let here : slice_get lane.port.routes c.args.place ≡ Some route
+    = sym (c.route.ensures ∙ ap (λ (port : PublisherState). slice_get port.routes c.args.place) c.port.ensures) ∙ c.in-Some-route.is in
     let is = back_cell m c.args.place c.args.slot lane route c.requires.within
     (subst (λ (at : Option PublisherLaneState). back_of m c.args.place c.args.slot at ≡ true) found c.requires.fits) here in
     (is.0, subst (λ (cell : ℕ). cell < m.table.sizes.completion_cells) (sym c.back_found-cell.ensures) is.1)
@@ -39,7 +42,8 @@ returns c =
     let route : Route = c.in-Some-route.route in
     let found : slice_get m.publishers c.args.publisher ≡ Some lane
     = get_is m.publishers c.args.publisher lane ((c.in-Some.ensures.item).3).0 (c.in-Some.ensures.item).1 in
-    let here : slice_get lane.port.routes c.args.place ≡ Some route = sym c.route.ensures ∙ c.in-Some-route.is in
+    let here : slice_get lane.port.routes c.args.place ≡ Some route
+    = sym (c.route.ensures ∙ ap (λ (port : PublisherState). slice_get port.routes c.args.place) c.port.ensures) ∙ c.in-Some-route.is in
     ap (λ (t : TableWords). record m { table = t; publishers = set m.publishers c.args.publisher c.find.new.self })
     (c.lay.ensures ∙ ap (λ (cell : ℕ). laid m.table route.connection Completion cell c.args.slot) c.back_found-cell.ensures)
     ∙ ap (λ (l : PublisherLaneState). record m {

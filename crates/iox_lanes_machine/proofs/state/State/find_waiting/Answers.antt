@@ -2,6 +2,7 @@ use Rattle.std.proofs.Common.{ℕ, ◌≡◌, ◌∷◌, [], ◌++◌, true, Lis
 use Rattle.iox_lanes_machine.specs.LanesBase.Table.{TableWords}
 use Rattle.iox_lanes_machine.specs.LanesBase.declared.words.word.ConnectionRing.TheVariants.{Submission}
 use Rattle.iox_lanes_machine.specs.LanesBase.declared.calls.route.Route.{Route}
+use Rattle.iox_lanes_machine.specs.LanesParties.Publishers.{PublisherState}
 use Rattle.iox_lanes_machine.specs.LanesParties.Parties.{PublisherLaneState}
 use Rattle.iox_lanes_machine.specs.Findings.{laid, waits_of, waiting_at, waiting_in, waiting_of}
 use Rattle.iox_lanes_machine.specs.Links.{LinkState}
@@ -18,7 +19,8 @@ lay-requires c =
     let link : LinkState = c.in-Some-get_mut.link.now in
     let found : slice_get m.publishers c.args.publisher ≡ Some lane
     = get_is m.publishers c.args.publisher lane ((c.in-Some.ensures.item).3).0 (c.in-Some.ensures.item).1 in
-    let here : slice_get lane.port.routes c.args.place ≡ Some route = sym c.route.ensures ∙ c.in-Some-route.is in
+    let here : slice_get lane.port.routes c.args.place ≡ Some route
+    = sym (c.route.ensures ∙ ap (λ (port : PublisherState). slice_get port.routes c.args.place) c.port.ensures) ∙ c.in-Some-route.is in
     let there : slice_get m.links route.connection ≡ Some link
     = get_is m.links route.connection link ((c.in-Some-get_mut.ensures.item).3).0 (c.in-Some-get_mut.ensures.item).1 in
     let is = waiting_cell m c.args.place c.args.slot lane route link c.requires.within
@@ -34,7 +36,8 @@ returns-clause-found c =
     let after : LinkState = record link { found = link.found ++ c.args.slot ∷ [] } in
     let found : slice_get m.publishers c.args.publisher ≡ Some lane
     = get_is m.publishers c.args.publisher lane ((c.in-Some.ensures.item).3).0 (c.in-Some.ensures.item).1 in
-    let here : slice_get lane.port.routes c.args.place ≡ Some route = sym c.route.ensures ∙ c.in-Some-route.is in
+    let here : slice_get lane.port.routes c.args.place ≡ Some route
+    = sym (c.route.ensures ∙ ap (λ (port : PublisherState). slice_get port.routes c.args.place) c.port.ensures) ∙ c.in-Some-route.is in
     let there : slice_get m.links route.connection ≡ Some link
     = get_is m.links route.connection link ((c.in-Some-get_mut.ensures.item).3).0 (c.in-Some-get_mut.ensures.item).1 in
     ap (λ (t : TableWords). record m
