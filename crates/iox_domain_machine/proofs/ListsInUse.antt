@@ -1,6 +1,6 @@
 -- What holds of each message in use of a list of publishers, by its header: through each step of a subscriber, and each call.
 use Rattle.std.proofs.Common.{◌≡◌, ℕ, Bool, true, false, List, min, Option, None, Some, Result, Ok, Err, refl}
-use Rattle.std.proofs.Common.{sym, ap, subst, All, if◌then◌else◌}
+use Rattle.std.proofs.Common.{sym, subst, All, if◌then◌else◌}
 use Rattle.std.proofs.lemmas.List.Elements.{All-nil}
 use Rattle.std.specs.Prelude.{⊤}
 use Rattle.std.specs.declared.alloc.AllocError.{AllocError}
@@ -128,16 +128,18 @@ module _ {T U : Type 0} (P : Header → Message T U → Type 0) where
 
   -- ---- calls
 
+  -- the ports are these, or as they were
+  to_pass : (ports new : ServicePorts T U) → new ≡ ports → AllPass ports.publishers → AllPass new.publishers
+  to_pass ports new is all = subst (λ (one : ServicePorts T U). AllPass one.publishers) (sym is) all
+
   at_publisher_goes : {A : Type 0} (number : ℕ) (step : PublisherPort T U → Option A → PublisherPort T U → Type 0)
       (found : Option (PublisherPort T U)) (old new : ServicePorts T U) (answer : Option A) → port_of number old.publishers ≡ found
       → ((port after : PublisherPort T U) → found ≡ Some port → step port answer after → Passes P port → Passes P after)
       → AtPublisher number step found old answer new → Goes old.publishers new.publishers
-  at_publisher_goes number step None old new answer there keeps happens all =
-      stays_goes old.publishers new.publishers (ap (λ (ports : ServicePorts T U). ports.publishers) happens.1) all
-  at_publisher_goes number step (Some port) old new None there keeps happens all =
-      stays_goes old.publishers new.publishers (ap (λ (ports : ServicePorts T U). ports.publishers) happens.2) all
+  at_publisher_goes number step None old new answer there keeps happens all = to_pass old new happens.1 all
+  at_publisher_goes number step (Some port) old new None there keeps happens all = to_pass old new happens.2 all
   at_publisher_goes number step (Some port) old new (Some value) there keeps happens all =
-      subst (λ (ports : ServicePorts T U). AllPass ports.publishers) (sym happens.2)
+      to_pass _ new happens.2
       (settled_goes number (with_port number old.publishers happens.0)
       (with_goes number old.publishers port happens.0 there (keeps port happens.0 refl happens.1) all))
 
@@ -147,13 +149,10 @@ module _ {T U : Type 0} (P : Header → Message T U → Type 0) where
       → ((port after : SubscriberPort) (ports ports_after : List (ℕ × PublisherPort T U)) → step port ports answer after ports_after
       → Goes ports ports_after)
       → AtSubscriber number step found old answer new → Goes old.publishers new.publishers
-  at_subscriber_goes number step None old new answer keeps happens all =
-      stays_goes old.publishers new.publishers (ap (λ (ports : ServicePorts T U). ports.publishers) happens.1) all
-  at_subscriber_goes number step (Some port) old new None keeps happens all =
-      stays_goes old.publishers new.publishers (ap (λ (ports : ServicePorts T U). ports.publishers) happens.3) all
+  at_subscriber_goes number step None old new answer keeps happens all = to_pass old new happens.1 all
+  at_subscriber_goes number step (Some port) old new None keeps happens all = to_pass old new happens.3 all
   at_subscriber_goes number step (Some port) old new (Some value) keeps happens all =
-      subst (λ (ports : ServicePorts T U). AllPass ports.publishers) (sym happens.3)
-      (keeps port happens.0 old.publishers happens.1 happens.2 all)
+      to_pass _ new happens.3 (keeps port happens.0 old.publishers happens.1 happens.2 all)
 
   updates_goes : (stands : Bool) (may : DegradationInfo → DegradationAction → Type 0) (list : RollState PublisherEntry)
       (port after : SubscriberPort) (ports ports_after : List (ℕ × PublisherPort T U))
@@ -183,24 +182,20 @@ module _ {T U : Type 0} (P : Header → Message T U → Type 0) where
   comes_by : (may : DegradationInfo → DegradationAction → Type 0) (config : PublisherConfig) (user_header : U) (place slots : ℕ)
       (old new : ServicePorts T U) (outcome : Result ℕ AllocError) → AddsPublisher may config user_header place slots old outcome new
       → Goes old.publishers new.publishers
-  comes_by may config user_header place slots old new (Err error) adds all =
-      stays_goes old.publishers new.publishers (ap (λ (ports : ServicePorts T U). ports.publishers) adds) all
+  comes_by may config user_header place slots old new (Err error) adds all = to_pass old new adds all
   comes_by may config user_header place slots old new (Ok number) adds all =
       let (listed, is_list, outcome, port, updates, is_number, is_new) = adds in
       let first : PublisherPort T U = new_port (identity_of config.owner place old) old.sizes.max_subscribers config.allocation config.unit
       (sequence_before config old) (sender_config config slots old) user_header in
       let here : Passes P port = (so_updates P (λ loans last owner one. ⊤) may listed old.subscriber_list.changes first port outcome updates
       ((λ message sends. never_some message sends, All-nil _, λ index. (All-nil _, All-nil _)), tt)).0 in
-      subst (λ (ports : ServicePorts T U). AllPass ports.publishers) (sym is_new)
-      (all_came Entry old.next_port old.publishers port here (λ one is. here) all)
+      to_pass _ new is_new (all_came Entry old.next_port old.publishers port here (λ one is. here) all)
 
   creates_goes : (overrides : ℕ → ℕ → Type 0) (may : DegradationInfo → DegradationAction → Type 0) (config : PublisherConfig)
       (user_header : U) (needed place : Option ℕ) (old new : ServicePorts T U) (answer : Result ℕ PublisherCreateError)
       → CreatesPublisher overrides may config user_header needed place old answer new → Goes old.publishers new.publishers
-  creates_goes overrides may config user_header None place old new answer creates =
-      stays_goes old.publishers new.publishers (ap (λ (ports : ServicePorts T U). ports.publishers) creates.1)
-  creates_goes overrides may config user_header (Some needed) None old new answer creates =
-      stays_goes old.publishers new.publishers (ap (λ (ports : ServicePorts T U). ports.publishers) creates.1)
+  creates_goes overrides may config user_header None place old new answer creates = to_pass old new creates.1
+  creates_goes overrides may config user_header (Some needed) None old new answer creates = to_pass old new creates.1
   creates_goes overrides may config user_header (Some needed) (Some place) old new answer creates =
       comes_by may config user_header place _ old new creates.2 creates.3
 
@@ -208,15 +203,14 @@ module _ {T U : Type 0} (P : Header → Message T U → Type 0) where
   subscribes_goes : (may : DegradationInfo → DegradationAction → Type 0) (owner : PortOwner) (place buffer_size : ℕ)
       (old new : ServicePorts T U) (outcome : Result ℕ AllocError) → AddsSubscriber may owner place buffer_size old outcome new
       → Goes old.publishers new.publishers
-  subscribes_goes may owner place buffer_size old new (Err error) adds all =
-      stays_goes old.publishers new.publishers (ap (λ (ports : ServicePorts T U). ports.publishers) adds) all
+  subscribes_goes may owner place buffer_size old new (Err error) adds all = to_pass old new adds all
   subscribes_goes may owner place buffer_size old new (Ok number) adds all =
       let (between, follows, is_number, is_new) = adds in
       let (listed, is_list, outcome, after, publishers_after, updates, is_between) = follows in
       let first : SubscriberPort = new_subscriber (identity_of owner place old) buffer_size old.sizes.max_publishers
       old.sizes.expired_connections in
-      subst (λ (ports : ServicePorts T U). AllPass ports.publishers) (sym is_new)
-      (subst (λ (ports : ServicePorts T U). AllPass ports.publishers) (sym is_between)
+      to_pass _ new is_new
+      (to_pass _ between is_between
       ((walked_updates (walks first.number) may listed old.publisher_list.changes first after old.publishers publishers_after
       outcome refl updates).walked all))
 
@@ -224,10 +218,8 @@ module _ {T U : Type 0} (P : Header → Message T U → Type 0) where
       (buffer_size : Result ℕ SubscriberCreateError) (place : Option ℕ) (old new : ServicePorts T U)
       (answer : Result ℕ SubscriberCreateError) → CreatesSubscriber may owner buffer_size place old answer new
       → Goes old.publishers new.publishers
-  creates_subscriber_goes may owner (Err refusal) place old new answer creates =
-      stays_goes old.publishers new.publishers (ap (λ (ports : ServicePorts T U). ports.publishers) creates.1)
-  creates_subscriber_goes may owner (Ok buffer_size) None old new answer creates =
-      stays_goes old.publishers new.publishers (ap (λ (ports : ServicePorts T U). ports.publishers) creates.1)
+  creates_subscriber_goes may owner (Err refusal) place old new answer creates = to_pass old new creates.1
+  creates_subscriber_goes may owner (Ok buffer_size) None old new answer creates = to_pass old new creates.1
   creates_subscriber_goes may owner (Ok buffer_size) (Some place) old new answer creates =
       subscribes_goes may owner place buffer_size old new creates.0 creates.1
 
@@ -235,48 +227,41 @@ module _ {T U : Type 0} (P : Header → Message T U → Type 0) where
   leaves_if : (free : Bool) (number : ℕ) (port : PublisherPort T U) (old new : ServicePorts T U) (answer : Bool)
       → port_of number old.publishers ≡ Some port → publishing.LeavesPortIf free number port old answer new
       → Goes old.publishers new.publishers
-  leaves_if false number port old new answer there leaves all =
-      stays_goes old.publishers new.publishers (ap (λ (ports : ServicePorts T U). ports.publishers) leaves.1) all
+  leaves_if false number port old new answer there leaves all = to_pass old new leaves.1 all
   leaves_if true number port old new answer there leaves all =
-      subst (λ (ports : ServicePorts T U). AllPass ports.publishers) (sym leaves.1)
+      to_pass _ new leaves.1
       (settled_goes number (with_port number old.publishers (departed port))
       (with_goes number old.publishers port (departed port) there
       (λ passes. (so_departed P (λ loans last owner one. ⊤) port (passes, tt)).0) all))
 
   leaves_at : (number : ℕ) (found : Option (PublisherPort T U)) (old new : ServicePorts T U) (answer : Bool)
       → port_of number old.publishers ≡ found → publishing.LeavesAt number found old answer new → Goes old.publishers new.publishers
-  leaves_at number None old new answer there leaves =
-      stays_goes old.publishers new.publishers (ap (λ (ports : ServicePorts T U). ports.publishers) leaves.1)
+  leaves_at number None old new answer there leaves = to_pass old new leaves.1
   leaves_at number (Some port) old new answer there leaves = leaves_if (is_free port) number port old new answer there leaves
 
   reader_leaves_if : (stands : Bool) (number : ℕ) (port : SubscriberPort) (old new : ServicePorts T U) (answer : Bool)
       → subscribing.LeavesPortIf stands number port old answer new → Goes old.publishers new.publishers
-  reader_leaves_if false number port old new answer leaves all =
-      stays_goes old.publishers new.publishers (ap (λ (ports : ServicePorts T U). ports.publishers) leaves.1) all
+  reader_leaves_if false number port old new answer leaves all = to_pass old new leaves.1 all
   reader_leaves_if true number port old new answer leaves all =
-      subst (λ (ports : ServicePorts T U). AllPass ports.publishers) (sym leaves.1)
-      (left_all_walk (walks port.number) port.connections.values old.publishers all)
+      to_pass _ new leaves.1 (left_all_walk (walks port.number) port.connections.values old.publishers all)
 
   reader_leaves_at : (number : ℕ) (found : Option SubscriberPort) (old new : ServicePorts T U) (answer : Bool)
       → subscribing.LeavesAt number found old answer new → Goes old.publishers new.publishers
-  reader_leaves_at number None old new answer leaves =
-      stays_goes old.publishers new.publishers (ap (λ (ports : ServicePorts T U). ports.publishers) leaves.1)
+  reader_leaves_at number None old new answer leaves = to_pass old new leaves.1
   reader_leaves_at number (Some port) old new answer leaves = reader_leaves_if port.stands number port old new answer leaves
 
   -- a sample is released
   releases_at : (number : ℕ) (given : Taken) (place : Option ℕ) (old new : ServicePorts T U) (answer : Bool)
       → subscribing.ReleasesAt number given place old answer new → Goes old.publishers new.publishers
-  releases_at number given None old new answer releases all =
-      stays_goes old.publishers new.publishers (ap (λ (ports : ServicePorts T U). ports.publishers) releases.1) all
+  releases_at number given None old new answer releases all = to_pass old new releases.1 all
   releases_at number given (Some at) old new answer releases all =
-      subst (λ (ports : ServicePorts T U). AllPass ports.publishers) (sym releases.1)
+      to_pass _ new releases.1
       (settled_goes given.publisher (changed given.publisher (given_back_at given.index (Some at)) old.publishers)
       (changed_goes given.publisher (given_back_at given.index (Some at)) old.publishers (back_passes P given.index (Some at)) all))
 
   releases_of : (found : Option SubscriberPort) (number : ℕ) (given : Taken) (old new : ServicePorts T U) (answer : Bool)
       → subscribing.ReleasesOf found number given old answer new → Goes old.publishers new.publishers
-  releases_of None number given old new answer releases =
-      stays_goes old.publishers new.publishers (ap (λ (ports : ServicePorts T U). ports.publishers) releases.1)
+  releases_of None number given old new answer releases = to_pass old new releases.1
   releases_of (Some port) number given old new answer releases =
       releases_at number given (place_of given.slot (connection_in given.publisher given.index old.publishers)) old new answer releases
 
@@ -298,11 +283,11 @@ module _ {T U : Type 0} (P : Header → Message T U → Type 0) where
       at_publisher_goes number (LoansOne values elements) (port_of number old.publishers) old new answer refl
       (λ port after there loans. passes_loans P values elements port after answer loans) happens all
   calls_go overrides may decide (Writes number slot test change) old new happens begun all =
-      subst (λ (ports : ServicePorts T U). AllPass ports.publishers) (sym happens)
+      to_pass _ new happens
       (changed_goes number (λ port. changed_if (test port) slot change port) old.publishers
       (λ port. passes_changed P (test port) slot change port) all)
   calls_go overrides may decide (GivesLoanUp number slot) old new happens begun all =
-      subst (λ (ports : ServicePorts T U). AllPass ports.publishers) (sym happens)
+      to_pass _ new happens
       (settled_goes number (changed number (given_up slot) old.publishers)
       (changed_goes number (given_up slot) old.publishers (passes_given_up P slot) all))
   calls_go overrides may decide (PublisherUpdates number answer) old new happens begun all =
