@@ -107,3 +107,4 @@ mod CreatedBeside
 pub mod TypedOpening
 pub mod TypedRuns
 pub mod TypedHeaders
+pub mod TypedTelling

@@ -316,17 +316,19 @@ module _ {T U B D : Type 0} (payload user_header : Detail) (variant : TypeVarian
 
   pub header_read_as_sent : HeaderReadAsSent payload user_header types is_default is_default_header fixed degrades decides fixed_reader
       reader_degrades
-  header_read_as_sent names most hub state number made ports sent it there found tell =
+  header_read_as_sent names most hub state number made sent it there tell =
       let goes = sample_goes (as_named is_default) degrades decides reader_degrades it.naming it.order hub state it.stands.ports number made
       there in
       let id = made.port.domain in
+      let ports = goes.ports in
+      let found = goes.found in
       let placed = some_place (as_named is_default) degrades decides reader_degrades it.naming it.order hub state it.stands.ports id
       ports found in
       let lent = those_of id.service (lent_in hub.made) in
       let held = those_of id.service (held_in hub.made) in
       let (message, is) = message_there (it.naming id.service) lent held hub.hub.expired_connection_buffer ports placed.service number
       made.taken placed.stands goes.mine in
-      let told = is_told own_numbers sent ports made.taken message tell is in
+      let told = is_told own_numbers sent ports made.taken message (tell ports found) is in
       let own : told.port.number ≡ made.taken.publisher = placed.stands.numbered made.taken.publisher told.port told.there in (
         sample_as (it.naming id.service) ports made.taken,
         placed.samples number made.taken goes.goes

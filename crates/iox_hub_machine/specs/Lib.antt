@@ -23,3 +23,4 @@ pub mod TypedReading
 pub mod TypedOpening
 pub mod TypedRuns
 pub mod TypedHeaders
+pub mod TypedTelling

@@ -20,8 +20,7 @@ use Rattle.iox_delivery.specs.Subscribing.{header_found}
 use Rattle.iox_delivery.specs.declared.port_id.PortId.{PortId}
 use Rattle.iox_domain.specs.DescribeBase.declared.header.Header.{Header}
 use Rattle.iox_domain.specs.DomainPorts.Messages.{write_user_header}
-use Rattle.iox_domain.specs.declared.ports.service_ports.ServicePorts.{ServicePorts}
-use Rattle.iox_domain_machine.specs.SentHeaders.{SentHeader, TellAsSent, own_numbers}
+use Rattle.iox_domain_machine.specs.SentHeaders.{SentHeader}
 use Rattle.iox_hub_base.specs.AsHome.{hub_ports, with_hub_ports}
 use Rattle.iox_hub_base.specs.declared.hub.Hub.{Hub}
 use Rattle.iox_hub_commands.specs.Tables.{port_under}
@@ -30,6 +29,7 @@ use Rattle.iox_hub_commands.specs.declared.ports.made.MadeSample.{MadeSample}
 use Rattle.iox_hub_machine.specs.Ports.{among}
 use Rattle.iox_hub_machine.specs.Ran.{StandsAfter}
 use Rattle.iox_hub_machine.specs.TypedRuns.{HasCalled}
+use Rattle.iox_hub_machine.specs.TypedTelling.{TellInHub}
 use Rattle.iox_hub_machine.specs.TypedSteps.{IsStepBy, hub_after_call}
 use Rattle.iox_machine.specs.Choices.{as_named}
 use Rattle.iox_machine.specs.Message.{Sample}
@@ -94,10 +94,9 @@ module _ {T U B D : Type 0} (payload user_header : Detail) (types : MessageTypeD
   -- and it was the one that sent, that is the publisher of the machine's sample.
   abbrev pub HeaderReadAsSent : Type 0
   HeaderReadAsSent = (names : List (List ℕ)) (most : ℕ) (hub : NumberedHub T U B D) (state : State T) (number : ℕ) (made : MadeSample)
-      (ports : ServicePorts T U) (sent : List (SentHeader T U))
+      (sent : List (SentHeader T U))
       → StandsAfter types (as_named is_default) degrades decides reader_degrades names most hub state
-      → value_at hub.made.samples number ≡ Some made → hub_ports made.port.domain hub.hub ≡ Some ports
-      → TellAsSent own_numbers sent ports
+      → value_at hub.made.samples number ≡ Some made → TellInHub sent made.port.domain hub.hub
       → (sample : Sample T) × (among (λ service. service.samples) number state.services ≡ Some sample)
       × (told : SentHeader T U) × Contains sent told
       × (told.message.values ≡ sample.message.values) × (told.message.sequence ≡ sample.message.sequence)

@@ -20,6 +20,7 @@ ghost use Rattle.iox_hub_machine.specs.TypedRuns.{CallsBegin, CallsGoOn};
 ghost use Rattle.iox_hub_machine.specs.TypedServices.{CloseIsStep, NewNodeIsStep, PublisherIsStep, SubscriberIsStep};
 ghost use Rattle.iox_hub_machine.specs.TypedSubscribing.{HasIsStep, PayloadIsStep, ReceiveIsStep, ReleaseIsStep, SubscriberLeaveIsStep};
 ghost use Rattle.iox_hub_machine.specs.TypedSubscribing.{SubscriberUpdateIsStep};
+ghost use Rattle.iox_hub_machine.specs.TypedTelling.{HubTells};
 
 use iox_describe_base::ZeroCopySend;
 use iox_domain_values::Overrides;
@@ -320,9 +321,15 @@ pub fn typed_headers_are_read_by_steps<
         (λ handler. D.degrades handler) }
 {}
 
-/// What the `header` and the `user_header` of a sample tell was told as a send began, with the values and the sequence number of the
-/// machine's sample. It is premised of the messages in use of its domain, of which `iox_domain_machine::headers_are_as_sent` proves it: from
-/// a new domain on, through each call of its ports.
+/// What is told in the domains of a hub as sends begin: nothing before any port came, and by a call of the ports of a domain what that call
+/// tells, in this domain alone. So each typed call of a port, a loan or a sample adds what it tells.
+pub fn typed_calls_tell<T, U, O: Overrides, B: PublisherHandlers, D: SubscriberHandler>()
+    ensures { HubTells T U (λ overriding. O.overrides overriding) (λ handlers. B.degrades handlers) (λ handlers. B.decides handlers)
+        (λ handler. D.degrades handler) }
+{}
+
+/// What the `header` and the `user_header` of a sample tell was told as a send began in its domain, with the values and the sequence number
+/// of the machine's sample, and by the publisher that this one names. `typed_calls_tell` says what is told.
 pub fn typed_headers_are_as_sent<
     T: ZeroCopySend + Default,
     U: ZeroCopySend + Default,
