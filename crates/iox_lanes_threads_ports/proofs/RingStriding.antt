@@ -1,5 +1,5 @@
--- One access of a pop or a push of a port, by the stage that makes it.
-use Rattle.std.proofs.Common.{ℕ, ◌≡◌, subst, sym}
+-- A port's pops and pushes on its rings, each at once.
+use Rattle.std.proofs.Common.{ℕ, ◌≡◌, ◌+◌, Bool, false, ap, subst, sym, ◌∙◌, arith}
 use Rattle.atomic_table.specs.Table.{Me}
 use Rattle.iox_lanes_machine.specs.QueuesSteps.declared.access.Access.{Access}
 use Rattle.iox_lanes_machine.specs.QueuesSteps.declared.access.Access.TheVariants as own
@@ -7,7 +7,7 @@ use Rattle.iox_lanes_machine.specs.LanesBase.Words.{on_ring}
 use Rattle.iox_lanes_machine.specs.LanesBase.declared.words.access.SharedAccess.{SharedAccess}
 use Rattle.iox_lanes_machine.specs.LanesBase.declared.words.word.ConnectionRing.{ConnectionRing}
 use Rattle.iox_lanes_threads_rule.specs.declared.view.View.{View}
-use Rattle.iox_lanes_threads_ports.specs.Strides.{AsksWord, LaneKind, StridesOn, TouchesWord}
+use Rattle.iox_lanes_threads_ports.specs.Strides.{AsksWord, KeepsPositions, LaneKind, MakesTwo, RunsAhead, StridesOn, StrodeBy, TouchesWord}
 
 touches_ring : (connection : ℕ) (ring : ConnectionRing) (cells : ℕ) (asked : Access) → AsksWord asked
     → TouchesWord (on_ring connection ring cells asked)
@@ -22,9 +22,33 @@ pub asked_touches : (connection : ℕ) (ring : ConnectionRing) (cells : ℕ) (as
 asked_touches connection ring cells asked next access same asks is =
     subst TouchesWord (sym is) (touches_ring connection ring cells asked (subst AsksWord (sym same) asks))
 
--- a step from where a call stands is one from the stage that it stands at
-pub strides_from : {L C : Type 0} (kind : LaneKind L C) (me me' : Me ℕ View) (lane : L) (answer : ℕ) (call stage : C) → call ≡ stage
-    → StridesOn kind me (kind.called call lane) me' (kind.after answer (kind.called call lane))
-    → StridesOn kind me (kind.called stage lane) me' (kind.after answer (kind.called stage lane))
-strides_from kind me me' lane answer call stage same on =
-    subst (λ c. StridesOn kind me (kind.called c lane) me' (kind.after answer (kind.called c lane))) same on
+-- steps behind steps
+pub strides_along : {L C : Type 0} (kind : LaneKind L C) (one more : ℕ) (me mid me' : Me ℕ View) (lane between lane' : L)
+    → StridesOn kind one me lane mid between → StridesOn kind more mid between me' lane' → StridesOn kind (one + more) me lane me' lane'
+strides_along kind one more me mid me' lane between lane' first second p begun made run =
+    let all : made + one + more ≡ made + (one + more) = omega arith in
+    subst (λ (n : ℕ). StrodeBy kind p begun n me' lane') all (second p begun (made + one) (first p begun made run))
+
+-- steps to where a lane took an answer are steps to where its call stands then
+module _ {L C S : Type 0} (kind : LaneKind L C) (stage : S → C) (asks : S → Access) (takes : S → ℕ → S)
+    (goes_on : (lane : L) (state : S) (answer : ℕ) → KeepsPositions (asks state) → AsksWord (asks (takes state answer))
+    → kind.after answer (kind.called (stage state) lane) ≡ kind.called (stage (takes state answer)) lane) where
+  pub strides_to : (lane from : L) (me me' : Me ℕ View) (more : ℕ) (state next : S) (answer : ℕ) → KeepsPositions (asks state)
+      → AsksWord (asks next) → next ≡ takes state answer
+      → StridesOn kind more me from me' (kind.after answer (kind.called (stage state) lane))
+      → StridesOn kind more me from me' (kind.called (stage next) lane)
+  strides_to lane from me me' more state next answer keeps asked is on =
+      subst (StridesOn kind more me from me')
+      (goes_on lane state answer keeps (subst (λ (s : S). AsksWord (asks s)) is asked)
+      ∙ ap (λ (s : S). kind.called (stage s) lane) (sym is)) on
+
+-- what a pop or a push that isn't over behind two accesses does
+module _ {S : Type 0} (asks : S → Access) (takes : S → ℕ → S) (over : S → Bool) (begun seen found : S) (a b : ℕ) where
+  pub found_more : RunsAhead asks takes over begun → seen ≡ takes begun a → found ≡ takes seen b → over found ≡ false
+      → KeepsPositions (asks seen) × MakesTwo asks takes found
+  found_more runs first second going =
+      let both : found ≡ takes (takes begun a) b = second ∙ ap (λ (s : S). takes s b) first in
+      let on : over (takes (takes begun a) b) ≡ false = ap over (sym both) ∙ going in (
+        subst (λ (s : S). KeepsPositions (asks s)) (sym first) (runs.keeps a b on),
+        subst (MakesTwo asks takes) (sym both) (runs.more a b on),
+      )

@@ -102,11 +102,18 @@ module _ {L C : Type 0} {kind : LaneKind L C} (ahead : GoesAhead L C kind) where
       (kind.after answer (kind.called call lane)) (kind.next call) answer (kind.party (kind.called call lane)) run on.0 on.1
       (subst (λ (a : SharedAccess). me' ≡ single (stepped (port_of me) a answer (kind.party (kind.called call lane)))) (sym e) is)
 
-  -- a port that may stride may behind one more step
-  pub stride_next : (words seat seat' : TableId) (me me' : Me ℕ View) (sizes : TableSizes) (lane next : L) (cells : ℕ)
-      → MayStride kind words seat me sizes lane cells → seat' ≡ seat → StridesOn kind me lane me' next
+  -- a port may make the next access of a lane whose call is named
+  pub stride_begun : (words seat : TableId) (me : Me ℕ View) (sizes : TableSizes) (lane : L) (call : C) (cells : ℕ)
+      → MayStride kind words seat me sizes lane cells → kind.standing lane ≡ call
+      → MayStride kind words seat me sizes (kind.called call lane) cells
+  stride_begun words seat me sizes lane call cells may is =
+      subst (λ (l : L). MayStride kind words seat me sizes l cells) (ahead.itself lane ∙ ap (λ (c : C). kind.called c lane) is) may
+
+  -- a port that may stride may behind more steps
+  pub stride_next : (words seat seat' : TableId) (me me' : Me ℕ View) (sizes : TableSizes) (lane next : L) (cells more : ℕ)
+      → MayStride kind words seat me sizes lane cells → seat' ≡ seat → StridesOn kind more me lane me' next
       → MayStride kind words seat' me' sizes next cells
-  stride_next words seat seat' me me' sizes lane next cells may same on =
+  stride_next words seat seat' me me' sizes lane next cells more may same on =
       let run = on (port_of me) lane 0 (strode_none me lane may.own.0 may.stands) in
       record {
         table = (same ∙ may.table.0, may.table.1, may.table.2);

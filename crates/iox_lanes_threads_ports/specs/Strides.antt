@@ -1,5 +1,5 @@
 -- Several steps of a port, which its lane makes up for at once.
-use Rattle.std.specs.Prelude.{ℕ, ◌≡◌, ◌+◌, ◌<◌, false}
+use Rattle.std.specs.Prelude.{ℕ, ◌≡◌, ◌+◌, ◌<◌, Bool, false}
 use Rattle.atomic_table.specs.Seated.{TableId}
 use Rattle.atomic_table.specs.Table.{Me}
 use Rattle.iox_lanes_machine.specs.QueuesSteps.declared.access.Access.{Access}
@@ -106,10 +106,10 @@ subscribers = record {
 abbrev pub StrodeBy : {L C : Type 0} → LaneKind L C → Port → L → ℕ → Me ℕ View → L → Type 0
 StrodeBy kind p lane made me now = Strode kind.Stands (kind.Strides p lane made) p me now
 
--- a port goes from one lane to another by one step: whatever steps it made before, it made one more
-abbrev pub StridesOn : {L C : Type 0} → LaneKind L C → Me ℕ View → L → Me ℕ View → L → Type 0
-StridesOn {L = L} kind me lane me' next = (p : Port) (begun : L) (made : ℕ) → StrodeBy kind p begun made me lane
-    → StrodeBy kind p begun (made + 1) me' next
+-- a port goes from one lane to another by so many steps: whatever steps it made before, it made so many more
+abbrev pub StridesOn : {L C : Type 0} → LaneKind L C → ℕ → Me ℕ View → L → Me ℕ View → L → Type 0
+StridesOn {L = L} kind more me lane me' next = (p : Port) (begun : L) (made : ℕ) → StrodeBy kind p begun made me lane
+    → StrodeBy kind p begun (made + more) me' next
 
 -- A port may make the next access of a lane of a kind, on a ring of so many cells. Its table, `seat`, has these words and sizes, which its
 -- service has too; the seat is its own; where the lane stands the port knows what its next step needs; and the ring has cells.
@@ -151,7 +151,15 @@ AsksWord (own.Store word value) = Unit {0}
 AsksWord (own.Exchange word old new) = Unit {0}
 AsksWord own.Local = ⊥
 
--- a lane went on from a stage of a call that asked for a word, after its answer
-abbrev pub WentOn : {L C S : Type 0} → LaneKind L C → (S → C) → (S → Access) → L → Type 0
-WentOn {L = L} {S = S} kind stage asks now =
-    (before : L) × (last : S) × (answer : ℕ) × AsksWord (asks last) × (now ≡ kind.after answer (kind.called (stage last) before))
+-- a pop or a push makes two accesses to words from a stage on, and the first moves no position
+pub record MakesTwo {S : Type 0} (asks : S → Access) (takes : S → ℕ → S) (stage : S) : Type 0 where
+  pub first : AsksWord (asks stage)
+  pub keeps : KeepsPositions (asks stage)
+  pub second : (answer : ℕ) → AsksWord (asks (takes stage answer))
+
+-- A pop or a push makes two accesses to words from a stage on, and two more unless it is over then. Of the first three none moves a
+-- position where it makes four.
+pub record RunsAhead {S : Type 0} (asks : S → Access) (takes : S → ℕ → S) (over : S → Bool) (begun : S) : Type 0 where
+  pub two : MakesTwo asks takes begun
+  pub keeps : (a b : ℕ) → over (takes (takes begun a) b) ≡ false → KeepsPositions (asks (takes begun a))
+  pub more : (a b : ℕ) → over (takes (takes begun a) b) ≡ false → MakesTwo asks takes (takes (takes begun a) b)

@@ -92,7 +92,7 @@ pub(crate) fn access_ahead<K: Opening, L: Ahead>(
     ensures table { (seat.new.table_id ≡ seat.old.table_id) × (seat.new.id ≡ seat.old.id) }
     ensures port { seat.new.me ≡ single (stepped (port_of seat.old.me) access result (L.kind.party (L.kind.called call lane.now))) }
     ensures told { ToldBy (port_of seat.old.me) access result }
-    ensures strode { TouchesWord access → StridesOn L.kind seat.old.me (L.kind.called call lane.now) seat.new.me
+    ensures strode { TouchesWord access → StridesOn L.kind 1 seat.old.me (L.kind.called call lane.now) seat.new.me
         (L.kind.after result (L.kind.called call lane.now)) }
 {
     L::goes_ahead();

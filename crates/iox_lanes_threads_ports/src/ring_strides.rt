@@ -1,86 +1,61 @@
 //! A port's pops and pushes on its rings, each at once: its lane makes up for one behind its last access.
-ghost use Rattle.std.specs.Prelude.{◌≡◌, ◌<◌, ◌≤◌, true, false, None, IfSome};
+ghost use Rattle.std.specs.Prelude.{◌≡◌, ◌<◌, ◌≤◌, ℕ};
 ghost use Rattle.iox_lanes_threads_rule.specs.Acts.{port_of};
-ghost use Rattle.iox_lanes_threads_ports.specs.Strides.{AsksWord, KeepsPositions, MayStride, StridesOn, StrodeBy, WentOn};
+ghost use Rattle.iox_lanes_threads_ports.specs.Strides.{AsksWord, MakesTwo, MayStride, RunsAhead, StridesOn, StrodeBy};
 
 use crate::ahead::{Ahead, access_ahead};
 use crate::ring_calls::RingCall;
 use iox_lanes_base::words::TableSizes;
 use iox_lanes_threads_rule::{Opening, WordSeat, Words};
-use iox_queues_steps::{Access, End, Word};
+use iox_queues_steps::End;
 
-// Whether an access moves no position of its ring.
-#[inline(always)]
-fn keeps_positions(access: Access) -> bool
-    ensures { result ≡ true → KeepsPositions access }
-{
-    match access {
-        Access::Load(_) | Access::Store(Word::Cell(_), _) => true,
-        Access::Store(_, _) | Access::Exchange(_, _, _) | Access::Local => false,
-    }
-}
-
-// Whether an access is one to a word.
-#[inline(always)]
-fn asks_word(access: Access) -> bool
-    ensures { result ≡ true → AsksWord access }
-{
-    match access {
-        Access::Load(_) | Access::Store(_, _) | Access::Exchange(_, _, _) => true,
-        Access::Local => false,
-    }
-}
-
-// Whether a call goes on at once behind an access that it made to the one that it asks for next.
-#[inline(always)]
-fn goes_on(made: Access, next: Access, is_last: bool) -> bool
-    ensures goes { result ≡ true → KeepsPositions made × AsksWord next }
-    ensures last { is_last ≡ true → result ≡ false }
-{
-    !is_last && keeps_positions(made) && asks_word(next)
-}
-
-// Makes the access that a pop or a push makes next at a stage. It gives the stage behind it where the call goes on at once, unless
-// this access is the last; else the lane goes on from there.
+// Makes the access that a pop or a push makes next at a stage, and gives its answer.
 #[inline(always)]
 fn access_at<K: Opening, L: Ahead, S: End, C: RingCall<L, S>>(
     words: &Words<K>,
     seat: &mut WordSeat,
     sizes: &TableSizes,
-    lane: &mut L,
+    lane: &L,
     call: C,
     state: S,
-    is_last: bool,
-) -> Option<S>
+) -> u64
     requires may { MayStride L.kind words.now.table_id seat.old.table_id seat.old.me sizes.now
-        (L.kind.called (C.stage call state) lane.old) (C.ring call).cells }
+        (L.kind.called (C.stage call state) lane.now) (C.ring call).cells }
     requires asks { AsksWord (S.asks state) }
     ensures table { (seat.new.table_id ≡ seat.old.table_id) × (seat.new.id ≡ seat.old.id) }
-    ensures last { is_last ≡ true → result ≡ None }
-    ensures asks { IfSome result (λ next. AsksWord (S.asks next)) }
-    ensures goes_on { IfSome result (λ next. StridesOn L.kind seat.old.me (L.kind.called (C.stage call state) lane.old) seat.new.me
-        (L.kind.called (C.stage call next) lane.new)) }
-    ensures may { IfSome result (λ next. MayStride L.kind words.now.table_id seat.new.table_id seat.new.me sizes.now
-        (L.kind.called (C.stage call next) lane.new) (C.ring call).cells) }
-    ensures went_on { result ≡ None → WentOn L.kind (C.stage call) S.asks lane.new }
-    ensures ends { result ≡ None
-        → StridesOn L.kind seat.old.me (L.kind.called (C.stage call state) lane.old) seat.new.me lane.new }
+    ensures strode { StridesOn L.kind 1 seat.old.me (L.kind.called (C.stage call state) lane.now) seat.new.me
+        (L.kind.after result (L.kind.called (C.stage call state) lane.now)) }
 {
-    L::goes_ahead();
-    let stage = call.stage(state);
-    let asked = state.next();
-    let access = call.ring().access(asked);
-    let answer = access_ahead(words, seat, sizes, lane, stage, access);
-    let next = state.take(answer);
-    if goes_on(asked, next.next(), is_last) {
-        return Some(next);
-    }
-    lane.go_on_from(stage, answer);
-    None
+    let access = call.ring().access(state.next());
+    access_ahead(words, seat, sizes, lane, call.stage(state), access)
 }
 
-/// Makes accesses of a pop or a push from a stage on: up to where it moves a position or asks for no more words, and at most four.
-/// Tells how many.
+// Makes two accesses, one behind the other. Gives the stage of the second, and its answer.
+#[inline(always)]
+fn access_twice<K: Opening, L: Ahead, S: End, C: RingCall<L, S>>(
+    words: &Words<K>,
+    seat: &mut WordSeat,
+    sizes: &TableSizes,
+    lane: &L,
+    call: C,
+    state: S,
+) -> (S, u64)
+    requires two { MakesTwo S.asks S.takes state }
+    requires may { MayStride L.kind words.now.table_id seat.old.table_id seat.old.me sizes.now
+        (L.kind.called (C.stage call state) lane.now) (C.ring call).cells }
+    ensures second { (first : ℕ) × (result.0 ≡ S.takes state first) }
+    ensures table { (seat.new.table_id ≡ seat.old.table_id) × (seat.new.id ≡ seat.old.id) }
+    ensures strode { StridesOn L.kind 2 seat.old.me (L.kind.called (C.stage call state) lane.now) seat.new.me
+        (L.kind.after result.1 (L.kind.called (C.stage call result.0) lane.now)) }
+{
+    L::goes_ahead();
+    let first = access_at(words, seat, sizes, lane, call, state);
+    let next = state.take(first);
+    let second = access_at(words, seat, sizes, lane, call, next);
+    (next, second)
+}
+
+/// Makes two accesses of a pop or a push from a stage on, and two more unless it is over then. Tells how many.
 #[inline(always)]
 pub(crate) fn ring_stride<K: Opening, L: Ahead, S: End, C: RingCall<L, S>>(
     words: &Words<K>,
@@ -92,23 +67,22 @@ pub(crate) fn ring_stride<K: Opening, L: Ahead, S: End, C: RingCall<L, S>>(
 ) -> u128
     requires may { MayStride L.kind words.now.table_id seat.old.table_id seat.old.me sizes.now lane.old (C.ring call).cells }
     requires call { L.kind.standing lane.old ≡ C.stage call begun }
-    requires asks { AsksWord (S.asks begun) }
+    requires runs { RunsAhead S.asks S.takes S.over begun }
     ensures table { (seat.new.table_id ≡ seat.old.table_id) × (seat.new.id ≡ seat.old.id) }
     ensures some { (0 < result) × (result ≤ 4) }
-    ensures went_on { WentOn L.kind (C.stage call) S.asks lane.new }
+    ensures ends { (last : S) × (answer : ℕ) × AsksWord (S.asks last)
+        × (lane.new ≡ L.kind.after answer (L.kind.called (C.stage call last) lane.old)) }
     ensures strode { StrodeBy L.kind (port_of seat.old.me) lane.old result seat.new.me lane.new }
 {
     L::goes_ahead();
     let sizes = *sizes;
-    let Some(second) = access_at(words, seat, &sizes, lane, call, begun, false) else {
-        return 1;
-    };
-    let Some(third) = access_at(words, seat, &sizes, lane, call, second, false) else {
+    let (seen, answer) = access_twice(words, seat, &sizes, lane, call, begun);
+    let found = seen.take(answer);
+    if found.is_over() {
+        lane.go_on_from(call.stage(seen), answer);
         return 2;
-    };
-    let Some(fourth) = access_at(words, seat, &sizes, lane, call, third, false) else {
-        return 3;
-    };
-    access_at(words, seat, &sizes, lane, call, fourth, true);
+    }
+    let (last, given) = access_twice(words, seat, &sizes, lane, call, found);
+    lane.go_on_from(call.stage(last), given);
     4
 }

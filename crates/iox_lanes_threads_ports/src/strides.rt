@@ -171,7 +171,7 @@ pub(crate) fn stride<K: Opening>(
             slot,
             place,
             route,
-            push,
+            push: Push::Refusing(RefusingPush::Begun { limit, value }),
             delivery,
         } if has_room => {
             let call = Pushes {
@@ -180,24 +180,40 @@ pub(crate) fn stride<K: Opening>(
                 route,
                 delivery,
             };
-            match push {
-                Push::Refusing(RefusingPush::Begun { limit, value }) => {
-                    let refusing = RefusingPush::Begun { limit, value };
-                    ring_stride(words, seat, sizes, lane, call, refusing)
-                }
-                Push::Overflowing(OverflowingPush::Begun { limit, value }) => {
-                    let overflowing = OverflowingPush::Begun { limit, value };
-                    ring_stride(words, seat, sizes, lane, call, overflowing)
-                }
-                Push::Overflowing(OverflowingPush::Full { value, read, next }) => {
-                    let full = OverflowingPush::Full { value, read, next };
-                    ring_stride(words, seat, sizes, lane, call, full)
-                }
-                _ => {
-                    step(words, seat, sizes, lane);
-                    1
-                }
-            }
+            let refusing = RefusingPush::Begun { limit, value };
+            ring_stride(words, seat, sizes, lane, call, refusing)
+        }
+        PublisherCall::Pushing {
+            slot,
+            place,
+            route,
+            push: Push::Overflowing(OverflowingPush::Begun { limit, value }),
+            delivery,
+        } if has_room => {
+            let call = Pushes {
+                slot,
+                place,
+                route,
+                delivery,
+            };
+            let overflowing = OverflowingPush::Begun { limit, value };
+            ring_stride(words, seat, sizes, lane, call, overflowing)
+        }
+        PublisherCall::Pushing {
+            slot,
+            place,
+            route,
+            push: Push::Overflowing(OverflowingPush::Full { value, read, next }),
+            delivery,
+        } if has_room => {
+            let call = Pushes {
+                slot,
+                place,
+                route,
+                delivery,
+            };
+            let full = OverflowingPush::Full { value, read, next };
+            ring_stride(words, seat, sizes, lane, call, full)
         }
         PublisherCall::Remembering { .. } => {
             lane.go_on(0);

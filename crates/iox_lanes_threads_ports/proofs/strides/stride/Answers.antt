@@ -4,15 +4,10 @@ use Rattle.iox_lanes_threads_ports.proofs.Running.{steps_alone}
 use Rattle.iox_lanes_threads_ports.proofs.Striding.{strode_once}
 use Rattle.iox_lanes_threads_ports.proofs.strides.stride.Goals as goal
 
-pub returns-in_default-push-clause-strode : goal.returns-in_default-push-clause-strode
-returns-in_default-push-clause-strode g c =
-    strode_once c.args.seat.now.me c.step.new.seat.me c.args.lane.now c.step.new.lane c.requires.seat.0 c.requires.stands
-    c.requires.busy c.step.ensures.steps
-
 pub returns-in_default-clause-strode : goal.returns-in_default-clause-strode
 returns-in_default-clause-strode g c =
-    strode_once c.args.seat.now.me c.step-in_default.new.seat.me c.args.lane.now c.step-in_default.new.lane c.requires.seat.0
-    c.requires.stands c.requires.busy c.step-in_default.ensures.steps
+    strode_once c.args.seat.now.me c.step.new.seat.me c.args.lane.now c.step.new.lane c.requires.seat.0 c.requires.stands
+    c.requires.busy c.step.ensures.steps
 
 pub returns-in-Remembering-clause-strode : goal.returns-in-Remembering-clause-strode
 returns-in-Remembering-clause-strode g c =

@@ -6,9 +6,9 @@ use Rattle.iox_lanes_threads_ports.proofs.subscriber_strides.stride_on.Goals as 
 
 pub returns-in-Releasing-default-default-Begun-clause-short : goal.returns-in-Releasing-default-default-Begun-clause-short
 returns-in-Releasing-default-default-Begun-clause-short g c =
-    let went = c.ring_stride.ensures.went_on in
-    release_short went.0 c.ring_stride.new.lane c.in-Releasing-default-default-Begun.place c.in-Releasing-default-default-Begun.route
-    went.1 went.2 went.3 went.4
+    let ends = c.ring_stride.ensures.ends in
+    release_short c.args.lane.now c.ring_stride.new.lane c.in-Releasing-default-default-Begun.place
+    c.in-Releasing-default-default-Begun.route ends.0 ends.1 ends.2 ends.3
 
 pub returns-clause-strode : goal.returns-clause-strode
 returns-clause-strode g c = strode_none subscriber_goes_ahead c.args.seat.now.me c.args.lane.now c.requires.seat.0 c.requires.stands
