@@ -5,17 +5,12 @@ use Rattle.std.specs.Prelude.{slice_get, MatchBool}
 use Rattle.std.specs.declared.alloc.AllocError.{AllocError}
 use Rattle.iox_hub_commands.specs.Command.declared.command.Command.{Command}
 use Rattle.iox_hub_commands.specs.Command.declared.reply.Reply.{Reply}
-use Rattle.iox_hub_commands.specs.DescribeBase.Detail.{Detail}
-use Rattle.iox_hub_commands.specs.DescribeBase.declared.message_type.MessageTypeDetails.{MessageTypeDetails}
 use Rattle.iox_hub_commands.specs.DomainValues.declared.backpressure.BackpressureAction.{BackpressureAction}
-use Rattle.iox_hub_commands.specs.DomainValues.declared.backpressure.BackpressureDecision.{BackpressureDecision}
-use Rattle.iox_hub_commands.specs.DomainValues.declared.backpressure.BackpressureInfo.{BackpressureInfo}
 use Rattle.iox_hub_commands.specs.DomainValues.declared.backpressure_strategy.BackpressureStrategy.{BackpressureStrategy}
 use Rattle.iox_hub_commands.specs.DomainValues.declared.degradation.DegradationAction.{DegradationAction}
-use Rattle.iox_hub_commands.specs.DomainValues.declared.degradation.DegradationCause.{DegradationCause}
-use Rattle.iox_hub_commands.specs.DomainValues.declared.degradation.DegradationInfo.{DegradationInfo}
 use Rattle.iox_hub_commands.specs.Runs.{IsRun, Runs}
 use Rattle.iox_hub_commands.specs.declared.numbered_hub.NumberedHub.{NumberedHub}
+use Rattle.iox_hub_commands.specs.Terms.{Terms}
 use Rattle.iox_hub_machine.proofs.Running.{all_among, stops_first, stops_so}
 use Rattle.iox_hub_machine.proofs.RunsOn.{new_has_room, new_runs_on}
 use Rattle.iox_hub_machine.specs.GoingOnLaws.{DecidedRunsGoOn, NewHubBegins}
@@ -86,19 +81,14 @@ module _ {T S : Type 0} (step : HandledCommand T → S → Result (Reply T) Allo
   some_left commands old new replies (inr (first, command, rest, mid, lacking, are, runs, lack)) is =
       never_empty first rest command (sym are ∙ is)
 
-module _ {T U B D P : Type 0} (payload user_header : Detail) (types : MessageTypeDetails) (is_default : T → Type 0)
-    (is_default_header : U → Type 0)
-    (fixed : BackpressureStrategy → Option BackpressureAction → DegradationAction → B)
-    (handled : BackpressureStrategy → Option BackpressureAction → DegradationAction → Option P → Option D → B)
-    (degrades : B → DegradationCause → DegradationInfo → DegradationAction → Type 0)
-    (decides : B → BackpressureInfo → BackpressureDecision → Type 0)
-    (fixed_reader : DegradationAction → D) (reader_degrades : D → DegradationCause → DegradationInfo → DegradationAction → Type 0) where
+module _ {T U B D P : Type 0} (terms : Terms T U B D)
+    (handled : BackpressureStrategy → Option BackpressureAction → DegradationAction → Option P → Option D → B) where
   abbrev choices_of : Handed B D → Choices T
-  choices_of handed = chosen_by is_default decides degrades reader_degrades handed
+  choices_of handed = chosen_by terms.is_default terms.decides terms.degrades terms.reader_degrades handed
 
   abbrev Handles : HandledCommand T → NumberedHub T U B D × List (Option (GivenHandler P D)) → Result (Reply T) AllocError
       → NumberedHub T U B D × List (Option (GivenHandler P D)) → Type 0
-  Handles = HandledStep payload user_header types is_default is_default_header fixed handled degrades decides fixed_reader reader_degrades
+  Handles = HandledStep terms handled
 
   -- where the machine may stop
   stops_there : (commands : List (HandledCommand T)) (old new : NumberedHub T U B D × List (Option (GivenHandler P D)))
@@ -123,15 +113,15 @@ module _ {T U B D P : Type 0} (payload user_header : Detail) (types : MessageTyp
       (none_left Handles commands old new replies runs)
   left_so commands old new replies true runs stops = stops_there commands old new replies runs (stops refl)
 
-  pub runs_answer : ((handed : Handed B D) → DecidedRunsGoOn types (choices_of handed) degrades decides reader_degrades payload user_header
-      is_default_header)
-      → ((handed : Handed B D) → NewHubBegins U types (choices_of handed) degrades decides reader_degrades)
-      → HandledRunsAnswer types is_default fixed handled degrades decides fixed_reader reader_degrades Handles
+  pub runs_answer : ((handed : Handed B D) → DecidedRunsGoOn terms.types (choices_of handed) terms.degrades terms.decides
+      terms.reader_degrades terms.payload terms.user_header terms.is_default_header)
+      → ((handed : Handed B D) → NewHubBegins U terms.types (choices_of handed) terms.degrades terms.decides terms.reader_degrades)
+      → HandledRunsAnswer terms handled
   runs_answer on begins config commands old new replies stopped runs stops decides_so answers_so is_new own few =
       let handed : Handed B D = handed_in handled (turns commands replies old.1) in
       let plainly = map (λ (command : HandledCommand T). without_places command) commands in
-      let (hub, it) = run_goes payload user_header types is_default is_default_header fixed handled degrades decides fixed_reader
-      reader_degrades decides_so answers_so handed (on handed) (names_in plainly) own commands 0 old new new_state replies stopped
+      let (hub, it) = run_goes terms handled decides_so answers_so handed (on handed) (names_in plainly) own commands 0 old new new_state
+      replies stopped
       (all_among plainly) (omega (arith, few)) (record { publishers = λ number above. refl; subscribers = λ number above. refl })
       (begins handed (names_in plainly) config old.0 is_new) runs in (
         (
@@ -141,20 +131,20 @@ module _ {T U B D P : Type 0} (payload user_header : Detail) (types : MessageTyp
           refl,
           left_so commands old new replies stopped runs
               (stops (new_has_room config old.0 is_new) (new_runs_on config old.0 is_new).grown),
-          subst (λ (n : ℕ). machine.Runs types (choices_of handed) n (asked_in (turns commands replies old.1)) new_state
+          subst (λ (n : ℕ). machine.Runs terms.types (choices_of handed) n (asked_in (turns commands replies old.1)) new_state
               (answered_in (turns commands replies old.1)) it.after) is_new.expired_connection_buffer it.runs,
         ),
         it.skips,
       )
 
-  pub runs_stand : ((handed : Handed B D) → DecidedRunsGoOn types (choices_of handed) degrades decides reader_degrades payload user_header
-      is_default_header)
-      → ((handed : Handed B D) → NewHubBegins U types (choices_of handed) degrades decides reader_degrades)
-      → HandledRunsStand types is_default fixed handled degrades decides fixed_reader reader_degrades Handles
+  pub runs_stand : ((handed : Handed B D) → DecidedRunsGoOn terms.types (choices_of handed) terms.degrades terms.decides
+      terms.reader_degrades terms.payload terms.user_header terms.is_default_header)
+      → ((handed : Handed B D) → NewHubBegins U terms.types (choices_of handed) terms.degrades terms.decides terms.reader_degrades)
+      → HandledRunsStand terms handled
   runs_stand on begins config commands old new replies runs decides_so answers_so is_new own few =
       let handed : Handed B D = handed_in handled (turns commands replies old.1) in
       let plainly = map (λ (command : HandledCommand T). without_places command) commands in
-      let it = whole_goes payload user_header types is_default is_default_header fixed handled degrades decides fixed_reader reader_degrades
+      let it = whole_goes terms handled
       decides_so answers_so handed (on handed) (names_in plainly) own commands 0 old new new_state replies (all_among plainly)
       (omega (arith, few)) (record { publishers = λ number above. refl; subscribers = λ number above. refl })
       (begins handed (names_in plainly) config old.0 is_new) runs in (
@@ -162,7 +152,7 @@ module _ {T U B D P : Type 0} (payload user_header : Detail) (types : MessageTyp
         it.stands.naming,
         it.stands.order,
         it.after,
-        subst (λ (n : ℕ). machine.Runs types (choices_of handed) n (asked_in (turns commands replies old.1)) new_state
+        subst (λ (n : ℕ). machine.Runs terms.types (choices_of handed) n (asked_in (turns commands replies old.1)) new_state
             (answered_in (turns commands replies old.1)) it.after) is_new.expired_connection_buffer it.runs,
         it.stands.stands,
       )

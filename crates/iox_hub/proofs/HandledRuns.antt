@@ -12,7 +12,6 @@ use Rattle.iox_hub_commands.specs.Command.declared.reply.Reply.{Reply}
 use Rattle.iox_hub_commands.specs.Command.declared.reply.Reply.TheVariants as reply
 use Rattle.iox_hub_commands.specs.CommandSteps.{Step}
 use Rattle.iox_hub_commands.specs.Container.NumberTable.{value_at}
-use Rattle.iox_hub_commands.specs.DescribeBase.Detail.{Detail}
 use Rattle.iox_hub_commands.specs.DescribeBase.declared.message_type.MessageTypeDetails.{MessageTypeDetails}
 use Rattle.iox_hub_commands.specs.Domain.declared.domain.Domain.{Domain}
 use Rattle.iox_hub_commands.specs.DomainValues.declared.backpressure.BackpressureAction.{BackpressureAction}
@@ -31,6 +30,7 @@ use Rattle.iox_hub_commands.specs.ServicesTables.{publish_subscribe_in}
 use Rattle.iox_hub_commands.specs.declared.numbered_hub.NumberedHub.{NumberedHub}
 use Rattle.iox_hub_commands.specs.declared.services.made.MadeFactory.{MadeFactory}
 use Rattle.iox_hub_commands.specs.declared.services.made.MadeFactory.TheVariants as made
+use Rattle.iox_hub_commands.specs.Terms.{Terms}
 use Rattle.iox_hub_machine.proofs.ComesServed.{domain_there}
 use Rattle.iox_hub_machine.proofs.RunsOn.{step_takes}
 use Rattle.iox_hub_machine.specs.ArrivalLaws.{AnswersAsFixed, DecidesAsFixed}
@@ -82,32 +82,32 @@ module _ {T U B D : Type 0} (types : MessageTypeDetails) (choices : Choices T)
   pub all_here : PortsAreHere hub
   all_here factory opened is = found_here factory opened (value_at hub.factories.made factory) refl is
 
-module _ {T U B D P : Type 0} (payload user_header : Detail) (types : MessageTypeDetails) (is_default : T → Type 0)
-    (is_default_header : U → Type 0)
-    (fixed : BackpressureStrategy → Option BackpressureAction → DegradationAction → B)
+module _ {T U B D P : Type 0} (terms : Terms T U B D)
     (handled : BackpressureStrategy → Option BackpressureAction → DegradationAction → Option P → Option D → B)
-    (degrades : B → DegradationCause → DegradationInfo → DegradationAction → Type 0)
-    (decides : B → BackpressureInfo → BackpressureDecision → Type 0)
-    (fixed_reader : DegradationAction → D) (reader_degrades : D → DegradationCause → DegradationInfo → DegradationAction → Type 0)
-    (decides_so : DecidesAsFixed fixed degrades decides) (answers_so : AnswersAsFixed fixed_reader reader_degrades)
-    (handed : Handed B D) where
+    (decides_so : DecidesAsFixed terms.fixed terms.degrades terms.decides)
+    (answers_so : AnswersAsFixed terms.fixed_reader terms.reader_degrades) (handed : Handed B D) where
   abbrev pub choices : Choices T
-  choices = chosen_by is_default decides degrades reader_degrades handed
+  choices = chosen_by terms.is_default terms.decides terms.degrades terms.reader_degrades handed
 
   abbrev Handles : HandledCommand T → NumberedHub T U B D × List (Option (GivenHandler P D)) → Result (Reply T) AllocError
       → NumberedHub T U B D × List (Option (GivenHandler P D)) → Type 0
-  Handles = HandledStep payload user_header types is_default is_default_header fixed handled degrades decides fixed_reader reader_degrades
+  Handles = HandledStep terms handled
 
   abbrev pub Stands : List (List ℕ) → ℕ → NumberedHub T U B D → State T → Type 0
-  Stands = StandsAfter types choices degrades decides reader_degrades
+  Stands = StandsAfter terms.types choices terms.degrades terms.decides terms.reader_degrades
 
   abbrev Decides : Decided T B D → NumberedHub T U B D → Result (Reply T) AllocError → NumberedHub T U B D → Type 0
-  Decides = DecidedStep types choices degrades decides reader_degrades payload user_header is_default_header
+  Decides = DecidedStep terms.types choices terms.degrades terms.decides terms.reader_degrades terms.payload terms.user_header
+      terms.is_default_header
 
   -- the machine's command, and who is made for a port that comes by it
   abbrev decided_by : HandledCommand T → List (Option (GivenHandler P D)) → Decided T B D
   decided_by one given =
-      record { asked = without_places one; fixed = fixed_by fixed handled one given; fixed_reader = reader_by fixed_reader one given }
+      record {
+        asked = without_places one;
+        fixed = fixed_by terms.fixed handled one given;
+        fixed_reader = reader_by terms.fixed_reader one given;
+      }
 
   abbrev pub Known : List (Turn T P D) → State T → Type 0
   Known all state = AreKnown handled handed all state.made
@@ -118,12 +118,12 @@ module _ {T U B D P : Type 0} (payload user_header : Detail) (types : MessageTyp
     pub after : State T
     pub later : ℕ
     pub few : later ≤ most
-    pub runs : machine.Runs types choices buffer asked state answers after
+    pub runs : machine.Runs terms.types choices buffer asked state answers after
     pub stands : Stands names later hub after
     pub skips : AllByRecursion (λ turn. finds_handlers turn.command turn.given ≡ false → turn.answer ≡ reply.Skipped) all
 
-  module _ (on : DecidedRunsGoOn types choices degrades decides reader_degrades payload user_header is_default_header)
-      (names : List (List ℕ)) (own : HaveOwnHashes names) where
+  module _ (on : DecidedRunsGoOn terms.types choices terms.degrades terms.decides terms.reader_degrades terms.payload terms.user_header
+      terms.is_default_header) (names : List (List ℕ)) (own : HaveOwnHashes names) where
     abbrev pub asked_plainly : List (HandledCommand T) → List (Command T)
     asked_plainly commands = map (λ (command : HandledCommand T). without_places command) commands
 
@@ -131,17 +131,18 @@ module _ {T U B D P : Type 0} (payload user_header : Detail) (types : MessageTyp
     one_goes : (it : Decided T B D) (most : ℕ) (old new : NumberedHub T U B D) (state : State T) (answer : Reply T)
         → AsksAmong names it.asked → most + (1 + steps_named it.asked) < 2 ^ 56
         → Stands names most old state → Decides it old (Ok answer) new
-        → IsOneOn types choices degrades decides reader_degrades names most old.hub.expired_connection_buffer it.asked state answer new
+        → IsOneOn terms.types choices terms.degrades terms.decides terms.reader_degrades names most old.hub.expired_connection_buffer
+        it.asked state answer new
     one_goes it most old new state answer asks few stands step =
         let all = on names most (it ∷ []) old new state (answer ∷ []) false own (asks, tt) (omega (arith, few)) stands
         (answer, new, [], step, (refl, refl), refl) in
         let even : most + (1 + steps_named it.asked + 0) ≡ most + (1 + steps_named it.asked) = omega arith in
         let (told, mid, rest, did, (none, same), is) = all.runs in record {
           after = all.after;
-          step = subst (λ (one : Reply T). machine.Step types choices old.hub.expired_connection_buffer it.asked state one all.after)
-              (sym (same_first answer told [] rest is))
-              (subst (λ (one : State T). machine.Step types choices old.hub.expired_connection_buffer it.asked state told one) (sym same)
-              did);
+          step = subst (λ (one : Reply T). machine.Step terms.types choices old.hub.expired_connection_buffer it.asked state one
+              all.after) (sym (same_first answer told [] rest is))
+              (subst (λ (one : State T). machine.Step terms.types choices old.hub.expired_connection_buffer it.asked state told one)
+              (sym same) did);
           stands = subst (λ (n : ℕ). Stands names n new all.after) even all.stands;
         }
       where
@@ -150,9 +151,9 @@ module _ {T U B D P : Type 0} (payload user_header : Detail) (types : MessageTyp
 
     -- what is known then
     known_then : (turn : Turn T P D) (later : List (Turn T P D)) (asked : Command T) (buffer : ℕ) (state after : State T)
-        → machine.Step types choices buffer asked state turn.answer after → Known (turn ∷ later) state → Known later after
+        → machine.Step terms.types choices buffer asked state turn.answer after → Known (turn ∷ later) state → Known later after
     known_then turn later asked buffer state after step known =
-        let passes : Passes state turn.answer after = step-passes types choices buffer asked state turn.answer after step in
+        let passes : Passes state turn.answer after = step-passes terms.types choices buffer asked state turn.answer after step in
         subst (λ (made : Made). AreKnown handled handed later made) (sym passes.made)
         (known_later handled handed turn.command turn.given later turn.answer state.made passes.next known)
 
@@ -182,7 +183,7 @@ module _ {T U B D P : Type 0} (payload user_header : Detail) (types : MessageTyp
     -- the machine takes it
     taken_turn : (turn : Turn T P D) (all : List (Turn T P D)) (most buffer : ℕ) (state mid : State T) (hub : NumberedHub T U B D)
         → finds_handlers turn.command turn.given ≡ true
-        → machine.Step types choices buffer (without_places turn.command) state turn.answer mid → Gone most buffer all mid hub
+        → machine.Step terms.types choices buffer (without_places turn.command) state turn.answer mid → Gone most buffer all mid hub
         → Gone most buffer (turn ∷ all) state hub
     taken_turn turn all most buffer state mid hub finds step rests =
         subst (λ (b : Bool). GoneWith b most buffer turn all state hub) (sym finds) (record {
@@ -216,15 +217,16 @@ module _ {T U B D P : Type 0} (payload user_header : Detail) (types : MessageTyp
     decided_so : (one : HandledCommand T) (old : NumberedHub T U B D × List (Option (GivenHandler P D))) (mid : NumberedHub T U B D)
         (answer : Reply T) (later : List (Turn T P D)) (state : State T) → AreAsMany old.0.made state.made
         → Known (record { command = one; answer = answer; given = old.1 } ∷ later) state
-        → Step payload user_header types is_default is_default_header (fixed_by fixed handled one old.1) degrades decides
-        (reader_by fixed_reader one old.1) reader_degrades (without_places one) old.0 (Ok answer) mid
+        → Step (record terms { fixed = fixed_by terms.fixed handled one old.1; fixed_reader = reader_by terms.fixed_reader one old.1 })
+        (without_places one) old.0 (Ok answer) mid
         → Decides (decided_by one old.1) old.0 (Ok answer) mid
     decided_so one old mid answer later state many known step = (
       step,
-      λ told is. subst (λ (it : Reply T). ComesAsChosen types choices degrades decides reader_degrades (without_places one)
-          (fixed_by fixed handled one old.1) (reader_by fixed_reader one old.1) old.0 it) (same_ok answer told is)
-          (comes_chosen types is_default fixed handled degrades decides fixed_reader reader_degrades decides_so answers_so handed one old.1
-          answer later old.0 state.made many known),
+      λ told is. subst (λ (it : Reply T). ComesAsChosen terms.types choices terms.degrades terms.decides terms.reader_degrades
+          (without_places one) (fixed_by terms.fixed handled one old.1) (reader_by terms.fixed_reader one old.1) old.0 it)
+          (same_ok answer told is)
+          (comes_chosen terms.types terms.is_default terms.fixed handled terms.degrades terms.decides terms.fixed_reader
+          terms.reader_degrades decides_so answers_so handed one old.1 answer later old.0 state.made many known),
     )
 
     goes : (first more : List (HandledCommand T)) (most : ℕ) (old new : NumberedHub T U B D × List (Option (GivenHandler P D)))
@@ -255,8 +257,10 @@ module _ {T U B D P : Type 0} (payload user_header : Detail) (types : MessageTyp
         (λ did.
         let on_one = one_goes (decided_by one old.1) most old.0 mid.0 state answer asks.0 (omega (arith, few)) it
         (decided_so one old mid.0 answer (behind (left_by_turn one answer old.1)) state it.stands.ports.numbers known_now did.step) in
-        let takes = step_takes payload user_header types choices is_default_header (fixed_by fixed handled one old.1) degrades decides
-        (reader_by fixed_reader one old.1) reader_degrades old.0 mid.0 answer (without_places one) did.step in
+        let takes = step_takes (record terms {
+          fixed = fixed_by terms.fixed handled one old.1;
+          fixed_reader = reader_by terms.fixed_reader one old.1;
+        }) old.0 mid.0 answer (without_places one) did.step in
         let rests = goes first more (most + (1 + steps_named (without_places one))) mid new on_one.after rest asks.1
         (omega (arith, few))
         (subst (λ (given : List (Option (GivenHandler P D))). Known (behind given) on_one.after) (sym did.left)
@@ -283,8 +287,8 @@ module _ {T U B D P : Type 0} (payload user_header : Detail) (types : MessageTyp
         nothing.told (omega arith)
         (subst (λ (given : List (Option (GivenHandler P D))). Gone (most + all_asked (asked_plainly (first ++ more)))
         old.0.hub.expired_connection_buffer (behind given) state new.0) (sym left) rests))
-        (handled_did payload user_header types is_default is_default_header fixed handled degrades decides fixed_reader reader_degrades one
-        old mid answer (all_here types choices degrades decides reader_degrades names most old.0 state it) step))
+        (handled_did terms handled one old mid answer
+        (all_here terms.types choices terms.degrades terms.decides terms.reader_degrades names most old.0 state it) step))
       where
         turn : Turn T P D
         turn = record { command = one; answer = answer; given = old.1 }

@@ -10,21 +10,16 @@ use Rattle.iox_hub_commands.specs.Command.declared.reply.Reply.{Reply}
 use Rattle.iox_hub_commands.specs.Command.declared.reply.Reply.TheVariants as reply
 use Rattle.iox_hub_commands.specs.CommandSteps.{Step}
 use Rattle.iox_hub_commands.specs.Container.NumberTable.{value_at}
-use Rattle.iox_hub_commands.specs.DescribeBase.Detail.{Detail}
-use Rattle.iox_hub_commands.specs.DescribeBase.declared.message_type.MessageTypeDetails.{MessageTypeDetails}
 use Rattle.iox_hub_commands.specs.Domain.declared.ports.service_ports.ServicePorts.{ServicePorts}
 use Rattle.iox_hub_commands.specs.DomainValues.declared.backpressure.BackpressureAction.{BackpressureAction}
-use Rattle.iox_hub_commands.specs.DomainValues.declared.backpressure.BackpressureDecision.{BackpressureDecision}
-use Rattle.iox_hub_commands.specs.DomainValues.declared.backpressure.BackpressureInfo.{BackpressureInfo}
 use Rattle.iox_hub_commands.specs.DomainValues.declared.backpressure_strategy.BackpressureStrategy.{BackpressureStrategy}
 use Rattle.iox_hub_commands.specs.DomainValues.declared.degradation.DegradationAction.{DegradationAction}
-use Rattle.iox_hub_commands.specs.DomainValues.declared.degradation.DegradationCause.{DegradationCause}
-use Rattle.iox_hub_commands.specs.DomainValues.declared.degradation.DegradationInfo.{DegradationInfo}
 use Rattle.iox_hub_commands.specs.HubBase.AsHome.{hub_ports}
 use Rattle.iox_hub_commands.specs.HubBase.Opening.{Made as Opened}
 use Rattle.iox_hub_commands.specs.Services.{PublisherComes, MakesPublisher, MakesSubscriber, SubscriberComes, domain_of_factory}
 use Rattle.iox_hub_commands.specs.ServicesTables.{publish_subscribe_in}
 use Rattle.iox_hub_commands.specs.declared.numbered_hub.NumberedHub.{NumberedHub}
+use Rattle.iox_hub_commands.specs.Terms.{Terms}
 use Rattle.iox_hub.proofs.TakenRuns.{publisher_replied, subscriber_replied}
 use Rattle.iox_hub.specs.Places.{named, lies_at, backpressure_of, degradation_of, emptied, emptied_if}
 use Rattle.iox_hub.specs.Steps.{HandledStep, PublisherTakes, SubscriberTakes, ports_of_factory}
@@ -130,19 +125,16 @@ module _ {T P D : Type 0} (fixed_reader : DegradationAction → D) where
       unwrap_or (degradation_of (lies_at at_failure given)) (fixed_reader action)
   reader_by other given = fixed_reader
 
-module _ {T U B D P : Type 0} (payload user_header : Detail) (types : MessageTypeDetails) (is_default : T → Type 0)
-    (is_default_header : U → Type 0)
-    (fixed : BackpressureStrategy → Option BackpressureAction → DegradationAction → B)
-    (handled : BackpressureStrategy → Option BackpressureAction → DegradationAction → Option P → Option D → B)
-    (degrades : B → DegradationCause → DegradationInfo → DegradationAction → Type 0)
-    (decides : B → BackpressureInfo → BackpressureDecision → Type 0)
-    (fixed_reader : DegradationAction → D) (reader_degrades : D → DegradationCause → DegradationInfo → DegradationAction → Type 0) where
+module _ {T U B D P : Type 0} (terms : Terms T U B D)
+    (handled : BackpressureStrategy → Option BackpressureAction → DegradationAction → Option P → Option D → B) where
   -- A command that found its handlers did what the machine's command says, with who is made, and took them.
   pub record DidAsDecided (one : HandledCommand T) (old : NumberedHub T U B D × List (Option (GivenHandler P D))) (answer : Reply T)
       (new : NumberedHub T U B D × List (Option (GivenHandler P D))) : Type 0 where
     pub finds : finds_handlers one old.1 ≡ true
-    pub step : Step payload user_header types is_default is_default_header (fixed_by fixed handled one old.1) degrades decides
-        (reader_by fixed_reader one old.1) reader_degrades (without_places one) old.0 (Ok answer) new.0
+    pub step : Step (record terms {
+      fixed = fixed_by terms.fixed handled one old.1;
+      fixed_reader = reader_by terms.fixed_reader one old.1;
+    }) (without_places one) old.0 (Ok answer) new.0
     pub left : new.1 ≡ left_by_turn one answer old.1
 
   -- One that didn't was skipped.
@@ -161,7 +153,7 @@ module _ {T U B D P : Type 0} (payload user_header : Detail) (types : MessageTyp
   unknown_publisher : (by : BackpressureStrategy → Option BackpressureAction → DegradationAction → B) (opened : Option Opened)
       (options : PublisherOptions) (old new : NumberedHub T U B D) (answer : Reply T) → ports_of_factory opened old.hub ≡ None
       → ((one : Opened) → opened ≡ Some one → is_some (hub_ports (domain_of_factory one) old.hub) ≡ true)
-      → answer ≡ reply.Skipped → new ≡ old → PublisherComes is_default_header by degrades opened options old answer new
+      → answer ≡ reply.Skipped → new ≡ old → PublisherComes terms.is_default_header by terms.degrades opened options old answer new
   unknown_publisher by None options old new answer none here told same = (told, same)
   unknown_publisher by (Some one) options old new answer none here told same =
       never_true (sym (ap (λ (ports : Option (ServicePorts T U)). is_some ports) none) ∙ here one refl)
@@ -193,18 +185,18 @@ module _ {T U B D P : Type 0} (payload user_header : Detail) (types : MessageTyp
   found_both : (at_full at_failure : Option ℕ) (full : Option P) (failing : Option D) (factory : ℕ) (options : PublisherOptions)
       (given : List (Option (GivenHandler P D))) (old new : NumberedHub T U B D) (answer : Reply T)
       → full_at at_full given ≡ Some full → failing_at at_failure given ≡ Some failing
-      → MakesPublisher is_default_header (λ strategy action degrading. handled strategy action degrading full failing) degrades factory
-      options old answer new
-      → MakesPublisher is_default_header (λ strategy action degrading. handled strategy action degrading
+      → MakesPublisher terms.is_default_header (λ strategy action degrading. handled strategy action degrading full failing)
+      terms.degrades factory options old answer new
+      → MakesPublisher terms.is_default_header (λ strategy action degrading. handled strategy action degrading
       (option_and_then (λ place. backpressure_of (lies_at place given)) at_full)
-      (option_and_then (λ place. degradation_of (lies_at place given)) at_failure)) degrades factory options old answer new
+      (option_and_then (λ place. degradation_of (lies_at place given)) at_failure)) terms.degrades factory options old answer new
   found_both at_full at_failure full failing factory options given old new answer is_full is_failing makes =
-      subst (λ (found : Option P). MakesPublisher is_default_header
+      subst (λ (found : Option P). MakesPublisher terms.is_default_header
       (λ strategy action degrading. handled strategy action degrading found
-      (option_and_then (λ place. degradation_of (lies_at place given)) at_failure)) degrades factory options old answer new)
+      (option_and_then (λ place. degradation_of (lies_at place given)) at_failure)) terms.degrades factory options old answer new)
       (sym (flat_named (λ lies. backpressure_of lies) at_full given ∙ ap (λ (found : Option (Option P)). option_flatten found) is_full))
-      (subst (λ (found : Option D). MakesPublisher is_default_header
-      (λ strategy action degrading. handled strategy action degrading full found) degrades factory options old answer new)
+      (subst (λ (found : Option D). MakesPublisher terms.is_default_header
+      (λ strategy action degrading. handled strategy action degrading full found) terms.degrades factory options old answer new)
       (sym (flat_named (λ lies. degradation_of lies) at_failure given
       ∙ ap (λ (found : Option (Option D)). option_flatten found) is_failing)) makes)
 
@@ -213,7 +205,7 @@ module _ {T U B D P : Type 0} (payload user_header : Detail) (types : MessageTyp
       (old new : NumberedHub T U B D × List (Option (GivenHandler P D))) (answer : Reply T) → PortsAreHere old.0
       → full_at at_full old.1 ≡ full → failing_at at_failure old.1 ≡ failing
       → ports_of_factory (publish_subscribe_in (value_at old.0.factories.made factory)) old.0.hub ≡ ports
-      → PublisherTakes is_default_header handled degrades full failing ports factory options
+      → PublisherTakes terms.is_default_header handled terms.degrades full failing ports factory options
       (emptied_if at_failure (emptied_if at_full old.1)) old answer new
       → Did (asked.Publisher factory options at_full at_failure) old answer new
   publisher_did at_full at_failure None failing ports factory options old new answer here is_full is_failing there takes = inr (record {
@@ -231,8 +223,8 @@ module _ {T U B D P : Type 0} (payload user_header : Detail) (types : MessageTyp
   publisher_did at_full at_failure (Some full) (Some failing) None factory options old new answer here is_full is_failing there takes =
       inl (record {
         finds = found_so at_full at_failure old.1 ∙ both_found at_full at_failure full (Some failing) old.1 is_full is_failing;
-        step = unknown_publisher (fixed_by {T = T} fixed handled (asked.Publisher factory options at_full at_failure) old.1) _ options
-            old.0 new.0 answer there (λ one is. here factory one is) takes.0
+        step = unknown_publisher (fixed_by {T = T} terms.fixed handled (asked.Publisher factory options at_full at_failure) old.1) _
+            options old.0 new.0 answer there (λ one is. here factory one is) takes.0
             (ap (λ (state : NumberedHub T U B D × List (Option (GivenHandler P D))). state.0) takes.1);
         left = ap (λ (state : NumberedHub T U B D × List (Option (GivenHandler P D))). state.1) takes.1
             ∙ sym (left_by_skipped (asked.Publisher factory options at_full at_failure) answer old.1 takes.0);
@@ -244,8 +236,8 @@ module _ {T U B D P : Type 0} (payload user_header : Detail) (types : MessageTyp
         left = takes.1
             ∙ sym (left_by_replied (asked.Publisher factory options at_full at_failure) answer old.1
             (emptied_if at_failure (emptied_if at_full old.1))
-            (publisher_replied is_default_header (λ strategy action degrading. handled strategy action degrading full failing) degrades _
-            options old.0 new.0 answer ports there takes.0) (both_emptied at_full at_failure old.1));
+            (publisher_replied terms.is_default_header (λ strategy action degrading. handled strategy action degrading full failing)
+            terms.degrades _ options old.0 new.0 answer ports there takes.0) (both_emptied at_full at_failure old.1));
       })
 
   -- ---- a subscriber
@@ -253,7 +245,7 @@ module _ {T U B D P : Type 0} (payload user_header : Detail) (types : MessageTyp
   unknown_subscriber : (by : DegradationAction → D) (opened : Option Opened) (options : SubscriberOptions) (old new : NumberedHub T U B D)
       (answer : Reply T) → ports_of_factory opened old.hub ≡ None
       → ((one : Opened) → opened ≡ Some one → is_some (hub_ports (domain_of_factory one) old.hub) ≡ true)
-      → answer ≡ reply.Skipped → new ≡ old → SubscriberComes by reader_degrades opened options old answer new
+      → answer ≡ reply.Skipped → new ≡ old → SubscriberComes by terms.reader_degrades opened options old answer new
   unknown_subscriber by None options old new answer none here told same = (told, same)
   unknown_subscriber by (Some one) options old new answer none here told same =
       never_true (sym (ap (λ (ports : Option (ServicePorts T U)). is_some ports) none) ∙ here one refl)
@@ -262,7 +254,7 @@ module _ {T U B D P : Type 0} (payload user_header : Detail) (types : MessageTyp
       (old new : NumberedHub T U B D × List (Option (GivenHandler P D))) (answer : Reply T) → PortsAreHere old.0
       → degradation_of (lies_at at_failure old.1) ≡ found
       → ports_of_factory (publish_subscribe_in (value_at old.0.factories.made factory)) old.0.hub ≡ ports
-      → SubscriberTakes reader_degrades found ports factory options (emptied at_failure old.1) old answer new
+      → SubscriberTakes terms.reader_degrades found ports factory options (emptied at_failure old.1) old answer new
       → Did (asked.Subscriber factory options at_failure) old answer new
   subscriber_did at_failure None ports factory options old new answer here is_found there takes = inr (record {
     lacks = ap (λ (found : Option D). is_some found) is_found;
@@ -271,7 +263,7 @@ module _ {T U B D P : Type 0} (payload user_header : Detail) (types : MessageTyp
   })
   subscriber_did at_failure (Some handler) None factory options old new answer here is_found there takes = inl (record {
     finds = ap (λ (found : Option D). is_some found) is_found;
-    step = unknown_subscriber (reader_by {T = T} fixed_reader (asked.Subscriber factory options at_failure) old.1) _ options old.0
+    step = unknown_subscriber (reader_by {T = T} terms.fixed_reader (asked.Subscriber factory options at_failure) old.1) _ options old.0
         new.0 answer there (λ one is. here factory one is) takes.0
         (ap (λ (state : NumberedHub T U B D × List (Option (GivenHandler P D))). state.0) takes.1);
     left = ap (λ (state : NumberedHub T U B D × List (Option (GivenHandler P D))). state.1) takes.1
@@ -279,19 +271,18 @@ module _ {T U B D P : Type 0} (payload user_header : Detail) (types : MessageTyp
   })
   subscriber_did at_failure (Some handler) (Some ports) factory options old new answer here is_found there takes = inl (record {
     finds = ap (λ (found : Option D). is_some found) is_found;
-    step = subst (λ (found : Option D). MakesSubscriber (λ action. unwrap_or found (fixed_reader action)) reader_degrades factory options
-        old.0 answer new.0) (sym is_found) takes.0;
+    step = subst (λ (found : Option D). MakesSubscriber (λ action. unwrap_or found (terms.fixed_reader action)) terms.reader_degrades
+        factory options old.0 answer new.0) (sym is_found) takes.0;
     left = takes.1
         ∙ sym (left_by_replied (asked.Subscriber factory options at_failure) answer old.1 (emptied at_failure old.1)
-        (subscriber_replied (λ action. handler) reader_degrades _ options old.0 new.0 answer ports there takes.0) refl);
+        (subscriber_replied (λ action. handler) terms.reader_degrades _ options old.0 new.0 answer ports there takes.0) refl);
   })
 
   -- ---- any command
 
   pub handled_did : (one : HandledCommand T) (old new : NumberedHub T U B D × List (Option (GivenHandler P D))) (answer : Reply T)
       → PortsAreHere old.0
-      → HandledStep payload user_header types is_default is_default_header fixed handled degrades decides fixed_reader reader_degrades
-      one old (Ok answer) new
+      → HandledStep terms handled one old (Ok answer) new
       → Did one old answer new
   handled_did (asked.Plain command) old new answer here step =
       inl (record { finds = refl; step = step.0; left = step.1 ∙ left_by_plain command answer old.1 })

@@ -4,18 +4,13 @@ use Rattle.std.proofs.lemmas.List.{length-map}
 use Rattle.std.specs.declared.alloc.AllocError.{AllocError}
 use Rattle.iox_hub_commands.specs.Command.declared.command.Command.{Command}
 use Rattle.iox_hub_commands.specs.Command.declared.reply.Reply.{Reply}
-use Rattle.iox_hub_commands.specs.DescribeBase.Detail.{Detail}
-use Rattle.iox_hub_commands.specs.DescribeBase.declared.message_type.MessageTypeDetails.{MessageTypeDetails}
 use Rattle.iox_hub_commands.specs.DomainValues.declared.backpressure.BackpressureAction.{BackpressureAction}
-use Rattle.iox_hub_commands.specs.DomainValues.declared.backpressure.BackpressureDecision.{BackpressureDecision}
-use Rattle.iox_hub_commands.specs.DomainValues.declared.backpressure.BackpressureInfo.{BackpressureInfo}
 use Rattle.iox_hub_commands.specs.DomainValues.declared.backpressure_strategy.BackpressureStrategy.{BackpressureStrategy}
 use Rattle.iox_hub_commands.specs.DomainValues.declared.degradation.DegradationAction.{DegradationAction}
-use Rattle.iox_hub_commands.specs.DomainValues.declared.degradation.DegradationCause.{DegradationCause}
-use Rattle.iox_hub_commands.specs.DomainValues.declared.degradation.DegradationInfo.{DegradationInfo}
 use Rattle.iox_hub_commands.specs.Runs.{Runs, IsRun}
 use Rattle.iox_hub_commands.specs.CommandSteps.{Step}
 use Rattle.iox_hub_commands.specs.declared.numbered_hub.NumberedHub.{NumberedHub}
+use Rattle.iox_hub_commands.specs.Terms.{Terms}
 use Rattle.iox_hub.specs.RunLaws.{PlainRunsArePlain}
 use Rattle.iox_hub.specs.Steps.{HandledStep}
 use Rattle.iox_hub.specs.declared.given.GivenHandler.{GivenHandler}
@@ -53,18 +48,11 @@ apart f (a ∷ all) (other ∷ first) one rest is =
       is_one = deeper.is_one;
     }
 
-module _ {T U B D P : Type 0} (payload user_header : Detail) (types : MessageTypeDetails) (is_default : T → Type 0)
-    (is_default_header : U → Type 0)
-    (fixed : BackpressureStrategy → Option BackpressureAction → DegradationAction → B)
-    (handled : BackpressureStrategy → Option BackpressureAction → DegradationAction → Option P → Option D → B)
-    (degrades : B → DegradationCause → DegradationInfo → DegradationAction → Type 0)
-    (decides : B → BackpressureInfo → BackpressureDecision → Type 0)
-    (fixed_reader : DegradationAction → D) (reader_degrades : D → DegradationCause → DegradationInfo → DegradationAction → Type 0) where
+module _ {T U B D P : Type 0} (terms : Terms T U B D)
+    (handled : BackpressureStrategy → Option BackpressureAction → DegradationAction → Option P → Option D → B) where
   runs_plain : (commands : List (Command T)) (old new : NumberedHub T U B D × List (Option (GivenHandler P D))) (replies : List (Reply T))
-      → Runs (HandledStep payload user_header types is_default is_default_header fixed handled degrades decides fixed_reader
-      reader_degrades) (map (λ (command : Command T). asked.Plain command) commands) old replies new
-      → Runs (Step payload user_header types is_default is_default_header fixed degrades decides fixed_reader reader_degrades) commands
-      old.0 replies new.0 × (new.1 ≡ old.1)
+      → Runs (HandledStep terms handled) (map (λ (command : Command T). asked.Plain command) commands) old replies new
+      → Runs (Step terms) commands old.0 replies new.0 × (new.1 ≡ old.1)
   runs_plain [] old new replies (none, same) = (
     (none, ap (λ (state : NumberedHub T U B D × List (Option (GivenHandler P D))). state.0) same),
     ap
@@ -78,26 +66,18 @@ module _ {T U B D P : Type 0} (payload user_header : Detail) (types : MessageTyp
   stops_plain : (commands : List (Command T)) (first : List (HandledCommand T)) (command : HandledCommand T)
       (old mid new : NumberedHub T U B D × List (Option (GivenHandler P D))) (replies : List (Reply T)) (lacking : AllocError)
       → Apart (λ (one : Command T). asked.Plain one) commands first command
-      → Runs (HandledStep payload user_header types is_default is_default_header fixed handled degrades decides fixed_reader
-      reader_degrades) first old replies mid
-      → HandledStep payload user_header types is_default is_default_header fixed handled degrades decides fixed_reader reader_degrades
-      command mid (Err lacking) new
-      → IsRun (Step payload user_header types is_default is_default_header fixed degrades decides fixed_reader reader_degrades) commands
-      old.0 replies true new.0 × (new.1 ≡ old.1)
+      → Runs (HandledStep terms handled) first old replies mid
+      → HandledStep terms handled command mid (Err lacking) new
+      → IsRun (Step terms) commands old.0 replies true new.0 × (new.1 ≡ old.1)
   stops_plain commands first command old mid new replies lacking parts runs does =
       let ran = runs_plain parts.before old mid replies
       (subst (λ (all : List (HandledCommand T)). Runs
-      (HandledStep payload user_header types is_default is_default_header fixed handled degrades decides fixed_reader
-      reader_degrades) all old replies mid) parts.is_first runs) in
-      let last : HandledStep payload user_header types is_default is_default_header fixed handled degrades decides fixed_reader
-      reader_degrades (asked.Plain parts.at) mid (Err lacking) new =
-      subst (λ (one : HandledCommand T). HandledStep payload user_header types is_default is_default_header fixed handled degrades
-      decides fixed_reader reader_degrades one mid (Err lacking) new) parts.is_one does in
+      (HandledStep terms handled) all old replies mid) parts.is_first runs) in
+      let last : HandledStep terms handled (asked.Plain parts.at) mid (Err lacking) new =
+      subst (λ (one : HandledCommand T). HandledStep terms handled one mid (Err lacking) new) parts.is_one does in
       (inr (parts.before, parts.at, parts.after, mid.0, lacking, parts.is, ran.0, last.0), last.1 ∙ ran.1)
 
-  pub plain_runs : PlainRunsArePlain (HandledStep payload user_header types is_default is_default_header fixed handled degrades decides
-      fixed_reader reader_degrades) (Step payload user_header types is_default is_default_header fixed degrades decides fixed_reader
-      reader_degrades)
+  pub plain_runs : PlainRunsArePlain (HandledStep terms handled) (Step terms)
   plain_runs commands old new replies false runs = runs_plain commands old new replies runs
   plain_runs commands old new replies true (inl (some, none, same)) = (
     inl (

@@ -6,34 +6,24 @@ use Rattle.iox_hub_commands.specs.Command.declared.command.Command.TheVariants a
 use Rattle.iox_hub_commands.specs.Command.declared.port.PublisherOptions.{PublisherOptions}
 use Rattle.iox_hub_commands.specs.Command.declared.port.SubscriberOptions.{SubscriberOptions}
 use Rattle.iox_hub_commands.specs.Command.declared.reply.Reply.{Reply}
-use Rattle.iox_hub_commands.specs.DescribeBase.Detail.{Detail}
-use Rattle.iox_hub_commands.specs.DescribeBase.declared.message_type.MessageTypeDetails.{MessageTypeDetails}
 use Rattle.iox_hub_commands.specs.Domain.declared.ports.service_ports.ServicePorts.{ServicePorts}
 use Rattle.iox_hub_commands.specs.DomainValues.declared.backpressure.BackpressureAction.{BackpressureAction}
-use Rattle.iox_hub_commands.specs.DomainValues.declared.backpressure.BackpressureDecision.{BackpressureDecision}
-use Rattle.iox_hub_commands.specs.DomainValues.declared.backpressure.BackpressureInfo.{BackpressureInfo}
 use Rattle.iox_hub_commands.specs.DomainValues.declared.backpressure_strategy.BackpressureStrategy.{BackpressureStrategy}
 use Rattle.iox_hub_commands.specs.DomainValues.declared.degradation.DegradationAction.{DegradationAction}
-use Rattle.iox_hub_commands.specs.DomainValues.declared.degradation.DegradationCause.{DegradationCause}
-use Rattle.iox_hub_commands.specs.DomainValues.declared.degradation.DegradationInfo.{DegradationInfo}
 use Rattle.iox_hub_commands.specs.CommandSteps.{IsReplied, Step}
 use Rattle.iox_hub_commands.specs.declared.numbered_hub.NumberedHub.{NumberedHub}
+use Rattle.iox_hub_commands.specs.Terms.{Terms}
 use Rattle.iox_hub.specs.Steps.{HandledStep, PublisherTakes, SubscriberTakes}
 use Rattle.iox_hub.specs.declared.given.GivenHandler.{GivenHandler}
 use Rattle.iox_hub.specs.declared.handled_command.HandledCommand.{HandledCommand}
 use Rattle.iox_hub.specs.declared.handled_command.HandledCommand.TheVariants as asked
 
-module _ {T U B D P : Type 0} (payload user_header : Detail) (types : MessageTypeDetails) (is_default : T → Type 0)
-    (is_default_header : U → Type 0)
-    (fixed : BackpressureStrategy → Option BackpressureAction → DegradationAction → B)
+module _ {T U B D P : Type 0} (terms : Terms T U B D)
     (handled : BackpressureStrategy → Option BackpressureAction → DegradationAction → Option P → Option D → B)
-    (degrades : B → DegradationCause → DegradationInfo → DegradationAction → Type 0)
-    (decides : B → BackpressureInfo → BackpressureDecision → Type 0)
-    (fixed_reader : DegradationAction → D) (reader_degrades : D → DegradationCause → DegradationInfo → DegradationAction → Type 0)
     (Goes : NumberedHub T U B D → NumberedHub T U B D → Type 0) (still : (hub : NumberedHub T U B D) → Goes hub hub)
     (steps : (by : BackpressureStrategy → Option BackpressureAction → DegradationAction → B) (by_reader : DegradationAction → D)
     (command : Command T) (old new : NumberedHub T U B D) (answer : Result (Reply T) AllocError)
-    → Step payload user_header types is_default is_default_header by degrades decides by_reader reader_degrades command old answer new
+    → Step (record terms { fixed = by; fixed_reader = by_reader }) command old answer new
     → Goes old new) where
   same_goes : (old new : NumberedHub T U B D × List (Option (GivenHandler P D))) → new ≡ old → Goes old.0 new.0
   same_goes old new is = subst (λ (state : NumberedHub T U B D × List (Option (GivenHandler P D))). Goes old.0 state.0) (sym is)
@@ -47,30 +37,29 @@ module _ {T U B D P : Type 0} (payload user_header : Detail) (types : MessageTyp
   publisher_goes : (at_full : Option (Option P)) (at_failure : Option (Option D)) (ports : Option (ServicePorts T U)) (factory : ℕ)
       (options : PublisherOptions) (fewer : List (Option (GivenHandler P D)))
       (old new : NumberedHub T U B D × List (Option (GivenHandler P D))) (reply : Reply T)
-      → PublisherTakes is_default_header handled degrades at_full at_failure ports factory options fewer old reply new
+      → PublisherTakes terms.is_default_header handled terms.degrades at_full at_failure ports factory options fewer old reply new
       → Goes old.0 new.0
   publisher_goes None at_failure ports factory options fewer old new reply takes = same_goes old new takes.1
   publisher_goes (Some full) None ports factory options fewer old new reply takes = same_goes old new takes.1
   publisher_goes (Some full) (Some failing) None factory options fewer old new reply takes = same_goes old new takes.1
   publisher_goes (Some full) (Some failing) (Some ports) factory options fewer old new reply takes =
-      steps (λ strategy action degrading. handled strategy action degrading full failing) fixed_reader
+      steps (λ strategy action degrading. handled strategy action degrading full failing) terms.fixed_reader
       (command.Publisher factory options) old.0 new.0 (Ok reply) takes.0
 
   subscriber_goes : (found : Option D) (ports : Option (ServicePorts T U)) (factory : ℕ) (options : SubscriberOptions)
       (fewer : List (Option (GivenHandler P D)))
       (old new : NumberedHub T U B D × List (Option (GivenHandler P D))) (reply : Reply T)
-      → SubscriberTakes reader_degrades found ports factory options fewer old reply new → Goes old.0 new.0
+      → SubscriberTakes terms.reader_degrades found ports factory options fewer old reply new → Goes old.0 new.0
   subscriber_goes None ports factory options fewer old new reply takes = same_goes old new takes.1
   subscriber_goes (Some handler) None factory options fewer old new reply takes = same_goes old new takes.1
   subscriber_goes (Some handler) (Some ports) factory options fewer old new reply takes =
-      steps fixed (λ action. handler) (command.Subscriber factory options) old.0 new.0 (Ok reply) takes.0
+      steps terms.fixed (λ action. handler) (command.Subscriber factory options) old.0 new.0 (Ok reply) takes.0
 
   -- what holds over each command, whoever decides, holds over each command with handlers
   pub handled_goes : (command : HandledCommand T) (old new : NumberedHub T U B D × List (Option (GivenHandler P D)))
       (answer : Result (Reply T) AllocError)
-      → HandledStep payload user_header types is_default is_default_header fixed handled degrades decides fixed_reader reader_degrades
-      command old answer new → Goes old.0 new.0
-  handled_goes (asked.Plain command) old new answer step = steps fixed fixed_reader command old.0 new.0 answer step.0
+      → HandledStep terms handled command old answer new → Goes old.0 new.0
+  handled_goes (asked.Plain command) old new answer step = steps terms.fixed terms.fixed_reader command old.0 new.0 answer step.0
   handled_goes (asked.Publisher factory options at_full at_failure) old new answer step =
       replied _ old.0 new.0 answer (λ reply takes. publisher_goes _ _ _ factory options _ old new reply takes) step
   handled_goes (asked.Subscriber factory options at_failure) old new answer step =

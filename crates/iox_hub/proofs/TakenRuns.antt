@@ -9,14 +9,10 @@ use Rattle.iox_hub_commands.specs.Command.declared.port.SubscriberOptions.{Subsc
 use Rattle.iox_hub_commands.specs.Command.declared.reply.Reply.{Reply}
 use Rattle.iox_hub_commands.specs.HubBase.AsHome.{with_hub_ports, with_hub_publisher, with_hub_subscriber}
 use Rattle.iox_hub_commands.specs.HubBase.Opening.{Made as Opened}
-use Rattle.iox_hub_commands.specs.DescribeBase.Detail.{Detail}
-use Rattle.iox_hub_commands.specs.DescribeBase.declared.message_type.MessageTypeDetails.{MessageTypeDetails}
 use Rattle.iox_hub_commands.specs.Domain.AtHomes.{MakesAt}
 use Rattle.iox_hub_commands.specs.Domain.Steps.{why_no_publisher, why_no_subscriber}
 use Rattle.iox_hub_commands.specs.Domain.declared.ports.service_ports.ServicePorts.{ServicePorts}
 use Rattle.iox_hub_commands.specs.DomainValues.declared.backpressure.BackpressureAction.{BackpressureAction}
-use Rattle.iox_hub_commands.specs.DomainValues.declared.backpressure.BackpressureDecision.{BackpressureDecision}
-use Rattle.iox_hub_commands.specs.DomainValues.declared.backpressure.BackpressureInfo.{BackpressureInfo}
 use Rattle.iox_hub_commands.specs.DomainValues.declared.backpressure_strategy.BackpressureStrategy.{BackpressureStrategy}
 use Rattle.iox_hub_commands.specs.DomainValues.declared.create_error.PublisherCreateError.{PublisherCreateError}
 use Rattle.iox_hub_commands.specs.DomainValues.declared.create_error.SubscriberCreateError.{SubscriberCreateError}
@@ -32,6 +28,7 @@ use Rattle.iox_hub_commands.specs.ServicesTables.{publish_subscribe_in}
 use Rattle.iox_hub_commands.specs.Runs.{Runs, IsRun}
 use Rattle.iox_hub_commands.specs.Services.{PublisherComes, SubscriberComes, domain_of_factory, owner_of_factory}
 use Rattle.iox_hub_commands.specs.declared.numbered_hub.NumberedHub.{NumberedHub}
+use Rattle.iox_hub_commands.specs.Terms.{Terms}
 use Rattle.iox_hub.specs.Places.{named, lies_at, backpressure_of, degradation_of, emptied, emptied_if}
 use Rattle.iox_hub.specs.Steps.{HandledStep, PublisherTakes, SubscriberTakes, ports_of_factory}
 use Rattle.iox_hub.specs.Taking.{is_skipped, places_of, taken, TakesOnce}
@@ -129,13 +126,8 @@ taken_nothing : {T : Type 0} (commands : List (HandledCommand T)) → taken comm
 taken_nothing [] = refl
 taken_nothing (command ∷ commands) = refl
 
-module _ {T U B D P : Type 0} (payload user_header : Detail) (types : MessageTypeDetails) (is_default : T → Type 0)
-    (is_default_header : U → Type 0)
-    (fixed : BackpressureStrategy → Option BackpressureAction → DegradationAction → B)
-    (handled : BackpressureStrategy → Option BackpressureAction → DegradationAction → Option P → Option D → B)
-    (degrades : B → DegradationCause → DegradationInfo → DegradationAction → Type 0)
-    (decides : B → BackpressureInfo → BackpressureDecision → Type 0)
-    (fixed_reader : DegradationAction → D) (reader_degrades : D → DegradationCause → DegradationInfo → DegradationAction → Type 0) where
+module _ {T U B D P : Type 0} (terms : Terms T U B D)
+    (handled : BackpressureStrategy → Option BackpressureAction → DegradationAction → Option P → Option D → B) where
   skipped_takes : (places : List ℕ) (old new : NumberedHub T U B D × List (Option (GivenHandler P D))) (answer : Reply T)
       → is_skipped answer ≡ true → new ≡ old → TakesOnce (if is_skipped answer then [] else places) old.1 new.1
   skipped_takes places old new answer skipped is =
@@ -154,7 +146,7 @@ module _ {T U B D P : Type 0} (payload user_header : Detail) (types : MessageTyp
       (old new : NumberedHub T U B D × List (Option (GivenHandler P D))) (answer : Reply T)
       → named (λ lies. backpressure_of lies) at_full old.1 ≡ full → named (λ lies. degradation_of lies) at_failure old.1 ≡ failing
       → ports_of_factory (publish_subscribe_in (value_at old.0.factories.made factory)) old.0.hub ≡ ports
-      → PublisherTakes is_default_header handled degrades full failing ports factory options
+      → PublisherTakes terms.is_default_header handled terms.degrades full failing ports factory options
       (emptied_if at_failure (emptied_if at_full old.1)) old answer new
       → TakesOnce (if is_skipped answer then [] else (option_to_list at_full ++ option_to_list at_failure)) old.1 new.1
   publisher_once at_full at_failure None failing ports factory options old new answer is_full is_failing there takes
@@ -165,8 +157,8 @@ module _ {T U B D P : Type 0} (payload user_header : Detail) (types : MessageTyp
       = skipped_takes _ old new answer (ap (λ (reply : Reply T). is_skipped reply) takes.0) takes.1
   publisher_once at_full at_failure (Some full) (Some failing) (Some ports) factory options old new answer is_full is_failing there takes =
       replied_takes (option_to_list at_full ++ option_to_list at_failure) old new answer (emptied_if at_failure (emptied_if at_full old.1))
-      (publisher_replied is_default_header (λ strategy action degrading. handled strategy action degrading full failing) degrades _
-      options old.0 new.0 answer ports there takes.0) takes.1
+      (publisher_replied terms.is_default_header (λ strategy action degrading. handled strategy action degrading full failing)
+      terms.degrades _ options old.0 new.0 answer ports there takes.0) takes.1
       (both_taken at_full at_failure old.1 (ap (λ (o : Option (Option P)). is_some o) is_full)
       (ap (λ (o : Option (Option D)). is_some o) is_failing))
 
@@ -174,7 +166,7 @@ module _ {T U B D P : Type 0} (payload user_header : Detail) (types : MessageTyp
       (old new : NumberedHub T U B D × List (Option (GivenHandler P D))) (answer : Reply T)
       → degradation_of (lies_at at_failure old.1) ≡ found
       → ports_of_factory (publish_subscribe_in (value_at old.0.factories.made factory)) old.0.hub ≡ ports
-      → SubscriberTakes reader_degrades found ports factory options (emptied at_failure old.1) old answer new
+      → SubscriberTakes terms.reader_degrades found ports factory options (emptied at_failure old.1) old answer new
       → TakesOnce (if is_skipped answer then [] else (at_failure ∷ [])) old.1 new.1
   subscriber_once at_failure None ports factory options old new answer is_found there takes
       = skipped_takes _ old new answer (ap (λ (reply : Reply T). is_skipped reply) takes.0) takes.1
@@ -182,13 +174,12 @@ module _ {T U B D P : Type 0} (payload user_header : Detail) (types : MessageTyp
       = skipped_takes _ old new answer (ap (λ (reply : Reply T). is_skipped reply) takes.0) takes.1
   subscriber_once at_failure (Some handler) (Some ports) factory options old new answer is_found there takes =
       replied_takes (at_failure ∷ []) old new answer (emptied at_failure old.1)
-      (subscriber_replied (λ action. handler) reader_degrades _ options old.0 new.0 answer ports there takes.0) takes.1
+      (subscriber_replied (λ action. handler) terms.reader_degrades _ options old.0 new.0 answer ports there takes.0) takes.1
       (one_taken at_failure old.1 (some_degradation_lies (lies_at at_failure old.1) handler is_found))
 
   -- what a command takes that is replied to
   handled_once : (command : HandledCommand T) (old new : NumberedHub T U B D × List (Option (GivenHandler P D))) (answer : Reply T)
-      → HandledStep payload user_header types is_default is_default_header fixed handled degrades decides fixed_reader reader_degrades
-      command old (Ok answer) new
+      → HandledStep terms handled command old (Ok answer) new
       → TakesOnce (if is_skipped answer then [] else places_of command) old.1 new.1
   handled_once (asked.Plain command) old new answer step = nothing_either (is_skipped answer) old.1 new.1 step.1
   handled_once (asked.Publisher factory options at_full at_failure) old new answer step
@@ -198,8 +189,7 @@ module _ {T U B D P : Type 0} (payload user_header : Detail) (types : MessageTyp
 
   -- a command that isn't replied to takes nothing
   lacking_leaves : (command : HandledCommand T) (old new : NumberedHub T U B D × List (Option (GivenHandler P D))) (lacking : AllocError)
-      → HandledStep payload user_header types is_default is_default_header fixed handled degrades decides fixed_reader reader_degrades
-      command old (Err lacking) new → new.1 ≡ old.1
+      → HandledStep terms handled command old (Err lacking) new → new.1 ≡ old.1
   lacking_leaves (asked.Plain command) old new lacking step = step.1
   lacking_leaves (asked.Publisher factory options at_full at_failure) old new lacking step = absurd step
   lacking_leaves (asked.Subscriber factory options at_failure) old new lacking step = absurd step
@@ -213,8 +203,7 @@ module _ {T U B D P : Type 0} (payload user_header : Detail) (types : MessageTyp
 
   runs_once : (first more : List (HandledCommand T)) (old new : NumberedHub T U B D × List (Option (GivenHandler P D)))
       (replies : List (Reply T))
-      → Runs (HandledStep payload user_header types is_default is_default_header fixed handled degrades decides fixed_reader
-      reader_degrades) first old replies new
+      → Runs (HandledStep terms handled) first old replies new
       → TakesOnce (taken (first ++ more) replies) old.1 new.1
   runs_once [] more old new replies (none, same) = unbegun_once more old new replies none same
   runs_once (command ∷ first) more old new replies (answer, mid, rest, does, runs, is) =
@@ -225,8 +214,7 @@ module _ {T U B D P : Type 0} (payload user_header : Detail) (types : MessageTyp
   -- what a run takes
   pub run_once : (commands : List (HandledCommand T)) (old new : NumberedHub T U B D × List (Option (GivenHandler P D)))
       (replies : List (Reply T)) (stopped : Bool)
-      → IsRun (HandledStep payload user_header types is_default is_default_header fixed handled degrades decides fixed_reader
-      reader_degrades) commands old replies stopped new
+      → IsRun (HandledStep terms handled) commands old replies stopped new
       → TakesOnce (taken commands replies) old.1 new.1
   run_once commands old new replies false runs =
       subst (λ (all : List (HandledCommand T)). TakesOnce (taken all replies) old.1 new.1) (append-nil commands)

@@ -1,25 +1,20 @@
 -- What a run with handlers comes to, in the words of the machine of `iox_machine`.
-use Rattle.std.specs.Prelude.{ℕ, ◌≡◌, ◌^◌, ◌<◌, Bool, true, false, List, length, map, Option, Result, ◌++◌, drop}
+use Rattle.std.specs.Prelude.{ℕ, ◌≡◌, ◌^◌, ◌<◌, Bool, true, false, List, length, map, Option, ◌++◌, drop}
 use Rattle.std.specs.List.{AllByRecursion}
-use Rattle.std.specs.declared.alloc.AllocError.{AllocError}
 use Rattle.iox_hub_commands.specs.Command.declared.reply.Reply.{Reply}
 use Rattle.iox_hub_commands.specs.Command.declared.reply.Reply.TheVariants as reply
-use Rattle.iox_hub_commands.specs.DescribeBase.declared.message_type.MessageTypeDetails.{MessageTypeDetails}
 use Rattle.iox_hub_commands.specs.DescribeBase.declared.pattern.MessagingPattern.{MessagingPattern}
 use Rattle.iox_hub_commands.specs.Domain.declared.ports.service_ports.ServicePorts.{ServicePorts}
 use Rattle.iox_hub_commands.specs.DomainValues.declared.backpressure.BackpressureAction.{BackpressureAction}
-use Rattle.iox_hub_commands.specs.DomainValues.declared.backpressure.BackpressureDecision.{BackpressureDecision}
-use Rattle.iox_hub_commands.specs.DomainValues.declared.backpressure.BackpressureInfo.{BackpressureInfo}
 use Rattle.iox_hub_commands.specs.DomainValues.declared.backpressure_strategy.BackpressureStrategy.{BackpressureStrategy}
 use Rattle.iox_hub_commands.specs.DomainValues.declared.degradation.DegradationAction.{DegradationAction}
-use Rattle.iox_hub_commands.specs.DomainValues.declared.degradation.DegradationCause.{DegradationCause}
-use Rattle.iox_hub_commands.specs.DomainValues.declared.degradation.DegradationInfo.{DegradationInfo}
 use Rattle.iox_hub_commands.specs.Grown.{HaveGrown}
 use Rattle.iox_hub_commands.specs.HubBase.declared.hub.HubConfig.{HubConfig}
 use Rattle.iox_hub_commands.specs.Numbers.{IsNew}
 use Rattle.iox_hub_commands.specs.PortRoom.{HasRoom}
 use Rattle.iox_hub_commands.specs.Runs.{IsRun, Runs}
 use Rattle.iox_hub_commands.specs.declared.numbered_hub.NumberedHub.{NumberedHub}
+use Rattle.iox_hub_commands.specs.Terms.{Terms}
 use Rattle.iox_domain_machine.specs.Naming.{Naming}
 use Rattle.iox_hub_machine.specs.ArrivalLaws.{AnswersAsFixed, DecidesAsFixed}
 use Rattle.iox_hub_machine.specs.RunLaws.{all_asked, names_in}
@@ -28,20 +23,15 @@ use Rattle.iox_hub.specs.Room.{StopsInTime}
 use Rattle.iox_hub.specs.Turns.{answered_in, asked_in, finds_handlers, handed_in, turns, without_places}
 use Rattle.iox_hub.specs.declared.given.GivenHandler.{GivenHandler}
 use Rattle.iox_hub.specs.declared.handled_command.HandledCommand.{HandledCommand}
+use Rattle.iox_hub.specs.Steps.{HandledStep}
 use Rattle.iox_machine.specs.Choices.{chosen_by}
 use Rattle.iox_machine.specs.Run as machine
 use Rattle.iox_machine.specs.State.{State, new_state}
 use Rattle.iox_negotiate_machine.specs.Laws.{HaveOwnHashes}
 
--- The types are those of the messages; then what is a default value, who decides by fixed actions, who by handlers that are handed in, and
--- what anybody who decides may answer.
-module _ {T U B D P : Type 0} (types : MessageTypeDetails) (is_default : T → Type 0)
-    (fixed : BackpressureStrategy → Option BackpressureAction → DegradationAction → B)
-    (handled : BackpressureStrategy → Option BackpressureAction → DegradationAction → Option P → Option D → B)
-    (degrades : B → DegradationCause → DegradationInfo → DegradationAction → Type 0)
-    (decides : B → BackpressureInfo → BackpressureDecision → Type 0)
-    (fixed_reader : DegradationAction → D)
-    (reader_degrades : D → DegradationCause → DegradationInfo → DegradationAction → Type 0) where
+-- The terms of the hub are given, and who decides by handlers that are handed in.
+module _ {T U B D P : Type 0} (terms : Terms T U B D)
+    (handled : BackpressureStrategy → Option BackpressureAction → DegradationAction → Option P → Option D → B) where
   -- What a hub replied to commands, where these handlers lay at their places at first, is what a new machine may answer where those were
   -- handed in who were: to all commands, or, where the run stopped, to the first of them, where a run may stop. A command that doesn't
   -- find a handler that it names is skipped, and the machine isn't asked it. So it is where the hub was new, no two services of the names
@@ -53,18 +43,17 @@ module _ {T U B D P : Type 0} (types : MessageTypeDetails) (is_default : T → T
       let plain = map (λ command. without_places command) commands in
       let left = map (λ command. without_places command) (drop (length replies) commands) in
       let all = turns commands replies given in
-      DecidesAsFixed fixed degrades decides → AnswersAsFixed fixed_reader reader_degrades
+      DecidesAsFixed terms.fixed terms.degrades terms.decides → AnswersAsFixed terms.fixed_reader terms.reader_degrades
       → IsNew config old → HaveOwnHashes (names_in plain) → all_asked plain < 2 ^ 56
-      → machine.Answers types (chosen_by is_default decides degrades reader_degrades (handed_in handled all))
-      config.expired_connection_buffer (asked_in all ++ left) stopped (answered_in all)
+      → machine.Answers terms.types (chosen_by terms.is_default terms.decides terms.degrades terms.reader_degrades
+      (handed_in handled all)) config.expired_connection_buffer (asked_in all ++ left) stopped (answered_in all)
       × AllByRecursion (λ turn. finds_handlers turn.command turn.given ≡ false → turn.answer ≡ reply.Skipped) all
 
   -- So it is of each run that stops only where it may.
-  abbrev pub HandledRunsAnswer : (HandledCommand T → NumberedHub T U B D × List (Option (GivenHandler P D)) → Result (Reply T) AllocError
-      → NumberedHub T U B D × List (Option (GivenHandler P D)) → Type 0) → Type 0
-  HandledRunsAnswer step = (config : HubConfig) (commands : List (HandledCommand T))
+  abbrev pub HandledRunsAnswer : Type 0
+  HandledRunsAnswer = (config : HubConfig) (commands : List (HandledCommand T))
       (old new : NumberedHub T U B D × List (Option (GivenHandler P D))) (replies : List (Reply T)) (stopped : Bool)
-      → IsRun step commands old replies stopped new
+      → IsRun (HandledStep terms handled) commands old replies stopped new
       → (HasRoom old.0 → HaveGrown old.0.hub.services.domains → stopped ≡ true → StopsInTime commands old (length replies) new)
       → AnswersWithHandlers config commands old.0 old.1 replies stopped
 
@@ -74,19 +63,21 @@ module _ {T U B D P : Type 0} (types : MessageTypeDetails) (is_default : T → T
       → List (Reply T) → Type 0
   StandsWithHandlers config commands given new replies =
       (taken : MessagingPattern → List ℕ → List ℕ) × (naming : ℕ → Naming) × (order : List (ℕ × ServicePorts T U)) × (after : State T)
-      × machine.Runs types (chosen_by is_default decides degrades reader_degrades (handed_in handled (turns commands replies given)))
+      × machine.Runs terms.types (chosen_by terms.is_default terms.decides terms.degrades terms.reader_degrades
+      (handed_in handled (turns commands replies given)))
       config.expired_connection_buffer (asked_in (turns commands replies given)) new_state
       (answered_in (turns commands replies given)) after
-      × HubStandsFor (chosen_by is_default decides degrades reader_degrades (handed_in handled (turns commands replies given)))
-      degrades decides reader_degrades (names_in (map (λ command. without_places command) commands)) taken naming order new after
+      × HubStandsFor (chosen_by terms.is_default terms.decides terms.degrades terms.reader_degrades
+      (handed_in handled (turns commands replies given)))
+      terms.degrades terms.decides terms.reader_degrades (names_in (map (λ command. without_places command) commands)) taken naming order
+      new after
 
   -- So it is with each run to its end, by the same premises.
-  abbrev pub HandledRunsStand : (HandledCommand T → NumberedHub T U B D × List (Option (GivenHandler P D)) → Result (Reply T) AllocError
-      → NumberedHub T U B D × List (Option (GivenHandler P D)) → Type 0) → Type 0
-  HandledRunsStand step = (config : HubConfig) (commands : List (HandledCommand T))
+  abbrev pub HandledRunsStand : Type 0
+  HandledRunsStand = (config : HubConfig) (commands : List (HandledCommand T))
       (old new : NumberedHub T U B D × List (Option (GivenHandler P D))) (replies : List (Reply T))
-      → Runs step commands old replies new
-      → DecidesAsFixed fixed degrades decides → AnswersAsFixed fixed_reader reader_degrades
+      → Runs (HandledStep terms handled) commands old replies new
+      → DecidesAsFixed terms.fixed terms.degrades terms.decides → AnswersAsFixed terms.fixed_reader terms.reader_degrades
       → IsNew config old.0 → HaveOwnHashes (names_in (map (λ command. without_places command) commands))
       → all_asked (map (λ command. without_places command) commands) < 2 ^ 56
       → StandsWithHandlers config commands old.1 new.0 replies

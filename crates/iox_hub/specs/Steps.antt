@@ -5,11 +5,7 @@ use Rattle.iox_hub_commands.specs.Command.declared.port.PublisherOptions.{Publis
 use Rattle.iox_hub_commands.specs.Command.declared.port.SubscriberOptions.{SubscriberOptions}
 use Rattle.iox_hub_commands.specs.Command.declared.reply.Reply.{Reply}
 use Rattle.iox_hub_commands.specs.Command.declared.reply.Reply.TheVariants as reply
-use Rattle.iox_hub_commands.specs.DescribeBase.Detail.{Detail}
-use Rattle.iox_hub_commands.specs.DescribeBase.declared.message_type.MessageTypeDetails.{MessageTypeDetails}
 use Rattle.iox_hub_commands.specs.DomainValues.declared.backpressure.BackpressureAction.{BackpressureAction}
-use Rattle.iox_hub_commands.specs.DomainValues.declared.backpressure.BackpressureDecision.{BackpressureDecision}
-use Rattle.iox_hub_commands.specs.DomainValues.declared.backpressure.BackpressureInfo.{BackpressureInfo}
 use Rattle.iox_hub_commands.specs.DomainValues.declared.backpressure_strategy.BackpressureStrategy.{BackpressureStrategy}
 use Rattle.iox_hub_commands.specs.DomainValues.declared.degradation.DegradationAction.{DegradationAction}
 use Rattle.iox_hub_commands.specs.DomainValues.declared.degradation.DegradationCause.{DegradationCause}
@@ -23,6 +19,7 @@ use Rattle.iox_hub_commands.specs.ServicesTables.{publish_subscribe_in}
 use Rattle.iox_hub_commands.specs.Services.{MakesPublisher, MakesSubscriber, domain_of_factory}
 use Rattle.iox_hub_commands.specs.CommandSteps.{IsReplied, Step}
 use Rattle.iox_hub_commands.specs.declared.numbered_hub.NumberedHub.{NumberedHub}
+use Rattle.iox_hub_commands.specs.Terms.{Terms}
 use Rattle.iox_hub.specs.Places.{named, lies_at, backpressure_of, degradation_of, emptied, emptied_if}
 use Rattle.iox_hub.specs.declared.given.GivenHandler.{GivenHandler}
 use Rattle.iox_hub.specs.declared.handled_command.HandledCommand.{HandledCommand}
@@ -63,25 +60,17 @@ module _ {T U B D P : Type 0} where
 
   -- What each command does to a hub and to the handlers that are left, by their places, and what it is replied. A command that names no
   -- handler does what `Step` says, and leaves them.
-  abbrev pub HandledStep : Detail → Detail → MessageTypeDetails → (T → Type 0) → (U → Type 0)
-      → (BackpressureStrategy → Option BackpressureAction → DegradationAction → B)
-      → (BackpressureStrategy → Option BackpressureAction → DegradationAction → Option P → Option D → B)
-      → (B → DegradationCause → DegradationInfo → DegradationAction → Type 0) → (B → BackpressureInfo → BackpressureDecision → Type 0)
-      → (DegradationAction → D) → (D → DegradationCause → DegradationInfo → DegradationAction → Type 0)
+  abbrev pub HandledStep : Terms T U B D → (BackpressureStrategy → Option BackpressureAction → DegradationAction → Option P → Option D → B)
       → HandledCommand T → NumberedHub T U B D × List (Option (GivenHandler P D)) → Result (Reply T) AllocError → NumberedHub T U B D
       × List (Option (GivenHandler P D)) → Type 0
-  HandledStep payload user_header types is_default is_default_header fixed handled degrades decides fixed_reader reader_degrades
-      (asked.Plain command) old answer new =
-      Step payload user_header types is_default is_default_header fixed degrades decides fixed_reader reader_degrades command old.0
-      answer new.0 × (new.1 ≡ old.1)
-  HandledStep payload user_header types is_default is_default_header fixed handled degrades decides fixed_reader reader_degrades
-      (asked.Publisher factory options at_full at_failure) old answer new =
-      IsReplied (λ reply. PublisherTakes is_default_header handled degrades (named backpressure_of at_full old.1)
+  HandledStep terms handled (asked.Plain command) old answer new =
+      Step terms command old.0 answer new.0 × (new.1 ≡ old.1)
+  HandledStep terms handled (asked.Publisher factory options at_full at_failure) old answer new =
+      IsReplied (λ reply. PublisherTakes terms.is_default_header handled terms.degrades (named backpressure_of at_full old.1)
       (named degradation_of at_failure old.1)
       (ports_of_factory (publish_subscribe_in (value_at old.0.factories.made factory)) old.0.hub) factory options
       (emptied_if at_failure (emptied_if at_full old.1)) old reply new) answer
-  HandledStep payload user_header types is_default is_default_header fixed handled degrades decides fixed_reader reader_degrades
-      (asked.Subscriber factory options at_failure) old answer new =
-      IsReplied (λ reply. SubscriberTakes reader_degrades (degradation_of (lies_at at_failure old.1))
+  HandledStep terms handled (asked.Subscriber factory options at_failure) old answer new =
+      IsReplied (λ reply. SubscriberTakes terms.reader_degrades (degradation_of (lies_at at_failure old.1))
       (ports_of_factory (publish_subscribe_in (value_at old.0.factories.made factory)) old.0.hub) factory options
       (emptied at_failure old.1) old reply new) answer

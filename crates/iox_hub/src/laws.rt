@@ -1,8 +1,6 @@
 //! What runs come to, in other words than theirs. Each law is the contract of a function that does nothing.
-ghost use Rattle.iox_hub_commands.specs.DescribeBase.Detail.{detail};
-ghost use Rattle.iox_hub_commands.specs.DescribeBase.declared.type_detail.TypeVariant.TheVariants.{FixedSize};
-ghost use Rattle.iox_hub_commands.specs.Asked.{types_of};
 ghost use Rattle.iox_hub_commands.specs.CommandSteps.{Step};
+ghost use Rattle.iox_hub_commands.specs.Terms.{terms_of};
 ghost use Rattle.iox_hub.specs.HandledLaws.{HandledRunsAnswer, HandledRunsStand};
 ghost use Rattle.iox_hub.specs.RunLaws.{PlainRunsArePlain};
 ghost use Rattle.iox_hub.specs.Steps.{HandledStep};
@@ -21,13 +19,11 @@ pub fn plain_commands_take_nothing<
     D: SubscriberHandler,
     P: Drop,
 >()
-    ensures { PlainRunsArePlain (HandledStep (detail FixedSize T.name T.size T.alignment) (detail FixedSize U.name U.size U.alignment)
-        (types_of T.name T.size T.alignment U.name U.size U.alignment) T.is_default U.is_default B.fixed
-        (λ strategy action degrading at_full at_failure. B.handled strategy action degrading at_full at_failure)
-        (λ handlers. B.degrades handlers) (λ handlers. B.decides handlers) D.fixed (λ handler. D.degrades handler))
-        (Step (detail FixedSize T.name T.size T.alignment) (detail FixedSize U.name U.size U.alignment)
-        (types_of T.name T.size T.alignment U.name U.size U.alignment) T.is_default U.is_default B.fixed
-        (λ handlers. B.degrades handlers) (λ handlers. B.decides handlers) D.fixed (λ handler. D.degrades handler)) }
+    ensures { PlainRunsArePlain (HandledStep (terms_of T.name T.size T.alignment T.is_default U.name U.size U.alignment U.is_default
+        B.fixed (λ handlers. B.degrades handlers) (λ handlers. B.decides handlers) D.fixed (λ handler. D.degrades handler))
+        (λ strategy action degrading at_full at_failure. B.handled strategy action degrading at_full at_failure))
+        (Step (terms_of T.name T.size T.alignment T.is_default U.name U.size U.alignment U.is_default B.fixed
+        (λ handlers. B.degrades handlers) (λ handlers. B.decides handlers) D.fixed (λ handler. D.degrades handler))) }
 {}
 
 /// What a new hub replies to commands with handlers is what a new machine may answer: to all commands, or, where the run stopped, to the
@@ -42,13 +38,9 @@ pub fn runs_with_handlers_answer<
     D: SubscriberHandler,
     P: Drop,
 >()
-    ensures { HandledRunsAnswer (types_of T.name T.size T.alignment U.name U.size U.alignment) T.is_default B.fixed
-        (λ strategy action degrading at_full at_failure. B.handled strategy action degrading at_full at_failure)
-        (λ handlers. B.degrades handlers) (λ handlers. B.decides handlers) D.fixed (λ handler. D.degrades handler)
-        (HandledStep (detail FixedSize T.name T.size T.alignment) (detail FixedSize U.name U.size U.alignment)
-        (types_of T.name T.size T.alignment U.name U.size U.alignment) T.is_default U.is_default B.fixed
-        (λ strategy action degrading at_full at_failure. B.handled strategy action degrading at_full at_failure)
-        (λ handlers. B.degrades handlers) (λ handlers. B.decides handlers) D.fixed (λ handler. D.degrades handler)) }
+    ensures { HandledRunsAnswer (terms_of T.name T.size T.alignment T.is_default U.name U.size U.alignment U.is_default B.fixed
+        (λ handlers. B.degrades handlers) (λ handlers. B.decides handlers) D.fixed (λ handler. D.degrades handler))
+        (λ strategy action degrading at_full at_failure. B.handled strategy action degrading at_full at_failure) }
 {
     new_hub_begins::<T, U, B, D>();
     decided_runs_go_on::<T, U, B, D>();
@@ -63,13 +55,9 @@ pub fn runs_with_handlers_stand<
     D: SubscriberHandler,
     P: Drop,
 >()
-    ensures { HandledRunsStand (types_of T.name T.size T.alignment U.name U.size U.alignment) T.is_default B.fixed
-        (λ strategy action degrading at_full at_failure. B.handled strategy action degrading at_full at_failure)
-        (λ handlers. B.degrades handlers) (λ handlers. B.decides handlers) D.fixed (λ handler. D.degrades handler)
-        (HandledStep (detail FixedSize T.name T.size T.alignment) (detail FixedSize U.name U.size U.alignment)
-        (types_of T.name T.size T.alignment U.name U.size U.alignment) T.is_default U.is_default B.fixed
-        (λ strategy action degrading at_full at_failure. B.handled strategy action degrading at_full at_failure)
-        (λ handlers. B.degrades handlers) (λ handlers. B.decides handlers) D.fixed (λ handler. D.degrades handler)) }
+    ensures { HandledRunsStand (terms_of T.name T.size T.alignment T.is_default U.name U.size U.alignment U.is_default B.fixed
+        (λ handlers. B.degrades handlers) (λ handlers. B.decides handlers) D.fixed (λ handler. D.degrades handler))
+        (λ strategy action degrading at_full at_failure. B.handled strategy action degrading at_full at_failure) }
 {
     new_hub_begins::<T, U, B, D>();
     decided_runs_go_on::<T, U, B, D>();

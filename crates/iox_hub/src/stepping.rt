@@ -2,12 +2,10 @@
 ghost use Rattle.std.specs.Prelude.{◌+◌, ◌<◌, ◌≤◌, ◌^◌, OnErr};
 ghost use Rattle.iox_hub_commands.specs.Agreements.{AreOfOneAgreement};
 ghost use Rattle.iox_hub_commands.specs.Grown.{GrowsOn, HaveGrown, AreAsAgreed, OneDomainMoves};
-ghost use Rattle.iox_hub_commands.specs.DescribeBase.Detail.{detail};
-ghost use Rattle.iox_hub_commands.specs.DescribeBase.declared.type_detail.TypeVariant.TheVariants.{FixedSize};
-ghost use Rattle.iox_hub_commands.specs.Asked.{types_of};
 ghost use Rattle.iox_hub_commands.specs.Lives.{ChangesOneThing};
 ghost use Rattle.iox_hub_commands.specs.Numbers.{numbers_used};
 ghost use Rattle.iox_hub_commands.specs.PortRoom.{HasRoom, KeepsRoom};
+ghost use Rattle.iox_hub_commands.specs.Terms.{terms_of};
 ghost use Rattle.iox_hub.specs.Room.{HandledLacks};
 ghost use Rattle.iox_hub.specs.Steps.{HandledStep};
 
@@ -42,10 +40,9 @@ pub fn step<
     given: &mut GivenHandlers<P, D>,
 ) -> Result<Reply<T>, AllocError>
     requires { numbers_used hub.old + 1 < 2 ^ 64 }
-    ensures steps { HandledStep (detail FixedSize T.name T.size T.alignment) (detail FixedSize U.name U.size U.alignment)
-        (types_of T.name T.size T.alignment U.name U.size U.alignment) T.is_default U.is_default B.fixed
-        (λ strategy action degrading at_full at_failure. B.handled strategy action degrading at_full at_failure)
-        (λ handlers. B.degrades handlers) (λ handlers. B.decides handlers) D.fixed (λ handler. D.degrades handler) command.entry
+    ensures steps { HandledStep (terms_of T.name T.size T.alignment T.is_default U.name U.size U.alignment U.is_default B.fixed
+        (λ handlers. B.degrades handlers) (λ handlers. B.decides handlers) D.fixed (λ handler. D.degrades handler))
+        (λ strategy action degrading at_full at_failure. B.handled strategy action degrading at_full at_failure) command.entry
         (hub.old, given.old.places.items) result (hub.new, given.new.places.items) }
     ensures counts { numbers_used hub.new ≤ numbers_used hub.old + 1 }
     ensures one { ChangesOneThing hub.old hub.new }
@@ -75,10 +72,9 @@ fn carry_out<
     requires { numbers_used hub.old + 1 < 2 ^ 64 }
     ensures room { KeepsRoom hub.old hub.new }
     ensures lacks { HasRoom hub.old → OnErr result (HandledLacks command.entry hub.old hub.new) }
-    ensures steps { HandledStep (detail FixedSize T.name T.size T.alignment) (detail FixedSize U.name U.size U.alignment)
-        (types_of T.name T.size T.alignment U.name U.size U.alignment) T.is_default U.is_default B.fixed
-        (λ strategy action degrading at_full at_failure. B.handled strategy action degrading at_full at_failure)
-        (λ handlers. B.degrades handlers) (λ handlers. B.decides handlers) D.fixed (λ handler. D.degrades handler) command.entry
+    ensures steps { HandledStep (terms_of T.name T.size T.alignment T.is_default U.name U.size U.alignment U.is_default B.fixed
+        (λ handlers. B.degrades handlers) (λ handlers. B.decides handlers) D.fixed (λ handler. D.degrades handler))
+        (λ strategy action degrading at_full at_failure. B.handled strategy action degrading at_full at_failure) command.entry
         (hub.old, given.old.places.items) result (hub.new, given.new.places.items) }
 {
     match command {

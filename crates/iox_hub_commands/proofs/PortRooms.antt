@@ -18,8 +18,6 @@ use Rattle.iox_command.specs.declared.command.Command.{Command}
 use Rattle.iox_command.specs.declared.command.Command.TheVariants as command
 use Rattle.iox_command.specs.declared.reply.Reply.{Reply}
 use Rattle.iox_delivery.specs.declared.port_id.PortId.{PortId}
-use Rattle.iox_delivery.specs.DescribeBase.Detail.{Detail}
-use Rattle.iox_delivery.specs.DescribeBase.declared.message_type.MessageTypeDetails.{MessageTypeDetails}
 use Rattle.iox_delivery.specs.Domain.declared.domain_id.DomainId.{DomainId}
 use Rattle.iox_delivery.specs.Domain.Calls.{PortCall}
 use Rattle.iox_delivery.specs.Domain.Order.{Happen}
@@ -29,10 +27,6 @@ use Rattle.iox_delivery.specs.Domain.declared.ports.making.SubscriberConfig.{Sub
 use Rattle.iox_delivery.specs.Domain.declared.ports.service_ports.ServicePorts.{ServicePorts}
 use Rattle.iox_delivery.specs.Domain.Sizes.{sizes}
 use Rattle.iox_delivery.specs.DomainPorts.declared.attached.Taken.{Taken}
-use Rattle.iox_command.specs.DomainValues.declared.backpressure.BackpressureAction.{BackpressureAction}
-use Rattle.iox_command.specs.DomainValues.declared.backpressure.BackpressureDecision.{BackpressureDecision}
-use Rattle.iox_command.specs.DomainValues.declared.backpressure.BackpressureInfo.{BackpressureInfo}
-use Rattle.iox_command.specs.DomainValues.declared.backpressure_strategy.BackpressureStrategy.{BackpressureStrategy}
 use Rattle.iox_command.specs.DomainValues.declared.degradation.DegradationAction.{DegradationAction}
 use Rattle.iox_command.specs.DomainValues.declared.degradation.DegradationCause.{DegradationCause}
 use Rattle.iox_command.specs.DomainValues.declared.degradation.DegradationInfo.{DegradationInfo}
@@ -60,6 +54,7 @@ use Rattle.iox_hub_commands.specs.Room.{OnlyRoomier}
 use Rattle.iox_hub_commands.specs.CommandSteps.{Step, subscriber_may_degrade}
 use Rattle.iox_hub_commands.specs.declared.numbered_hub.NumberedHub.{NumberedHub}
 use Rattle.iox_hub_commands.specs.declared.room.Pledged.{Pledged}
+use Rattle.iox_hub_commands.specs.Terms.{Terms}
 use Rattle.iox_hub_commands.proofs.LoanMeasure.{loan_measure}
 use Rattle.iox_hub_commands.proofs.Measures.{IsFineAt, AreFine}
 use Rattle.iox_hub_commands.proofs.PortsCount.{Balances, held_at, brought_at, publisher_balances, subscriber_balances}
@@ -468,40 +463,29 @@ module _ {T U B D : Type 0} where
             (omega (arith, enough, few, left, held, of_samples), inr (omega (arith, fits, steady, more_samples, of_samples))),
       )
 
-  module _ (payload user_header : Detail) (types : MessageTypeDetails) (is_default : T → Type 0) (is_default_header : U → Type 0)
-      (fixed : BackpressureStrategy → Option BackpressureAction → DegradationAction → B)
-      (degrades : B → DegradationCause → DegradationInfo → DegradationAction → Type 0)
-      (decides : B → BackpressureInfo → BackpressureDecision → Type 0)
-      (fixed_reader : DegradationAction → D) (reader_degrades : D → DegradationCause → DegradationInfo → DegradationAction → Type 0)
+  module _ (terms : Terms T U B D)
       (asked : Command T) (old new : NumberedHub T U B D) (answer : Result (Reply T) AllocError) where
     -- each command leaves the room, if those do by which ports come, and no other pledges
-    pub step_room : Step payload user_header types is_default is_default_header fixed degrades decides fixed_reader reader_degrades
-        asked old answer new → OfPorts (KeepsRoom old new) asked → OfOthers (new.pledged ≡ old.pledged) asked → KeepsRoom old new
+    pub step_room : Step terms asked old answer new → OfPorts (KeepsRoom old new) asked → OfOthers (new.pledged ≡ old.pledged) asked
+        → KeepsRoom old new
     step_room step of others = elim (of_either asked of others) [
       | inl keeps ↦ keeps
       | inr same ↦
-          let (loan_room, sample_room) = no_room_goes payload user_header types is_default is_default_header fixed degrades decides
-          fixed_reader reader_degrades asked old new answer step in (
-            step_holds loan_measure payload user_header types is_default is_default_header fixed degrades decides fixed_reader
-                reader_degrades old new (HasLoanRoom old → HasLoanRoom new)
+          let (loan_room, sample_room) = no_room_goes terms asked old new answer step in (
+            step_holds loan_measure terms old new (HasLoanRoom old → HasLoanRoom new)
                 (λ keeps. let (stay, balances) = keeps in loans_kept old new loan_room stay.0 same balances) asked answer step
                 (of_ports asked (λ keeps. keeps.0) of),
-            step_holds sample_measure payload user_header types is_default is_default_header fixed degrades decides fixed_reader
-                reader_degrades old new (HaveGrown old.hub.services.domains → HasSampleRoom old → HasSampleRoom new)
+            step_holds sample_measure terms old new (HaveGrown old.hub.services.domains → HasSampleRoom old → HasSampleRoom new)
                 (λ keeps. let (stay, balances) = keeps in samples_kept old new sample_room stay.1 same balances) asked answer step
                 (of_ports asked (λ keeps. keeps.1) of),
           )
     ]
 
-  module _ (payload user_header : Detail) (types : MessageTypeDetails) (is_default : T → Type 0) (is_default_header : U → Type 0)
-      (fixed : BackpressureStrategy → Option BackpressureAction → DegradationAction → B)
-      (degrades : B → DegradationCause → DegradationInfo → DegradationAction → Type 0)
-      (decides : B → BackpressureInfo → BackpressureDecision → Type 0)
-      (fixed_reader : DegradationAction → D) (reader_degrades : D → DegradationCause → DegradationInfo → DegradationAction → Type 0) where
+  module _ (terms : Terms T U B D) where
     received_in_room : (subscriber : ℕ) (old new : NumberedHub T U B D) (lacking : AllocError)
         (received : Result (Option (Result (Option ℕ) ReceiveError)) AllocError)
         → GrowsFirst (IsFull old.made.samples)
-        (ReceivesNumbered hub_ports with_hub_ports (subscriber_may_degrade reader_degrades)
+        (ReceivesNumbered hub_ports with_hub_ports (subscriber_may_degrade terms.reader_degrades)
         (value_at old.made.subscribers subscriber)) old.made old.hub received new.made new.hub
         → IsTold {T = T} (λ sample. values_under hub_ports (value_at new.made.samples sample) new.hub) received (Err lacking)
         → IsSome (value_at old.made.subscribers subscriber) → HasSampleRoom old → CameUnread old new
@@ -521,8 +505,7 @@ module _ {T U B D : Type 0} where
 
     -- where there is room a command that isn't replied to lacked memory for values
     lacks : (asked : Command T) (old new : NumberedHub T U B D) (lacking : AllocError)
-        → Step payload user_header types is_default is_default_header fixed degrades decides fixed_reader reader_degrades asked old
-        (Err lacking) new → FindsPort asked old → HasRoom old → LacksInRoom asked old new
+        → Step terms asked old (Err lacking) new → FindsPort asked old → HasRoom old → LacksInRoom asked old new
     lacks command.Node old new lacking step finds room = absurd step
     lacks (command.Create node name options attributes steps) old new lacking step finds room = absurd step
     lacks (command.Open node name options requirements steps) old new lacking step finds room = absurd step
@@ -562,7 +545,6 @@ module _ {T U B D : Type 0} where
     lacks (command.Has subscriber) old new lacking step finds room = absurd step
 
     pub lacks_in_room : (asked : Command T) (old new : NumberedHub T U B D) (answer : Result (Reply T) AllocError)
-        → Step payload user_header types is_default is_default_header fixed degrades decides fixed_reader reader_degrades asked old
-        answer new → OnErr answer (FindsPort asked old) → HasRoom old → OnErr answer (LacksInRoom asked old new)
+        → Step terms asked old answer new → OnErr answer (FindsPort asked old) → HasRoom old → OnErr answer (LacksInRoom asked old new)
     lacks_in_room asked old new (Ok reply) step finds room = tt
     lacks_in_room asked old new (Err lacking) step finds room = lacks asked old new lacking step finds room

@@ -14,14 +14,10 @@ use Rattle.iox_command.specs.declared.port.PublisherOptions.{PublisherOptions}
 use Rattle.iox_command.specs.declared.port.SubscriberOptions.{SubscriberOptions}
 use Rattle.iox_command.specs.declared.reply.Reply.{Reply}
 use Rattle.iox_delivery.specs.declared.port_id.PortId.{PortId}
-use Rattle.iox_delivery.specs.DescribeBase.Detail.{Detail}
-use Rattle.iox_delivery.specs.DescribeBase.declared.message_type.MessageTypeDetails.{MessageTypeDetails}
 use Rattle.iox_delivery.specs.Domain.declared.domain_id.DomainId.{DomainId}
 use Rattle.iox_delivery.specs.Domain.declared.ports.service_ports.ServicePorts.{ServicePorts}
 use Rattle.iox_delivery.specs.DomainPorts.declared.attached.Taken.{Taken}
 use Rattle.iox_command.specs.DomainValues.declared.backpressure.BackpressureAction.{BackpressureAction}
-use Rattle.iox_command.specs.DomainValues.declared.backpressure.BackpressureDecision.{BackpressureDecision}
-use Rattle.iox_command.specs.DomainValues.declared.backpressure.BackpressureInfo.{BackpressureInfo}
 use Rattle.iox_command.specs.DomainValues.declared.backpressure_strategy.BackpressureStrategy.{BackpressureStrategy}
 use Rattle.iox_command.specs.DomainValues.declared.degradation.DegradationAction.{DegradationAction}
 use Rattle.iox_command.specs.DomainValues.declared.degradation.DegradationCause.{DegradationCause}
@@ -47,6 +43,7 @@ use Rattle.iox_hub_commands.specs.Room.{RepliesValues, OnlyRoomier}
 use Rattle.iox_hub_commands.specs.Services.{PublisherComes, SubscriberComes, domain_of_factory}
 use Rattle.iox_hub_commands.specs.CommandSteps.{IsReplied, Step}
 use Rattle.iox_hub_commands.specs.declared.numbered_hub.NumberedHub.{NumberedHub}
+use Rattle.iox_hub_commands.specs.Terms.{Terms}
 
 -- the tables of loans and of samples have no less room
 abbrev pub NoRoomGoes : Made → Made → Type 0
@@ -197,15 +194,10 @@ module _ {T U B D : Type 0} where
       roomier_first old.made roomier new.made is_roomier
       (subscriber_numbered (domain_of_factory opened) old.made.subscribers.next outcome came roomier new.made numbers)
 
-  module _ (payload user_header : Detail) (types : MessageTypeDetails) (is_default : T → Type 0) (is_default_header : U → Type 0)
-      (fixed : BackpressureStrategy → Option BackpressureAction → DegradationAction → B)
-      (degrades : B → DegradationCause → DegradationInfo → DegradationAction → Type 0)
-      (decides : B → BackpressureInfo → BackpressureDecision → Type 0)
-      (fixed_reader : DegradationAction → D) (reader_degrades : D → DegradationCause → DegradationInfo → DegradationAction → Type 0) where
+  module _ (terms : Terms T U B D) where
     -- by no command room goes
     pub no_room_goes : (asked : Command T) (old new : NumberedHub T U B D) (answer : Result (Reply T) AllocError)
-        → Step payload user_header types is_default is_default_header fixed degrades decides fixed_reader reader_degrades asked old
-        answer new → NoRoomGoes old.made new.made
+        → Step terms asked old answer new → NoRoomGoes old.made new.made
     no_room_goes command.Node old new answer step
         = replied _ old new answer (λ reply makes. same_room old.made new.made (ap (λ hub. hub.made) makes.1)) step
     no_room_goes (command.Create node name options attributes steps) old new answer step
@@ -219,11 +211,13 @@ module _ {T U B D : Type 0} where
     no_room_goes (command.Close factory) old new answer step
         = replied _ old new answer (λ reply closes. let (closed, does, same, is) = closes in same_room old.made new.made same) step
     no_room_goes (command.Publisher factory options) old new answer step
-        = replied _ old new answer (λ reply makes. publisher_comes is_default_header fixed degrades _ options old new reply makes) step
+        = replied _ old new answer (λ reply makes. publisher_comes terms.is_default_header terms.fixed terms.degrades _ options old new
+        reply makes) step
     no_room_goes (command.Subscriber factory options) old new answer step
-        = replied _ old new answer (λ reply makes. subscriber_comes fixed_reader reader_degrades _ options old new reply makes) step
+        = replied _ old new answer (λ reply makes. subscriber_comes terms.fixed_reader terms.reader_degrades _ options old new reply
+        makes) step
     no_room_goes (command.Loan publisher elements) old new answer step
-        = loans _ _ is_default publisher elements old.made new.made old.hub new.hub answer step.0
+        = loans _ _ terms.is_default publisher elements old.made new.made old.hub new.hub answer step.0
     no_room_goes (command.LoanUninit publisher elements) old new answer step
         = uninit_loans _ _ publisher elements old.made new.made old.hub new.hub answer step.0
     no_room_goes (command.Set loan place value) old new answer step = replied _ old new answer (λ reply does. by_hub old new does.1) step

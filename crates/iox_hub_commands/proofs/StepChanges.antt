@@ -8,13 +8,9 @@ use Rattle.iox_command.specs.declared.port.PortNumber.TheVariants as port
 use Rattle.iox_command.specs.declared.port.PublisherOptions.{PublisherOptions}
 use Rattle.iox_command.specs.declared.port.SubscriberOptions.{SubscriberOptions}
 use Rattle.iox_command.specs.declared.reply.Reply.{Reply}
-use Rattle.iox_delivery.specs.DescribeBase.Detail.{Detail}
-use Rattle.iox_delivery.specs.DescribeBase.declared.message_type.MessageTypeDetails.{MessageTypeDetails}
 use Rattle.iox_delivery.specs.Domain.declared.domain_id.DomainId.{DomainId}
 use Rattle.iox_delivery.specs.Domain.declared.ports.service_ports.ServicePorts.{ServicePorts}
 use Rattle.iox_command.specs.DomainValues.declared.backpressure.BackpressureAction.{BackpressureAction}
-use Rattle.iox_command.specs.DomainValues.declared.backpressure.BackpressureDecision.{BackpressureDecision}
-use Rattle.iox_command.specs.DomainValues.declared.backpressure.BackpressureInfo.{BackpressureInfo}
 use Rattle.iox_command.specs.DomainValues.declared.backpressure_strategy.BackpressureStrategy.{BackpressureStrategy}
 use Rattle.iox_command.specs.DomainValues.declared.degradation.DegradationAction.{DegradationAction}
 use Rattle.iox_command.specs.DomainValues.declared.degradation.DegradationCause.{DegradationCause}
@@ -33,6 +29,7 @@ use Rattle.iox_hub_commands.specs.Numbers.{numbers_used}
 use Rattle.iox_hub_commands.specs.Services.{PublisherComes, SubscriberComes, domain_of_factory}
 use Rattle.iox_hub_commands.specs.CommandSteps.{IsReplied, Step}
 use Rattle.iox_hub_commands.specs.declared.numbered_hub.NumberedHub.{NumberedHub}
+use Rattle.iox_hub_commands.specs.Terms.{Terms}
 use Rattle.iox_hub_commands.proofs.FactoryChanges.{create_changes, open_changes, either_changes, close_changes}
 use Rattle.iox_hub_commands.proofs.GoingOn.{stays_on, changes_on, on_and_on, one_more}
 use Rattle.iox_hub_commands.proofs.MadeChanges.{made_one_more, all_stay, publisher_spent, subscriber_spent, loan_spent, sample_spent}
@@ -125,99 +122,71 @@ module _ {T U B D : Type 0} where
       by_made old new same (roomier_changes old.made roomier new.made is_roomier
       (subscriber_numbered (domain_of_factory opened) old.made.subscribers.next outcome came roomier new.made numbers))
 
-  pub step_changes : (payload user_header : Detail) (types : MessageTypeDetails) (is_default : T → Type 0) (is_default_header : U → Type 0)
-      (fixed : BackpressureStrategy → Option BackpressureAction → DegradationAction → B)
-      (degrades : B → DegradationCause → DegradationInfo → DegradationAction → Type 0)
-      (decides : B → BackpressureInfo → BackpressureDecision → Type 0)
-      (fixed_reader : DegradationAction → D) (reader_degrades : D → DegradationCause → DegradationInfo → DegradationAction → Type 0)
-      (asked : Command T) (old new : NumberedHub T U B D) (answer : Result (Reply T) AllocError)
-      → Step payload user_header types is_default is_default_header fixed degrades decides fixed_reader reader_degrades asked old answer
-      new → ChangesOneThing old new
-  step_changes payload user_header types is_default is_default_header fixed degrades decides fixed_reader reader_degrades command.Node
-      old new answer step =
+  pub step_changes : (terms : Terms T U B D) (asked : Command T) (old new : NumberedHub T U B D) (answer : Result (Reply T) AllocError)
+      → Step terms asked old answer new → ChangesOneThing old new
+  step_changes terms command.Node old new answer step =
       replied _ old new answer (λ reply makes. rw makes.1
       (inl (inl (refl, refl), ((refl, refl), (refl, refl), (refl, refl), (refl, refl))))) step
-  step_changes payload user_header types is_default is_default_header fixed degrades decides fixed_reader reader_degrades
-      (command.Create node name options attributes steps) old new answer step =
+  step_changes terms (command.Create node name options attributes steps) old new answer step =
       replied _ old new answer (λ reply creates. let (made, does, same, is)
       = creates in by_factories old new same
-      (create_changes payload user_header types _ _ attributes steps old.factories.made new.factories.made old.hub new.hub made
-      does)) step
-  step_changes payload user_header types is_default is_default_header fixed degrades decides fixed_reader reader_degrades
-      (command.Open node name options requirements steps) old new answer step =
+      (create_changes terms.payload terms.user_header terms.types _ _ attributes steps old.factories.made new.factories.made old.hub
+      new.hub made does)) step
+  step_changes terms (command.Open node name options requirements steps) old new answer step =
       replied _ old new answer (λ reply opens. let (made, does, same, is)
       = opens in by_factories old new same
-      (open_changes payload user_header types _ _ requirements steps old.factories.made new.factories.made old.hub new.hub made
-      does)) step
-  step_changes payload user_header types is_default is_default_header fixed degrades decides fixed_reader reader_degrades
-      (command.OpenOrCreate node name options requirements steps) old new answer step =
+      (open_changes terms.payload terms.user_header terms.types _ _ requirements steps old.factories.made new.factories.made old.hub
+      new.hub made does)) step
+  step_changes terms (command.OpenOrCreate node name options requirements steps) old new answer step =
       replied _ old new answer (λ reply opens. let (made, does, same, is)
       = opens in by_factories old new same
-      (either_changes payload user_header types _ _ requirements steps old.factories.made new.factories.made old.hub new.hub made
-      does)) step
-  step_changes payload user_header types is_default is_default_header fixed degrades decides fixed_reader reader_degrades
-      (command.Foreign pattern name steps) old new answer step =
+      (either_changes terms.payload terms.user_header terms.types _ _ requirements steps old.factories.made new.factories.made old.hub
+      new.hub made does)) step
+  step_changes terms (command.Foreign pattern name steps) old new answer step =
       replied _ old new answer (λ reply acts. by_hub old new acts.2) step
-  step_changes payload user_header types is_default is_default_header fixed degrades decides fixed_reader reader_degrades
-      (command.Close factory) old new answer step =
+  step_changes terms (command.Close factory) old new answer step =
       replied _ old new answer (λ reply closes. let (closed, does, same, is)
       = closes in by_factories old new same
       (close_changes factory _ old.factories.made new.factories.made old.hub new.hub closed does)) step
-  step_changes payload user_header types is_default is_default_header fixed degrades decides fixed_reader reader_degrades
-      (command.Publisher factory options) old new answer step =
-      replied _ old new answer (λ reply makes. publisher_comes is_default_header fixed degrades _ options old new reply makes) step
-  step_changes payload user_header types is_default is_default_header fixed degrades decides fixed_reader reader_degrades
-      (command.Subscriber factory options) old new answer step =
-      replied _ old new answer (λ reply makes. subscriber_comes fixed_reader reader_degrades _ options old new reply makes) step
-  step_changes payload user_header types is_default is_default_header fixed degrades decides fixed_reader reader_degrades
-      (command.Loan publisher length) old new answer step =
-      by_made old new step.1 (loans _ _ is_default publisher length old.made new.made old.hub new.hub answer step.0)
-  step_changes payload user_header types is_default is_default_header fixed degrades decides fixed_reader reader_degrades
-      (command.LoanUninit publisher length) old new answer step =
+  step_changes terms (command.Publisher factory options) old new answer step =
+      replied _ old new answer (λ reply makes. publisher_comes terms.is_default_header terms.fixed terms.degrades _ options old new reply
+      makes) step
+  step_changes terms (command.Subscriber factory options) old new answer step =
+      replied _ old new answer (λ reply makes. subscriber_comes terms.fixed_reader terms.reader_degrades _ options old new reply makes)
+      step
+  step_changes terms (command.Loan publisher length) old new answer step =
+      by_made old new step.1 (loans _ _ terms.is_default publisher length old.made new.made old.hub new.hub answer step.0)
+  step_changes terms (command.LoanUninit publisher length) old new answer step =
       by_made old new step.1 (uninit_loans _ _ publisher length old.made new.made old.hub new.hub answer step.0)
-  step_changes payload user_header types is_default is_default_header fixed degrades decides fixed_reader reader_degrades
-      (command.Set loan place value) old new answer step =
+  step_changes terms (command.Set loan place value) old new answer step =
       replied _ old new answer (λ reply does. by_hub old new does.1) step
-  step_changes payload user_header types is_default is_default_header fixed degrades decides fixed_reader reader_degrades
-      (command.Fill loan values) old new answer step =
+  step_changes terms (command.Fill loan values) old new answer step =
       replied _ old new answer (λ reply does. by_hub old new does.1) step
-  step_changes payload user_header types is_default is_default_header fixed degrades decides fixed_reader reader_degrades
-      (command.Drop loan) old new answer step =
+  step_changes terms (command.Drop loan) old new answer step =
       replied _ old new answer (λ reply does. let ((done, is_done, is_new, is_made, is), same)
       = does in by_made old new same (loan_spent done loan old.made new.made is_made)) step
-  step_changes payload user_header types is_default is_default_header fixed degrades decides fixed_reader reader_degrades
-      (command.Send loan) old new answer step =
+  step_changes terms (command.Send loan) old new answer step =
       replied _ old new answer (λ reply does. let ((sent, sends, is_made, is), same)
       = does in by_made old new same (loan_spent _ loan old.made new.made is_made)) step
-  step_changes payload user_header types is_default is_default_header fixed degrades decides fixed_reader reader_degrades
-      (command.Put publisher values) old new answer step =
+  step_changes terms (command.Put publisher values) old new answer step =
       replied _ old new answer (λ reply does. by_hub old new does.1) step
-  step_changes payload user_header types is_default is_default_header fixed degrades decides fixed_reader reader_degrades
-      (command.Retry publisher nanoseconds) old new answer step =
+  step_changes terms (command.Retry publisher nanoseconds) old new answer step =
       replied _ old new answer (λ reply does. by_hub old new does.1) step
-  step_changes payload user_header types is_default is_default_header fixed degrades decides fixed_reader reader_degrades
-      (command.GiveUp publisher) old new answer step =
+  step_changes terms (command.GiveUp publisher) old new answer step =
       replied _ old new answer (λ reply does. by_hub old new does.1) step
-  step_changes payload user_header types is_default is_default_header fixed degrades decides fixed_reader reader_degrades
-      (command.Receive subscriber) old new answer step =
+  step_changes terms (command.Receive subscriber) old new answer step =
       by_made old new step.1 (receives _ _ _ subscriber old.made new.made old.hub new.hub answer step.0)
-  step_changes payload user_header types is_default is_default_header fixed degrades decides fixed_reader reader_degrades
-      (command.Read sample) old new answer step = by_same old new step.1
-  step_changes payload user_header types is_default is_default_header fixed degrades decides fixed_reader reader_degrades
-      (command.Sequence sample) old new answer step = replied _ old new answer (λ reply does. by_same old new does.1) step
-  step_changes payload user_header types is_default is_default_header fixed degrades decides fixed_reader reader_degrades
-      (command.Release sample) old new answer step =
+  step_changes terms (command.Read sample) old new answer step = by_same old new step.1
+  step_changes terms (command.Sequence sample) old new answer step = replied _ old new answer (λ reply does. by_same old new does.1) step
+  step_changes terms (command.Release sample) old new answer step =
       replied _ old new answer (λ reply does. let ((done, is_done, releases, is_made, is), same)
       = does in by_made old new same (sample_spent done sample old.made new.made is_made)) step
-  step_changes payload user_header types is_default is_default_header fixed degrades decides fixed_reader reader_degrades
-      (command.Update number) old new answer step =
+  step_changes terms (command.Update number) old new answer step =
       replied _ old new answer (λ reply does. by_hub old new does.1) step
-  step_changes payload user_header types is_default is_default_header fixed degrades decides fixed_reader reader_degrades
-      (command.Leave number) old new answer step =
+  step_changes terms (command.Leave number) old new answer step =
       replied _ old new answer (λ reply does. by_made old new does.1
       (leaves _ _ _ _ number old.made new.made old.hub new.hub reply does.0)) step
-  step_changes payload user_header types is_default is_default_header fixed degrades decides fixed_reader reader_degrades
-      (command.Has subscriber) old new answer step =
+  step_changes terms (command.Has subscriber) old new answer step =
       replied _ old new answer (λ reply does. by_hub old new does.1) step
 
   -- one number more at most

@@ -10,17 +10,11 @@ use Rattle.iox_command.specs.declared.port.PortNumber.TheVariants as port
 use Rattle.iox_command.specs.declared.reply.Reply.{Reply}
 use Rattle.iox_delivery.specs.declared.port_id.PortId.{PortId}
 use Rattle.iox_delivery.specs.DescribeBase.Detail.{Detail}
-use Rattle.iox_delivery.specs.DescribeBase.declared.message_type.MessageTypeDetails.{MessageTypeDetails}
 use Rattle.iox_delivery.specs.DescribeSettings.declared.static_config.Settings.{Settings}
 use Rattle.iox_delivery.specs.Domain.declared.domain_id.DomainId.{DomainId}
 use Rattle.iox_delivery.specs.Domain.declared.ports.service_ports.ServicePorts.{ServicePorts}
 use Rattle.iox_delivery.specs.DomainPorts.declared.attached.Taken.{Taken}
-use Rattle.iox_command.specs.DomainValues.declared.backpressure.BackpressureAction.{BackpressureAction}
-use Rattle.iox_command.specs.DomainValues.declared.backpressure.BackpressureDecision.{BackpressureDecision}
-use Rattle.iox_command.specs.DomainValues.declared.backpressure.BackpressureInfo.{BackpressureInfo}
-use Rattle.iox_command.specs.DomainValues.declared.backpressure_strategy.BackpressureStrategy.{BackpressureStrategy}
 use Rattle.iox_command.specs.DomainValues.declared.degradation.DegradationAction.{DegradationAction}
-use Rattle.iox_command.specs.DomainValues.declared.degradation.DegradationCause.{DegradationCause}
 use Rattle.iox_command.specs.DomainValues.declared.degradation.DegradationInfo.{DegradationInfo}
 use Rattle.iox_command.specs.DomainValues.declared.port_error.LoanError.{LoanError}
 use Rattle.iox_command.specs.DomainValues.declared.port_error.ReceiveError.{ReceiveError}
@@ -39,6 +33,7 @@ use Rattle.iox_delivery.specs.Container.NumberTable.{value_at}
 use Rattle.iox_hub_commands.specs.PortRoom.{OfPorts}
 use Rattle.iox_hub_commands.specs.CommandSteps.{IsReplied, Step, publisher_may_degrade, publisher_may_decide, subscriber_may_degrade}
 use Rattle.iox_hub_commands.specs.declared.numbered_hub.NumberedHub.{NumberedHub}
+use Rattle.iox_hub_commands.specs.Terms.{Terms}
 use Rattle.iox_hub_commands.proofs.Measures.{Measure, CountsIn, same_counts, come_counts, gone_counts}
 use Rattle.iox_hub_commands.proofs.PortsCount.{Balances, still_balances, none_balances, loan_balances, loan_uninit_balances, set_balances}
 use Rattle.iox_hub_commands.proofs.PortsCount.{fill_balances, drop_balances, send_balances, put_balances, retry_balances}
@@ -180,16 +175,11 @@ module _ {T U B D : Type 0} (m : Measure T U) where
   by_services : (old new : NumberedHub T U B D) → new.made ≡ old.made → CountsServices old.hub.services new.hub.services → Keeps old new
   by_services old new same counts = same_keeps old new same (still_balances m old.made old.hub new.hub counts)
 
-  module _ (payload user_header : Detail) (types : MessageTypeDetails) (is_default : T → Type 0) (is_default_header : U → Type 0)
-      (fixed : BackpressureStrategy → Option BackpressureAction → DegradationAction → B)
-      (degrades : B → DegradationCause → DegradationInfo → DegradationAction → Type 0)
-      (decides : B → BackpressureInfo → BackpressureDecision → Type 0)
-      (fixed_reader : DegradationAction → D) (reader_degrades : D → DegradationCause → DegradationInfo → DegradationAction → Type 0)
+  module _ (terms : Terms T U B D)
       (old new : NumberedHub T U B D) (Holds : Type 0) (follows : Keeps old new → Holds) where
     -- what holds where a command keeps all, and of those by which ports come, holds of each
     pub step_holds : (asked : Command T) (answer : Result (Reply T) AllocError)
-        → Step payload user_header types is_default is_default_header fixed degrades decides fixed_reader reader_degrades asked old
-        answer new → OfPorts Holds asked → Holds
+        → Step terms asked old answer new → OfPorts Holds asked → Holds
     step_holds command.Node answer step of
         = follows (replied _ old new answer
         (λ reply makes. by_services old new (ap (λ hub. hub.made) makes.1)
@@ -197,22 +187,22 @@ module _ {T U B D : Type 0} (m : Measure T U) where
     step_holds (command.Create node name options attributes steps) answer step of =
         follows (replied _ old new answer (λ reply does. let (made, opens, same, is)
         = does in by_services old new same
-        (create_go CountsServices still opening closing _ payload user_header types _ attributes steps old.factories.made
-        new.factories.made old.hub new.hub made opens)) step)
+        (create_go CountsServices still opening closing _ terms.payload terms.user_header terms.types _ attributes steps
+        old.factories.made new.factories.made old.hub new.hub made opens)) step)
     step_holds (command.Open node name options requirements steps) answer step of =
         follows (replied _ old new answer (λ reply does. let (made, opens, same, is)
         = does in by_services old new same
-        (open_go CountsServices still opening closing _ payload user_header types _ requirements steps old.factories.made
-        new.factories.made old.hub new.hub made opens)) step)
+        (open_go CountsServices still opening closing _ terms.payload terms.user_header terms.types _ requirements steps
+        old.factories.made new.factories.made old.hub new.hub made opens)) step)
     step_holds (command.OpenOrCreate node name options requirements steps) answer step of =
         follows (replied _ old new answer (λ reply does. let (made, opens, same, is)
         = does in by_services old new same
-        (either_go CountsServices still opening closing _ payload user_header types _ requirements steps old.factories.made
-        new.factories.made old.hub new.hub made opens)) step)
+        (either_go CountsServices still opening closing _ terms.payload terms.user_header terms.types _ requirements steps
+        old.factories.made new.factories.made old.hub new.hub made opens)) step)
     step_holds (command.Foreign pattern name steps) answer step of =
         follows (replied _ old new answer (λ reply does. let (acted, acts, same, is)
         = does in by_services old new (ap (λ hub. hub.made) same)
-        (foreign_go CountsServices still opening closing pattern name types steps old.hub new.hub acted acts)) step)
+        (foreign_go CountsServices still opening closing pattern name terms.types steps old.hub new.hub acted acts)) step)
     step_holds (command.Close factory) answer step of =
         follows (replied _ old new answer (λ reply does. let (closed, closes, same, is)
         = does in by_services old new same
@@ -222,9 +212,8 @@ module _ {T U B D : Type 0} (m : Measure T U) where
     step_holds (command.Subscriber factory options) answer step of = of
     step_holds (command.Loan publisher elements) answer step of =
         follows (
-          loans_stay _ _ is_default publisher elements old.made new.made old.hub new.hub answer step.0,
-          loan_balances m is_default
-              publisher elements old.made new.made old.hub new.hub answer step.0,
+          loans_stay _ _ terms.is_default publisher elements old.made new.made old.hub new.hub answer step.0,
+          loan_balances m terms.is_default publisher elements old.made new.made old.hub new.hub answer step.0,
         )
     step_holds (command.LoanUninit publisher elements) answer step of =
         follows (
@@ -248,17 +237,17 @@ module _ {T U B D : Type 0} (m : Measure T U) where
         (λ reply does. let ((sent, sends, is_made, is), same)
         = does in (
           loan_stays _ loan old.made new.made is_made,
-          send_balances m (publisher_may_degrade degrades)
-              (publisher_may_decide decides) loan old.made new.made old.hub new.hub reply does.0,
+          send_balances m (publisher_may_degrade terms.degrades) (publisher_may_decide terms.decides) loan old.made new.made old.hub
+              new.hub reply does.0,
         )) step)
     step_holds (command.Put publisher values) answer step of =
         follows (replied _ old new answer (λ reply does. by_hub old new does.1
-        (put_balances m (publisher_may_degrade degrades) (publisher_may_decide decides) publisher values old.made old.hub new.hub
-        reply does.0)) step)
+        (put_balances m (publisher_may_degrade terms.degrades) (publisher_may_decide terms.decides) publisher values old.made old.hub
+        new.hub reply does.0)) step)
     step_holds (command.Retry publisher nanoseconds) answer step of =
         follows (replied _ old new answer (λ reply does. by_hub old new does.1
-        (retry_balances m (publisher_may_degrade degrades) (publisher_may_decide decides) publisher nanoseconds old.made old.hub
-        new.hub reply does.0)) step)
+        (retry_balances m (publisher_may_degrade terms.degrades) (publisher_may_decide terms.decides) publisher nanoseconds old.made
+        old.hub new.hub reply does.0)) step)
     step_holds (command.GiveUp publisher) answer step of
         = follows (replied _ old new answer
         (λ reply does. by_hub old new does.1 (give_up_balances m publisher old.made old.hub new.hub reply does.0)) step)
@@ -266,8 +255,8 @@ module _ {T U B D : Type 0} (m : Measure T U) where
         follows (
           receives_stay _ _ _ subscriber old.made new.made old.hub new.hub answer step.0,
           receive_balances m
-              (publisher_may_degrade degrades) (subscriber_may_degrade reader_degrades) subscriber old.made new.made old.hub new.hub
-              answer step.0,
+              (publisher_may_degrade terms.degrades) (subscriber_may_degrade terms.reader_degrades) subscriber old.made new.made old.hub
+              new.hub answer step.0,
         )
     step_holds (command.Read sample) answer step of =
         follows (same_keeps old new (ap (λ hub. hub.made) step.1)
@@ -285,8 +274,8 @@ module _ {T U B D : Type 0} (m : Measure T U) where
         )) step)
     step_holds (command.Update number) answer step of =
         follows (replied _ old new answer (λ reply does. by_hub old new does.1
-        (update_balances m (publisher_may_degrade degrades) (subscriber_may_degrade reader_degrades) number old.made old.hub new.hub
-        reply does.0)) step)
+        (update_balances m (publisher_may_degrade terms.degrades) (subscriber_may_degrade terms.reader_degrades) number old.made old.hub
+        new.hub reply does.0)) step)
     step_holds (command.Leave number) answer step of =
         follows (replied _ old new answer
         (λ reply does. (
@@ -296,5 +285,5 @@ module _ {T U B D : Type 0} (m : Measure T U) where
         )) step)
     step_holds (command.Has subscriber) answer step of =
         follows (replied _ old new answer (λ reply does. by_hub old new does.1
-        (has_balances m (publisher_may_degrade degrades) (subscriber_may_degrade reader_degrades) subscriber old.made old.hub
+        (has_balances m (publisher_may_degrade terms.degrades) (subscriber_may_degrade terms.reader_degrades) subscriber old.made old.hub
         new.hub reply does.0)) step)

@@ -1,22 +1,18 @@
 -- The machine: what each command does, and what it is replied.
-use Rattle.std.specs.Prelude.{ℕ, ◌≡◌, Option, Result, Ok, Err}
+use Rattle.std.specs.Prelude.{ℕ, ◌≡◌, Result, Ok, Err}
 use Rattle.std.specs.declared.alloc.AllocError.{AllocError}
 use Rattle.iox_command.specs.declared.command.Command.{Command}
 use Rattle.iox_command.specs.declared.command.Command.TheVariants as command
 use Rattle.iox_command.specs.Ports.{command_of}
 use Rattle.iox_command.specs.declared.ports.port_command.PortCommand.{PortCommand}
 use Rattle.iox_command.specs.declared.reply.Reply.{Reply}
-use Rattle.iox_delivery.specs.DescribeBase.Detail.{Detail}
-use Rattle.iox_delivery.specs.DescribeBase.declared.message_type.MessageTypeDetails.{MessageTypeDetails}
 use Rattle.iox_delivery.specs.Domain.Handling.{kept_degrades, kept_decides}
 use Rattle.iox_hub_base.specs.AsHome.{hub_ports, with_hub_ports, without_hub_publisher, without_hub_subscriber}
 use Rattle.iox_hub_base.specs.declared.hub.Hub.{Hub}
 use Rattle.iox_hub_base.specs.ServicesAsHome.{domain_at, publisher_handlers_in, subscriber_handler_in}
 use Rattle.iox_delivery.specs.Domain.declared.domain_id.DomainId.{DomainId}
-use Rattle.iox_command.specs.DomainValues.declared.backpressure.BackpressureAction.{BackpressureAction}
 use Rattle.iox_command.specs.DomainValues.declared.backpressure.BackpressureDecision.{BackpressureDecision}
 use Rattle.iox_command.specs.DomainValues.declared.backpressure.BackpressureInfo.{BackpressureInfo}
-use Rattle.iox_command.specs.DomainValues.declared.backpressure_strategy.BackpressureStrategy.{BackpressureStrategy}
 use Rattle.iox_command.specs.DomainValues.declared.degradation.DegradationAction.{DegradationAction}
 use Rattle.iox_command.specs.DomainValues.declared.degradation.DegradationCause.{DegradationCause}
 use Rattle.iox_command.specs.DomainValues.declared.degradation.DegradationInfo.{DegradationInfo}
@@ -27,6 +23,7 @@ use Rattle.iox_hub_commands.specs.Messages.{ReleaseStep}
 use Rattle.iox_hub_commands.specs.Receiving.{ReceiveStep}
 use Rattle.iox_hub_commands.specs.Services.{NodeMakes, Creates, Opens, OpensOrCreates, Acts, Closes, MakesPublisher, MakesSubscriber}
 use Rattle.iox_hub_commands.specs.declared.numbered_hub.NumberedHub.{NumberedHub}
+use Rattle.iox_hub_commands.specs.Terms.{Terms}
 
 -- A command that is always replied to.
 abbrev pub IsReplied : {T : Type 0} → (Reply T → Type 0) → Result (Reply T) AllocError → Type 0
@@ -55,99 +52,70 @@ module _ {T U B D : Type 0} where
       → DegradationInfo → DegradationAction → Type 0
   subscriber_may_degrade degrades id number hub = kept_degrades degrades (subscriber_handler_in number (domain_at id hub.services))
 
-  -- What each command does to a hub, and what it is replied. The two details are those of values and user headers, the types those of the
-  -- messages; what is a default value, and a default user header; who decides by fixed actions, and what anybody who decides may answer.
-  -- `Err` is a command that isn't replied to: no memory was found for a number, or for the values of the reply.
-  abbrev pub Step : Detail → Detail → MessageTypeDetails → (T → Type 0) → (U → Type 0)
-      → (BackpressureStrategy → Option BackpressureAction → DegradationAction → B)
-      → (B → DegradationCause → DegradationInfo → DegradationAction → Type 0) → (B → BackpressureInfo → BackpressureDecision → Type 0)
-      → (DegradationAction → D) → (D → DegradationCause → DegradationInfo → DegradationAction → Type 0)
-      → Command T → NumberedHub T U B D → Result (Reply T) AllocError → NumberedHub T U B D → Type 0
-  Step payload user_header types is_default is_default_header fixed degrades decides fixed_reader reader_degrades command.Node old
-      answer new =
+  -- What each command does to a hub of these terms, and what it is replied. `Err` is a command that isn't replied to: no memory was found
+  -- for a number, or for the values of the reply.
+  abbrev pub Step : Terms T U B D → Command T → NumberedHub T U B D → Result (Reply T) AllocError → NumberedHub T U B D → Type 0
+  Step terms command.Node old answer new =
       IsReplied (λ reply. NodeMakes old reply new) answer
-  Step payload user_header types is_default is_default_header fixed degrades decides fixed_reader reader_degrades
-      (command.Create node name options attributes steps) old answer new =
-      IsReplied (λ reply. Creates payload user_header types (record { node = node; name = name; options = options }) attributes steps
-      old reply new) answer
-  Step payload user_header types is_default is_default_header fixed degrades decides fixed_reader reader_degrades
-      (command.Open node name options requirements steps) old answer new =
-      IsReplied (λ reply. Opens payload user_header types (record { node = node; name = name; options = options }) requirements steps
-      old reply new) answer
-  Step payload user_header types is_default is_default_header fixed degrades decides fixed_reader reader_degrades
-      (command.OpenOrCreate node name options requirements steps) old answer new =
-      IsReplied (λ reply. OpensOrCreates payload user_header types (record { node = node; name = name; options = options }) requirements
-      steps old reply new) answer
-  Step payload user_header types is_default is_default_header fixed degrades decides fixed_reader reader_degrades
-      (command.Foreign pattern name steps) old answer new =
-      IsReplied (λ reply. Acts pattern name types steps old reply new) answer
-  Step payload user_header types is_default is_default_header fixed degrades decides fixed_reader reader_degrades
-      (command.Close factory) old answer new =
+  Step terms (command.Create node name options attributes steps) old answer new =
+      IsReplied (λ reply. Creates terms.payload terms.user_header terms.types (record { node = node; name = name; options = options })
+      attributes steps old reply new) answer
+  Step terms (command.Open node name options requirements steps) old answer new =
+      IsReplied (λ reply. Opens terms.payload terms.user_header terms.types (record { node = node; name = name; options = options })
+      requirements steps old reply new) answer
+  Step terms (command.OpenOrCreate node name options requirements steps) old answer new =
+      IsReplied (λ reply. OpensOrCreates terms.payload terms.user_header terms.types
+      (record { node = node; name = name; options = options }) requirements steps old reply new) answer
+  Step terms (command.Foreign pattern name steps) old answer new =
+      IsReplied (λ reply. Acts pattern name terms.types steps old reply new) answer
+  Step terms (command.Close factory) old answer new =
       IsReplied (λ reply. Closes factory old reply new) answer
-  Step payload user_header types is_default is_default_header fixed degrades decides fixed_reader reader_degrades
-      (command.Publisher factory options) old answer new =
-      IsReplied (λ reply. MakesPublisher is_default_header fixed degrades factory options old reply new) answer
-  Step payload user_header types is_default is_default_header fixed degrades decides fixed_reader reader_degrades
-      (command.Subscriber factory options) old answer new =
-      IsReplied (λ reply. MakesSubscriber fixed_reader reader_degrades factory options old reply new) answer
-  Step payload user_header types is_default is_default_header fixed degrades decides fixed_reader reader_degrades
-      (command.Loan publisher length) old answer new =
-      LoanStep hub_ports with_hub_ports is_default publisher length old.made old.hub answer new.made new.hub
+  Step terms (command.Publisher factory options) old answer new =
+      IsReplied (λ reply. MakesPublisher terms.is_default_header terms.fixed terms.degrades factory options old reply new) answer
+  Step terms (command.Subscriber factory options) old answer new =
+      IsReplied (λ reply. MakesSubscriber terms.fixed_reader terms.reader_degrades factory options old reply new) answer
+  Step terms (command.Loan publisher length) old answer new =
+      LoanStep hub_ports with_hub_ports terms.is_default publisher length old.made old.hub answer new.made new.hub
       × (new.factories ≡ old.factories)
-  Step payload user_header types is_default is_default_header fixed degrades decides fixed_reader reader_degrades
-      (command.LoanUninit publisher length) old answer new =
+  Step terms (command.LoanUninit publisher length) old answer new =
       LoanUninitStep hub_ports with_hub_ports publisher length old.made old.hub answer new.made new.hub × (new.factories ≡ old.factories)
-  Step payload user_header types is_default is_default_header fixed degrades decides fixed_reader reader_degrades
-      (command.Set loan place value) old answer new =
+  Step terms (command.Set loan place value) old answer new =
       IsReplied (λ reply. SetStep hub_ports with_hub_ports loan place value old.made old.hub reply new.hub
       × (new ≡ record old { hub = new.hub })) answer
-  Step payload user_header types is_default is_default_header fixed degrades decides fixed_reader reader_degrades
-      (command.Fill loan values) old answer new =
+  Step terms (command.Fill loan values) old answer new =
       IsReplied (λ reply. FillStep hub_ports with_hub_ports loan values old.made old.hub reply new.hub
       × (new ≡ record old { hub = new.hub })) answer
-  Step payload user_header types is_default is_default_header fixed degrades decides fixed_reader reader_degrades (command.Drop loan)
-      old answer new =
+  Step terms (command.Drop loan) old answer new =
       IsReplied (λ reply. DropStep hub_ports with_hub_ports loan old.made old.hub reply new.made new.hub
       × (new.factories ≡ old.factories)) answer
-  Step payload user_header types is_default is_default_header fixed degrades decides fixed_reader reader_degrades (command.Send loan)
-      old answer new =
-      IsReplied (λ reply. SendStep hub_ports with_hub_ports (publisher_may_degrade degrades) (publisher_may_decide decides) loan
-      old.made old.hub reply new.made new.hub × (new.factories ≡ old.factories)) answer
-  Step payload user_header types is_default is_default_header fixed degrades decides fixed_reader reader_degrades
-      (command.Put publisher values) old answer new =
-      IsReplied (λ reply. PutStep hub_ports with_hub_ports (publisher_may_degrade degrades) (publisher_may_decide decides) publisher
-      values old.made old.hub reply new.hub × (new ≡ record old { hub = new.hub })) answer
-  Step payload user_header types is_default is_default_header fixed degrades decides fixed_reader reader_degrades
-      (command.Retry publisher nanoseconds) old answer new =
-      IsReplied (λ reply. RetryStep hub_ports with_hub_ports (publisher_may_decide decides) publisher nanoseconds old.made old.hub reply
-      new.hub × (new ≡ record old { hub = new.hub })) answer
-  Step payload user_header types is_default is_default_header fixed degrades decides fixed_reader reader_degrades
-      (command.GiveUp publisher) old answer new =
+  Step terms (command.Send loan) old answer new =
+      IsReplied (λ reply. SendStep hub_ports with_hub_ports (publisher_may_degrade terms.degrades) (publisher_may_decide terms.decides)
+      loan old.made old.hub reply new.made new.hub × (new.factories ≡ old.factories)) answer
+  Step terms (command.Put publisher values) old answer new =
+      IsReplied (λ reply. PutStep hub_ports with_hub_ports (publisher_may_degrade terms.degrades) (publisher_may_decide terms.decides)
+      publisher values old.made old.hub reply new.hub × (new ≡ record old { hub = new.hub })) answer
+  Step terms (command.Retry publisher nanoseconds) old answer new =
+      IsReplied (λ reply. RetryStep hub_ports with_hub_ports (publisher_may_decide terms.decides) publisher nanoseconds old.made old.hub
+      reply new.hub × (new ≡ record old { hub = new.hub })) answer
+  Step terms (command.GiveUp publisher) old answer new =
       IsReplied (λ reply. GiveUpStep hub_ports with_hub_ports publisher old.made old.hub reply new.hub
       × (new ≡ record old { hub = new.hub })) answer
-  Step payload user_header types is_default is_default_header fixed degrades decides fixed_reader reader_degrades
-      (command.Receive subscriber) old answer new =
-      ReceiveStep hub_ports with_hub_ports (subscriber_may_degrade reader_degrades) subscriber old.made old.hub answer new.made new.hub
-      × (new.factories ≡ old.factories)
-  Step payload user_header types is_default is_default_header fixed degrades decides fixed_reader reader_degrades (command.Read sample)
-      old answer new =
+  Step terms (command.Receive subscriber) old answer new =
+      ReceiveStep hub_ports with_hub_ports (subscriber_may_degrade terms.reader_degrades) subscriber old.made old.hub answer new.made
+      new.hub × (new.factories ≡ old.factories)
+  Step terms (command.Read sample) old answer new =
       ReadStep hub_ports sample old.made old.hub answer × (new ≡ old)
-  Step payload user_header types is_default is_default_header fixed degrades decides fixed_reader reader_degrades
-      (command.Sequence sample) old answer new =
+  Step terms (command.Sequence sample) old answer new =
       IsReplied (λ reply. SequenceStep hub_ports sample old.made old.hub reply × (new ≡ old)) answer
-  Step payload user_header types is_default is_default_header fixed degrades decides fixed_reader reader_degrades
-      (command.Release sample) old answer new =
+  Step terms (command.Release sample) old answer new =
       IsReplied (λ reply. ReleaseStep hub_ports with_hub_ports sample old.made old.hub reply new.made new.hub
       × (new.factories ≡ old.factories)) answer
-  Step payload user_header types is_default is_default_header fixed degrades decides fixed_reader reader_degrades (command.Update port)
-      old answer new =
-      IsReplied (λ reply. UpdateStep hub_ports with_hub_ports (publisher_may_degrade degrades) (subscriber_may_degrade reader_degrades)
-      port old.made old.hub reply new.hub × (new ≡ record old { hub = new.hub })) answer
-  Step payload user_header types is_default is_default_header fixed degrades decides fixed_reader reader_degrades (command.Leave port)
-      old answer new =
+  Step terms (command.Update port) old answer new =
+      IsReplied (λ reply. UpdateStep hub_ports with_hub_ports (publisher_may_degrade terms.degrades)
+      (subscriber_may_degrade terms.reader_degrades) port old.made old.hub reply new.hub × (new ≡ record old { hub = new.hub })) answer
+  Step terms (command.Leave port) old answer new =
       IsReplied (λ reply. LeaveStep hub_ports with_hub_ports without_hub_publisher without_hub_subscriber port old.made old.hub reply
       new.made new.hub × (new.factories ≡ old.factories)) answer
-  Step payload user_header types is_default is_default_header fixed degrades decides fixed_reader reader_degrades
-      (command.Has subscriber) old answer new =
-      IsReplied (λ reply. HasStep hub_ports with_hub_ports (subscriber_may_degrade reader_degrades) subscriber old.made old.hub reply
-      new.hub × (new ≡ record old { hub = new.hub })) answer
+  Step terms (command.Has subscriber) old answer new =
+      IsReplied (λ reply. HasStep hub_ports with_hub_ports (subscriber_may_degrade terms.reader_degrades) subscriber old.made old.hub
+      reply new.hub × (new ≡ record old { hub = new.hub })) answer

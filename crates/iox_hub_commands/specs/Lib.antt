@@ -29,6 +29,7 @@ pub mod Asked
 pub mod Steps
 pub mod Numbers
 pub mod Services
+pub mod Terms
 pub mod CommandSteps
 pub mod Runs
 pub mod Room

@@ -1,15 +1,13 @@
 //! One command of a port, and its reply.
 ghost use Rattle.std.specs.Prelude.{◌≡◌, ◌+◌, ◌<◌, ◌≤◌, ◌^◌, OnErr};
 ghost use Rattle.iox_command.specs.Ports.{command_of};
-ghost use Rattle.iox_delivery.specs.DescribeBase.Detail.{detail};
-ghost use Rattle.iox_delivery.specs.DescribeBase.declared.type_detail.TypeVariant.TheVariants.{FixedSize};
-ghost use Rattle.iox_hub_commands.specs.Asked.{types_of};
 ghost use Rattle.iox_hub_commands.specs.Agreements.{AreOfOneAgreement};
 ghost use Rattle.iox_hub_commands.specs.Grown.{GrowsOn, HaveGrown, AreAsAgreed, OneDomainMoves};
 ghost use Rattle.iox_hub_commands.specs.Lives.{ChangesOneThing};
 ghost use Rattle.iox_hub_commands.specs.Numbers.{numbers_used};
 ghost use Rattle.iox_hub_commands.specs.PortRoom.{FindsPort, HasRoom, KeepsRoom, LacksInRoom};
 ghost use Rattle.iox_hub_commands.specs.CommandSteps.{Step};
+ghost use Rattle.iox_hub_commands.specs.Terms.{terms_of};
 
 use crate::numbered_hub::NumberedHub;
 use crate::{PublisherHandlers, SubscriberHandler, following, lending, messages, receiving};
@@ -33,9 +31,8 @@ impl<
         command: PortCommand<T>,
     ) -> Result<Reply<T>, AllocError>
         requires { numbers_used self.old + 1 < 2 ^ 64 }
-        ensures steps { Step (detail FixedSize T.name T.size T.alignment) (detail FixedSize U.name U.size U.alignment)
-            (types_of T.name T.size T.alignment U.name U.size U.alignment) T.is_default U.is_default B.fixed
-            (λ handlers. B.degrades handlers) (λ handlers. B.decides handlers) D.fixed (λ handler. D.degrades handler)
+        ensures steps { Step (terms_of T.name T.size T.alignment T.is_default U.name U.size U.alignment U.is_default B.fixed
+            (λ handlers. B.degrades handlers) (λ handlers. B.decides handlers) D.fixed (λ handler. D.degrades handler))
             (command_of command.entry) self.old result self.new }
         ensures counts { numbers_used self.new ≤ numbers_used self.old + 1 }
         ensures one { ChangesOneThing self.old self.new }
@@ -60,9 +57,8 @@ impl<
         requires { numbers_used self.old + 1 < 2 ^ 64 }
         ensures pledged { self.new.pledged ≡ self.old.pledged }
         ensures finds { OnErr result (FindsPort (command_of command.entry) self.old) }
-        ensures steps { Step (detail FixedSize T.name T.size T.alignment) (detail FixedSize U.name U.size U.alignment)
-            (types_of T.name T.size T.alignment U.name U.size U.alignment) T.is_default U.is_default B.fixed
-            (λ handlers. B.degrades handlers) (λ handlers. B.decides handlers) D.fixed (λ handler. D.degrades handler)
+        ensures steps { Step (terms_of T.name T.size T.alignment T.is_default U.name U.size U.alignment U.is_default B.fixed
+            (λ handlers. B.degrades handlers) (λ handlers. B.decides handlers) D.fixed (λ handler. D.degrades handler))
             (command_of command.entry) self.old result self.new }
     {
         match command {

@@ -1,8 +1,5 @@
 //! A list of commands.
 ghost use Rattle.std.specs.Prelude.{◌≡◌, ◌+◌, ◌<◌, ◌≤◌, ◌^◌, true, length};
-ghost use Rattle.iox_delivery.specs.DescribeBase.Detail.{detail};
-ghost use Rattle.iox_delivery.specs.DescribeBase.declared.type_detail.TypeVariant.TheVariants.{FixedSize};
-ghost use Rattle.iox_hub_commands.specs.Asked.{types_of};
 ghost use Rattle.iox_hub_commands.specs.Agreements.{AreOfOneAgreement};
 ghost use Rattle.iox_hub_commands.specs.Grown.{GrowsOn, HaveGrown, AreAsAgreed};
 ghost use Rattle.iox_hub_commands.specs.Lives.{NumbersGoOn};
@@ -11,6 +8,7 @@ ghost use Rattle.iox_hub_commands.specs.PortRoom.{HasRoom, KeepsRoom};
 ghost use Rattle.iox_hub_commands.specs.Room.{StopsInTime};
 ghost use Rattle.iox_hub_commands.specs.Runs.{IsRun};
 ghost use Rattle.iox_hub_commands.specs.CommandSteps.{Step};
+ghost use Rattle.iox_hub_commands.specs.Terms.{terms_of};
 
 use crate::numbered_hub::NumberedHub;
 use crate::{PublisherHandlers, SubscriberHandler};
@@ -44,9 +42,8 @@ impl<
     /// Example: `let report = hub.run(alloc, commands);`
     pub fn run(&mut self, alloc: Global, commands: Vec<Command<T>>) -> RunReport<T>
         requires { numbers_used self.old + length commands.items < 2 ^ 64 }
-        ensures ran { IsRun (Step (detail FixedSize T.name T.size T.alignment) (detail FixedSize U.name U.size U.alignment)
-            (types_of T.name T.size T.alignment U.name U.size U.alignment) T.is_default U.is_default B.fixed
-            (λ handlers. B.degrades handlers) (λ handlers. B.decides handlers) D.fixed (λ handler. D.degrades handler))
+        ensures ran { IsRun (Step (terms_of T.name T.size T.alignment T.is_default U.name U.size U.alignment U.is_default B.fixed
+            (λ handlers. B.degrades handlers) (λ handlers. B.decides handlers) D.fixed (λ handler. D.degrades handler)))
             commands.entry.items self.old result.replies.items result.stopped self.new }
         ensures stops { HasRoom self.old → HaveGrown self.old.hub.services.domains → result.stopped ≡ true
             → StopsInTime commands.entry.items self.old (length result.replies.items) self.new }
@@ -64,9 +61,8 @@ impl<
     // The same, without what that comes to in other words.
     fn carry_out_all(&mut self, alloc: Global, commands: Vec<Command<T>>) -> RunReport<T>
         requires { numbers_used self.old + length commands.items < 2 ^ 64 }
-        ensures ran { IsRun (Step (detail FixedSize T.name T.size T.alignment) (detail FixedSize U.name U.size U.alignment)
-            (types_of T.name T.size T.alignment U.name U.size U.alignment) T.is_default U.is_default B.fixed
-            (λ handlers. B.degrades handlers) (λ handlers. B.decides handlers) D.fixed (λ handler. D.degrades handler))
+        ensures ran { IsRun (Step (terms_of T.name T.size T.alignment T.is_default U.name U.size U.alignment U.is_default B.fixed
+            (λ handlers. B.degrades handlers) (λ handlers. B.decides handlers) D.fixed (λ handler. D.degrades handler)))
             commands.entry.items self.old result.replies.items result.stopped self.new }
         ensures stops { HasRoom self.old → HaveGrown self.old.hub.services.domains → result.stopped ≡ true
             → StopsInTime commands.entry.items self.old (length result.replies.items) self.new }

@@ -1,14 +1,12 @@
 //! One command, and its reply.
 ghost use Rattle.std.specs.Prelude.{◌≡◌, ◌+◌, ◌<◌, ◌≤◌, ◌^◌, OnErr, OnOk};
-ghost use Rattle.iox_delivery.specs.DescribeBase.Detail.{detail};
-ghost use Rattle.iox_delivery.specs.DescribeBase.declared.type_detail.TypeVariant.TheVariants.{FixedSize};
-ghost use Rattle.iox_hub_commands.specs.Asked.{types_of};
 ghost use Rattle.iox_hub_commands.specs.Agreements.{AreOfOneAgreement};
 ghost use Rattle.iox_hub_commands.specs.Grown.{GrowsOn, HaveGrown, AreAsAgreed, OneDomainMoves};
 ghost use Rattle.iox_hub_commands.specs.Lives.{ChangesOneThing};
 ghost use Rattle.iox_hub_commands.specs.Numbers.{numbers_used};
 ghost use Rattle.iox_hub_commands.specs.PortRoom.{FindsPort, HasRoom, KeepsRoom, LacksInRoom, OfOthers, OfPorts};
 ghost use Rattle.iox_hub_commands.specs.CommandSteps.{Step, StepsUnlessOfPort};
+ghost use Rattle.iox_hub_commands.specs.Terms.{terms_of};
 
 use crate::numbered_hub::NumberedHub;
 use crate::services::ServiceAsked;
@@ -40,9 +38,8 @@ impl<
     /// Example: `let reply = hub.step(alloc, Command::Node)?;`
     pub fn step(&mut self, alloc: Global, command: Command<T>) -> Result<Reply<T>, AllocError>
         requires { numbers_used self.old + 1 < 2 ^ 64 }
-        ensures steps { Step (detail FixedSize T.name T.size T.alignment) (detail FixedSize U.name U.size U.alignment)
-            (types_of T.name T.size T.alignment U.name U.size U.alignment) T.is_default U.is_default B.fixed
-            (λ handlers. B.degrades handlers) (λ handlers. B.decides handlers) D.fixed (λ handler. D.degrades handler) command.entry
+        ensures steps { Step (terms_of T.name T.size T.alignment T.is_default U.name U.size U.alignment U.is_default B.fixed
+            (λ handlers. B.degrades handlers) (λ handlers. B.decides handlers) D.fixed (λ handler. D.degrades handler)) command.entry
             self.old result self.new }
         ensures counts { numbers_used self.new ≤ numbers_used self.old + 1 }
         ensures one { ChangesOneThing self.old self.new }
@@ -64,9 +61,8 @@ impl<
         ensures comes { OfPorts (KeepsRoom self.old self.new) command.entry }
         ensures pledged { OfOthers (self.new.pledged ≡ self.old.pledged) command.entry }
         ensures finds { OnErr result (FindsPort command.entry self.old) }
-        ensures steps { Step (detail FixedSize T.name T.size T.alignment) (detail FixedSize U.name U.size U.alignment)
-            (types_of T.name T.size T.alignment U.name U.size U.alignment) T.is_default U.is_default B.fixed
-            (λ handlers. B.degrades handlers) (λ handlers. B.decides handlers) D.fixed (λ handler. D.degrades handler) command.entry
+        ensures steps { Step (terms_of T.name T.size T.alignment T.is_default U.name U.size U.alignment U.is_default B.fixed
+            (λ handlers. B.degrades handlers) (λ handlers. B.decides handlers) D.fixed (λ handler. D.degrades handler)) command.entry
             self.old result self.new }
     {
         match self.carry_out_service(alloc, command) {
@@ -84,10 +80,9 @@ impl<
         requires { numbers_used self.old + 1 < 2 ^ 64 }
         ensures comes { OnOk result (OfPorts (KeepsRoom self.old self.new) command.entry) }
         ensures pledged { OnOk result (OfOthers (self.new.pledged ≡ self.old.pledged) command.entry) }
-        ensures steps { StepsUnlessOfPort (Step (detail FixedSize T.name T.size T.alignment) (detail FixedSize U.name U.size U.alignment)
-            (types_of T.name T.size T.alignment U.name U.size U.alignment) T.is_default U.is_default B.fixed
-            (λ handlers. B.degrades handlers) (λ handlers. B.decides handlers) D.fixed (λ handler. D.degrades handler)) command.entry
-            self.old result self.new }
+        ensures steps { StepsUnlessOfPort (Step (terms_of T.name T.size T.alignment T.is_default U.name U.size U.alignment U.is_default
+            B.fixed (λ handlers. B.degrades handlers) (λ handlers. B.decides handlers) D.fixed (λ handler. D.degrades handler)))
+            command.entry self.old result self.new }
     {
         match command {
             Command::Node => Ok(self.node()),

@@ -19,6 +19,7 @@ use Rattle.iox_hub_machine.proofs.ComesAskedPublisher.{publisher_coming_followed
 use Rattle.iox_hub_machine.proofs.Created.{create_matches}
 use Rattle.iox_hub_machine.proofs.Dropped.{drop_simulated}
 use Rattle.iox_hub_machine.proofs.EachCommand.{CommandLaws, each_followed}
+use Rattle.iox_hub_machine.proofs.FittingThen.{asked_terms}
 use Rattle.iox_hub_machine.proofs.Foreign.{foreign_matches}
 use Rattle.iox_hub_machine.proofs.GivenUp.{give_up_simulated}
 use Rattle.iox_hub_machine.proofs.Lent.{lend_simulated, lend_uninit_simulated}
@@ -36,51 +37,43 @@ use Rattle.iox_hub_machine.proofs.Samples.{read_simulated, sequence_simulated}
 use Rattle.iox_hub_machine.proofs.SubscriberLeft.{subscriber_leave_simulated}
 use Rattle.iox_hub_machine.proofs.Updated.{publisher_update_simulated}
 use Rattle.iox_hub_machine.proofs.ValuesPut.{put_simulated}
-use Rattle.iox_hub_machine.specs.GoingOnLaws.{DecidedRunsGoOn, RunsGoOn}
+use Rattle.iox_hub_machine.specs.GoingOnLaws.{DecidedRunsGoOn, NewHubBegins, RunsGoOn, decided_terms}
 use Rattle.iox_hub_machine.specs.RunLaws.{RunAnswers, RunStands}
 use Rattle.iox_machine.specs.Choices.{Choices, as_named}
+use Rattle.iox_hub_commands.specs.Terms.{Terms}
 
-module _ {T U B D : Type 0} (payload user_header : Detail) (variant : TypeVariant) (choices : Choices T)
-    (is_default_header : U → Type 0)
-    (fixed : BackpressureStrategy → Option BackpressureAction → DegradationAction → B)
-    (degrades : B → DegradationCause → DegradationInfo → DegradationAction → Type 0)
-    (decides : B → BackpressureInfo → BackpressureDecision → Type 0)
-    (fixed_reader : DegradationAction → D)
-    (reader_degrades : D → DegradationCause → DegradationInfo → DegradationAction → Type 0) where
-  abbrev types : MessageTypeDetails
-  types = asked_types variant payload user_header
+module _ {T U B D : Type 0} (variant : TypeVariant) (terms : Terms T U B D) (choices : Choices T) where
+  abbrev terms_so : Terms T U B D
+  terms_so = asked_terms variant terms
 
-  all_laws : CommandLaws payload user_header variant choices is_default_header fixed degrades decides fixed_reader reader_degrades
+  all_laws : CommandLaws terms_so choices
   all_laws = record {
-    node = node_matches payload user_header types choices is_default_header fixed degrades decides fixed_reader reader_degrades;
-    create = create_matches payload user_header variant choices is_default_header fixed degrades decides fixed_reader reader_degrades;
-    opening = openings_match payload user_header variant choices is_default_header fixed degrades decides fixed_reader reader_degrades;
-    either = openings_or_creations_match payload user_header variant choices is_default_header fixed degrades decides fixed_reader
-        reader_degrades;
-    foreign = foreign_matches payload user_header types choices is_default_header fixed degrades decides fixed_reader reader_degrades;
-    close = closing_follows payload user_header types choices is_default_header fixed degrades decides fixed_reader reader_degrades;
-    publisher = publisher_coming_followed payload user_header types choices is_default_header fixed degrades decides fixed_reader
-        reader_degrades;
-    subscriber = subscriber_coming_followed payload user_header types choices is_default_header fixed degrades decides fixed_reader
-        reader_degrades;
-    loan = lend_simulated choices is_default_header degrades decides reader_degrades;
-    loan_uninit = lend_uninit_simulated choices is_default_header degrades decides reader_degrades;
-    set = set_simulated choices is_default_header degrades decides reader_degrades;
-    fill = fill_simulated choices is_default_header degrades decides reader_degrades;
-    drop = drop_simulated choices is_default_header degrades decides reader_degrades;
-    send = send_simulated choices is_default_header degrades decides reader_degrades;
-    put = put_simulated choices is_default_header degrades decides reader_degrades;
-    retry = retry_simulated choices is_default_header degrades decides reader_degrades;
-    give_up = give_up_simulated choices is_default_header degrades decides reader_degrades;
-    receive = receive_simulated choices is_default_header degrades decides reader_degrades;
-    read = read_simulated choices is_default_header degrades decides reader_degrades;
-    sequence = sequence_simulated choices is_default_header degrades decides reader_degrades;
-    release = release_simulated choices is_default_header degrades decides reader_degrades;
-    update_publisher = publisher_update_simulated choices is_default_header degrades decides reader_degrades;
-    update_subscriber = subscriber_update_simulated choices is_default_header degrades decides reader_degrades;
-    publisher_leaves = publisher_leave_simulated choices is_default_header degrades decides reader_degrades;
-    subscriber_leaves = subscriber_leave_simulated choices is_default_header degrades decides reader_degrades;
-    has = has_simulated choices is_default_header degrades decides reader_degrades;
+    node = node_matches terms_so choices;
+    create = create_matches variant terms choices;
+    opening = openings_match variant terms choices;
+    either = openings_or_creations_match variant terms choices;
+    foreign = foreign_matches terms_so choices;
+    close = closing_follows terms_so choices;
+    publisher = publisher_coming_followed terms_so choices;
+    subscriber = subscriber_coming_followed terms_so choices;
+    loan = lend_simulated choices terms.is_default_header terms.degrades terms.decides terms.reader_degrades;
+    loan_uninit = lend_uninit_simulated choices terms.is_default_header terms.degrades terms.decides terms.reader_degrades;
+    set = set_simulated choices terms.is_default_header terms.degrades terms.decides terms.reader_degrades;
+    fill = fill_simulated choices terms.is_default_header terms.degrades terms.decides terms.reader_degrades;
+    drop = drop_simulated choices terms.is_default_header terms.degrades terms.decides terms.reader_degrades;
+    send = send_simulated choices terms.is_default_header terms.degrades terms.decides terms.reader_degrades;
+    put = put_simulated choices terms.is_default_header terms.degrades terms.decides terms.reader_degrades;
+    retry = retry_simulated choices terms.is_default_header terms.degrades terms.decides terms.reader_degrades;
+    give_up = give_up_simulated choices terms.is_default_header terms.degrades terms.decides terms.reader_degrades;
+    receive = receive_simulated choices terms.is_default_header terms.degrades terms.decides terms.reader_degrades;
+    read = read_simulated choices terms.is_default_header terms.degrades terms.decides terms.reader_degrades;
+    sequence = sequence_simulated choices terms.is_default_header terms.degrades terms.decides terms.reader_degrades;
+    release = release_simulated choices terms.is_default_header terms.degrades terms.decides terms.reader_degrades;
+    update_publisher = publisher_update_simulated choices terms.is_default_header terms.degrades terms.decides terms.reader_degrades;
+    update_subscriber = subscriber_update_simulated choices terms.is_default_header terms.degrades terms.decides terms.reader_degrades;
+    publisher_leaves = publisher_leave_simulated choices terms.is_default_header terms.degrades terms.decides terms.reader_degrades;
+    subscriber_leaves = subscriber_leave_simulated choices terms.is_default_header terms.degrades terms.decides terms.reader_degrades;
+    has = has_simulated choices terms.is_default_header terms.degrades terms.decides terms.reader_degrades;
   }
 
 module _ {T U B D : Type 0} (payload user_header : Detail) (variant : TypeVariant) (choices : Choices T)
@@ -88,51 +81,36 @@ module _ {T U B D : Type 0} (payload user_header : Detail) (variant : TypeVarian
     (degrades : B → DegradationCause → DegradationInfo → DegradationAction → Type 0)
     (decides : B → BackpressureInfo → BackpressureDecision → Type 0)
     (reader_degrades : D → DegradationCause → DegradationInfo → DegradationAction → Type 0) where
-  pub decided_commands_go_on : DecidedRunsGoOn (asked_types variant payload user_header) choices degrades decides reader_degrades payload
-      user_header is_default_header
-  decided_commands_go_on = decided_go_on payload user_header (asked_types variant payload user_header) choices is_default_header degrades
-      decides reader_degrades
-      (λ fixed fixed_reader. each_followed payload user_header variant choices is_default_header fixed degrades decides fixed_reader
-      reader_degrades
-      (all_laws payload user_header variant choices is_default_header fixed degrades decides fixed_reader reader_degrades))
+  abbrev types : MessageTypeDetails
+  types = asked_types variant payload user_header
 
-module _ {T U B D : Type 0} (payload user_header : Detail) (variant : TypeVariant) (choices : Choices T)
-    (is_default_header : U → Type 0)
-    (fixed : BackpressureStrategy → Option BackpressureAction → DegradationAction → B)
-    (degrades : B → DegradationCause → DegradationInfo → DegradationAction → Type 0)
-    (decides : B → BackpressureInfo → BackpressureDecision → Type 0)
-    (fixed_reader : DegradationAction → D)
-    (reader_degrades : D → DegradationCause → DegradationInfo → DegradationAction → Type 0) where
-  pub commands_go_on : RunsGoOn payload user_header (asked_types variant payload user_header) choices is_default_header fixed degrades
-      decides fixed_reader reader_degrades
+  -- the terms of a hub, where these decide for a port that comes
+  abbrev terms_by : (BackpressureStrategy → Option BackpressureAction → DegradationAction → B) → (DegradationAction → D) → Terms T U B D
+  terms_by = decided_terms types choices degrades decides reader_degrades payload user_header is_default_header
+
+  pub decided_commands_go_on : DecidedRunsGoOn types choices degrades decides reader_degrades payload user_header is_default_header
+  decided_commands_go_on = decided_go_on payload user_header types choices is_default_header degrades decides reader_degrades
+      (λ fixed fixed_reader. each_followed (terms_by fixed fixed_reader) choices (all_laws variant (terms_by fixed fixed_reader) choices))
+
+module _ {T U B D : Type 0} (variant : TypeVariant) (terms : Terms T U B D) (choices : Choices T) where
+  pub commands_go_on : RunsGoOn (asked_terms variant terms) choices
   commands_go_on =
-      runs_go_on payload user_header (asked_types variant payload user_header) choices is_default_header fixed degrades decides
-      fixed_reader reader_degrades
-      (decided_commands_go_on payload user_header variant choices is_default_header degrades decides reader_degrades)
+      runs_go_on (asked_terms variant terms) choices
+      (decided_commands_go_on terms.payload terms.user_header variant choices terms.is_default_header terms.degrades terms.decides
+      terms.reader_degrades)
 
-module _ {T U B D : Type 0} (payload user_header : Detail) (variant : TypeVariant) (is_default : T → Type 0)
-    (is_default_header : U → Type 0)
-    (fixed : BackpressureStrategy → Option BackpressureAction → DegradationAction → B)
-    (degrades : B → DegradationCause → DegradationInfo → DegradationAction → Type 0)
-    (decides : B → BackpressureInfo → BackpressureDecision → Type 0)
-    (fixed_reader : DegradationAction → D)
-    (reader_degrades : D → DegradationCause → DegradationInfo → DegradationAction → Type 0) where
-  abbrev types_so : MessageTypeDetails
-  types_so = asked_types variant payload user_header
+module _ {T U B D : Type 0} (variant : TypeVariant) (terms : Terms T U B D) where
+  abbrev its_terms : Terms T U B D
+  its_terms = asked_terms variant terms
 
-  goes_on : RunsGoOn payload user_header types_so (as_named is_default) is_default_header fixed degrades decides fixed_reader
-      reader_degrades
-  goes_on = commands_go_on payload user_header variant (as_named is_default) is_default_header fixed degrades decides fixed_reader
-      reader_degrades
+  goes_on : RunsGoOn its_terms (as_named terms.is_default)
+  goes_on = commands_go_on variant terms (as_named terms.is_default)
 
-  pub commands_answer : RunAnswers payload user_header types_so is_default is_default_header fixed degrades decides fixed_reader
-      reader_degrades
-  commands_answer =
-      run_answers payload user_header types_so is_default is_default_header fixed degrades decides fixed_reader reader_degrades goes_on
-      (hub_begins types_so (as_named is_default) degrades decides reader_degrades)
+  begins : NewHubBegins U its_terms.types (as_named terms.is_default) terms.degrades terms.decides terms.reader_degrades
+  begins = hub_begins its_terms.types (as_named terms.is_default) terms.degrades terms.decides terms.reader_degrades
 
-  pub commands_stand : RunStands payload user_header types_so is_default is_default_header fixed degrades decides fixed_reader
-      reader_degrades
-  commands_stand =
-      run_stands payload user_header types_so is_default is_default_header fixed degrades decides fixed_reader reader_degrades goes_on
-      (hub_begins types_so (as_named is_default) degrades decides reader_degrades)
+  pub commands_answer : RunAnswers its_terms
+  commands_answer = run_answers its_terms goes_on begins
+
+  pub commands_stand : RunStands its_terms
+  commands_stand = run_stands its_terms goes_on begins

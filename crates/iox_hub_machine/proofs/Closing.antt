@@ -8,15 +8,6 @@ use Rattle.std.specs.Prelude.{◌==◌, filter, flat_map, MatchBool, MatchOption
 use Rattle.std.specs.List.{AllByRecursion, IsDistinct, list_any}
 use Rattle.std.proofs.lemmas.Bool.{eq-eqb}
 use Rattle.std.specs.Option.{option_map}
-use Rattle.iox_command.specs.DomainValues.declared.backpressure.BackpressureAction.{BackpressureAction}
-use Rattle.iox_command.specs.DomainValues.declared.backpressure.BackpressureDecision.{BackpressureDecision}
-use Rattle.iox_command.specs.DomainValues.declared.backpressure.BackpressureInfo.{BackpressureInfo}
-use Rattle.iox_command.specs.DomainValues.declared.backpressure_strategy.BackpressureStrategy.{BackpressureStrategy}
-use Rattle.iox_command.specs.DomainValues.declared.degradation.DegradationAction.{DegradationAction}
-use Rattle.iox_command.specs.DomainValues.declared.degradation.DegradationCause.{DegradationCause}
-use Rattle.iox_command.specs.DomainValues.declared.degradation.DegradationInfo.{DegradationInfo}
-use Rattle.iox_command.specs.NegotiateBase.DescribeBase.Detail.{Detail}
-use Rattle.iox_command.specs.NegotiateBase.DescribeBase.declared.message_type.MessageTypeDetails.{MessageTypeDetails}
 use Rattle.iox_command.specs.NegotiateBase.DescribeBase.declared.hash.ServiceHash.{ServiceHash}
 use Rattle.iox_command.specs.NegotiateBase.DescribeBase.declared.pattern.MessagingPattern.{MessagingPattern}
 use Rattle.iox_command.specs.NegotiateBase.DescribeBase.declared.pattern.MessagingPattern.TheVariants as pattern
@@ -44,6 +35,7 @@ use Rattle.iox_hub_commands.specs.Closing.{ClosesIfOf, ClosesNumbered, ClosesUnl
 use Rattle.iox_hub_commands.specs.Replies.{closed_reply}
 use Rattle.iox_hub_commands.specs.declared.numbered_hub.NumberedHub.{NumberedHub}
 use Rattle.iox_hub_commands.specs.declared.services.made.MadeFactory.{MadeFactory}
+use Rattle.iox_hub_commands.specs.Terms.{Terms}
 use Rattle.iox_hub_machine.proofs.Closed.{none_left, others_left}
 use Rattle.iox_hub_machine.proofs.Departed.{after, ends, ends_elsewhere, goes_on, its_own, less_hub, some}
 use Rattle.iox_hub_machine.proofs.ComesServed.{here_found, is_another, is_its_own, none_passing}
@@ -100,34 +92,30 @@ by_true P Q false is p = absurd (differ is)
 by_some : {V : Type 0} (P : Type 0) (Q : V → Type 0) (found : Option V) (v : V) → found ≡ Some v → Q v → MatchOption found P Q
 by_some {V} P Q found v is q = subst (λ (it : Option V). MatchOption it P Q) (sym is) q
 
-module _ {T U B D : Type 0} (payload user_header : Detail) (types : MessageTypeDetails) (choices : Choices T)
-    (is_default_header : U → Type 0) (fixed : BackpressureStrategy → Option BackpressureAction → DegradationAction → B)
-    (degrades : B → DegradationCause → DegradationInfo → DegradationAction → Type 0)
-    (decides : B → BackpressureInfo → BackpressureDecision → Type 0) (fixed_reader : DegradationAction → D)
-    (reader_degrades : D → DegradationCause → DegradationInfo → DegradationAction → Type 0) where
+module _ {T U B D : Type 0} (terms : Terms T U B D) (choices : Choices T) where
   module _ (names : List (List ℕ)) (number : ℕ) (taken : MessagingPattern → List ℕ → List ℕ) (naming : ℕ → Naming)
       (order : List (ℕ × ServicePorts T U)) (old new : NumberedHub T U B D) (state : State T) (answer : Reply T)
       (own : HaveOwnHashes names) (agree : FactoriesAgree old.factories.made) (each_once : HasEachOnce old.hub)
-      (come : IsCome types choices old.hub.expired_connection_buffer state)
-      (stands : HubStandsFor choices degrades decides reader_degrades names taken naming order old state) (same : new.made ≡ old.made) where
+      (come : IsCome terms.types choices old.hub.expired_connection_buffer state)
+      (stands : HubStandsFor choices terms.degrades terms.decides terms.reader_degrades names taken naming order old state)
+      (same : new.made ≡ old.made) where
     abbrev IsClosed : Type 0
-    IsClosed = IsFollowed payload user_header types choices is_default_header fixed degrades decides fixed_reader reader_degrades names
-        (command.Close number) old new state answer
+    IsClosed = IsFollowed terms choices names (command.Close number) old new state answer
 
     -- all that is in use is of open factories
     owned : AllByRecursion (IsOfOpenFactories state.factories) state.services
-    owned = use-is-owned choices types old.hub.expired_connection_buffer come.0 come.1 state come.2
+    owned = use-is-owned choices terms.types old.hub.expired_connection_buffer come.0 come.1 state come.2
 
     publishers : IsDistinct (λ one other. one == other) (flat_map (λ (one : Service T). numbers_in one.publishers) state.services)
-    publishers = (numbers-name-one choices types old.hub.expired_connection_buffer come.0 come.1 state come.2).1.0
+    publishers = (numbers-name-one choices terms.types old.hub.expired_connection_buffer come.0 come.1 state come.2).1.0
 
     subscribers : IsDistinct (λ one other. one == other) (flat_map (λ (one : Service T). numbers_in one.subscribers) state.services)
-    subscribers = (numbers-name-one choices types old.hub.expired_connection_buffer come.0 come.1 state come.2).2.0
+    subscribers = (numbers-name-one choices terms.types old.hub.expired_connection_buffer come.0 come.1 state come.2).2.0
 
     once : ComesOnce state.factories
     once =
         distinct_once (numbers_in state.factories)
-        (numbers-name-one choices types old.hub.expired_connection_buffer come.0 come.1 state come.2).0.0
+        (numbers-name-one choices terms.types old.hub.expired_connection_buffer come.0 come.1 state come.2).0.0
 
     module _ (made : MadeFactory) (there : value_at old.factories.made number ≡ Some made) where
       machine_has : at number state.factories ≡ Some (factory_as made)
@@ -142,11 +130,9 @@ module _ {T U B D : Type 0} (payload user_header : Detail) (types : MessageTypeD
         order = order;
         after = state;
         step = by_some _ _ (at number state.factories) (factory_as made) machine_has
-            (by_true _ _ _ (used_so choices degrades decides reader_degrades names taken naming order old state stands agree owned
-            publishers
-            subscribers number made there used) (told, refl));
-        stands = stands_still payload user_header types choices is_default_header fixed degrades decides fixed_reader reader_degrades
-            names taken naming order old new state stands same_hub same_factories same;
+            (by_true _ _ _ (used_so choices terms.degrades terms.decides terms.reader_degrades names taken naming order old state stands
+            agree owned publishers subscribers number made there used) (told, refl));
+        stands = stands_still terms choices names taken naming order old new state stands same_hub same_factories same;
       }
 
       -- it goes, and whatever stood for the hub without it is what is answered
@@ -158,9 +144,8 @@ module _ {T U B D : Type 0} (payload user_header : Detail) (types : MessageTypeD
           (spare : in_use (service_of made) (parts_of made).1 old.hub ≡ false) (told : answer ≡ reply.Done)
           (gone : new.factories.made ≡ removed old.factories.made number) where
         abbrev then : List (Service T) → State T
-        then services = after choices degrades decides reader_degrades names taken naming order old state stands agree number made there
-            once life
-            agreed nodes phase_is seated new.hub.table id table_then new.pledged services
+        then services = after choices terms.degrades terms.decides terms.reader_degrades names taken naming order old state stands agree
+            number made there once life agreed nodes phase_is seated new.hub.table id table_then new.pledged services
 
         abbrev others : Bool
         others = list_any (λ (entry : ℕ × Factory). same_pattern entry.1.pattern (pattern_in made)
@@ -173,18 +158,16 @@ module _ {T U B D : Type 0} (payload user_header : Detail) (types : MessageTypeD
             → machine.Closes number state answer (then services)
         closes services are =
             by_some _ _ (at number state.factories) (factory_as made) machine_has
-            (by_false _ _ _ (unused_so choices degrades decides reader_degrades names taken naming order old state stands agree owned
-            publishers
-            subscribers number made there spare) (told, ap then are))
+            (by_false _ _ _ (unused_so choices terms.degrades terms.decides terms.reader_degrades names taken naming order old state
+            stands agree owned publishers subscribers number made there spare) (told, ap then are))
 
         follows : (services : List (Service T)) (order_then : List (ℕ × ServicePorts T U)) (counts : List (ℕ × ℕ))
             (open_then : OpenServices T U B D)
             → new.hub ≡ record old.hub { table = new.hub.table; factory_counts = counts; services = open_then }
             → services ≡ cond others state.services remaining
-            → HubStandsFor choices degrades decides reader_degrades names taken naming order_then
-            (less_hub choices degrades decides reader_degrades names
-            taken naming order old state stands agree number made there once life agreed nodes phase_is seated new.hub.table id table_then
-            new.pledged counts open_then) (then services)
+            → HubStandsFor choices terms.degrades terms.decides terms.reader_degrades names taken naming order_then
+            (less_hub choices terms.degrades terms.decides terms.reader_degrades names taken naming order old state stands agree number
+            made there once life agreed nodes phase_is seated new.hub.table id table_then new.pledged counts open_then) (then services)
             → IsClosed
         follows services order_then counts open_then same_hub are it = record {
           taken = taken;
@@ -192,10 +175,8 @@ module _ {T U B D : Type 0} (payload user_header : Detail) (types : MessageTypeD
           order = order_then;
           after = then services;
           step = closes services are;
-          stands = subst (λ (hub : NumberedHub T U B D). HubStandsFor choices degrades decides reader_degrades names taken naming
-              order_then hub
-              (then services))
-              (sym (λ i. record {
+          stands = subst (λ (hub : NumberedHub T U B D). HubStandsFor choices terms.degrades terms.decides terms.reader_degrades names
+              taken naming order_then hub (then services)) (sym (λ i. record {
                 hub = same_hub i;
                 factories = record { made = gone i };
                 made = same i;
@@ -222,13 +203,12 @@ module _ {T U B D : Type 0} (payload user_header : Detail) (types : MessageTypeD
         stays_open more same_hub =
             follows state.services order fewer old.hub.services (same_hub ∙ ap hub_by more)
             (sym (ap (λ (b : Bool). cond b state.services remaining)
-            (others_left choices degrades decides reader_degrades names taken naming order old state stands agree number made there once
-            (some choices degrades decides reader_degrades names taken naming order old state stands agree number made there once life
-            agreed nodes
-            phase_is seated new.hub.table id table_then new.pledged more))))
-            (goes_on choices degrades decides reader_degrades names taken naming order old state stands agree number made there once life
-            agreed
-            nodes phase_is seated new.hub.table id table_then new.pledged more)
+            (others_left choices terms.degrades terms.decides terms.reader_degrades names taken naming order old state stands agree number
+            made there once
+            (some choices terms.degrades terms.decides terms.reader_degrades names taken naming order old state stands agree number made
+            there once life agreed nodes phase_is seated new.hub.table id table_then new.pledged more))))
+            (goes_on choices terms.degrades terms.decides terms.reader_degrades names taken naming order old state stands agree number
+            made there once life agreed nodes phase_is seated new.hub.table id table_then new.pledged more)
 
         -- it was the last
         ends_so : is_last (service_of made) old.hub.factory_counts ≡ true
@@ -238,14 +218,13 @@ module _ {T U B D : Type 0} (payload user_header : Detail) (types : MessageTypeD
             alone : (other : ℕ) (which : MadeFactory) → value_at old.factories.made other ≡ Some which
                 → service_of which ≡ service_of made → other ≡ number
             alone other which found is =
-                only choices degrades decides reader_degrades names taken naming order old state stands agree owned publishers subscribers
-                number
-                made there last other which found is
+                only choices terms.degrades terms.decides terms.reader_degrades names taken naming order old state stands agree owned
+                publishers subscribers number made there last other which found is
 
             none_is : others ≡ false
             none_is =
-                none_left choices degrades decides reader_degrades names taken naming order old state stands agree number made there once
-                alone
+                none_left choices terms.degrades terms.decides terms.reader_degrades names taken naming order old state stands agree
+                number made there once alone
 
             now_hub : new.hub ≡ hub_by true
             now_hub = same_hub ∙ ap hub_by last
@@ -256,8 +235,8 @@ module _ {T U B D : Type 0} (payload user_header : Detail) (types : MessageTypeD
                 follows state.services order none without now_hub
                 (sym (ap (λ (b : Bool). cond b state.services remaining) none_is
                 ∙ all_kept (is_service_of (factory_as made)) state.services (none_at state.services)))
-                (ends_elsewhere choices degrades decides reader_degrades names taken naming order old state stands agree number made there
-                once life
+                (ends_elsewhere choices terms.degrades terms.decides terms.reader_degrades names taken naming order old state stands agree
+                number made there once life
                 agreed nodes phase_is seated new.hub.table id table_then new.pledged last each_once.0 each_once.1 alone off)
               where
                 none_at : (services : List (Service T)) → list_any (is_service_of (factory_as made)) services ≡ false
@@ -271,8 +250,8 @@ module _ {T U B D : Type 0} (payload user_header : Detail) (types : MessageTypeD
             here kind =
                 let (domain, found) = here_found (service_of made) old.hub.services.domains stands.ports.here
                 (stands.factories.opened number made there kind) in
-                let mine = its_own choices degrades decides reader_degrades names taken naming order old state stands agree number made
-                there once
+                let mine = its_own choices terms.degrades terms.decides terms.reader_degrades names taken naming order old state stands
+                agree number made there once
                 life agreed nodes phase_is seated new.hub.table id table_then new.pledged last each_once.0 each_once.1 alone domain found
                 spare in
                 follows (mine.first ++ mine.last) (mine.before ++ mine.behind) none without now_hub
@@ -281,21 +260,20 @@ module _ {T U B D : Type 0} (payload user_header : Detail) (types : MessageTypeD
                 ∙ one_dropped (is_service_of (factory_as made)) mine.first mine.service mine.last
                 (none_passing old.factories.made old.hub.services (is_service_of (factory_as made)) (service_of made) (other_is kind)
                 mine.before mine.first mine.off_before mine.served_before)
-                (is_its_own choices degrades decides reader_degrades names taken naming order old state stands agree number made there kind
-                mine.service mine.served)
+                (is_its_own choices terms.degrades terms.decides terms.reader_degrades names taken naming order old state stands agree
+                number made there kind mine.service mine.served)
                 (none_passing old.factories.made old.hub.services (is_service_of (factory_as made)) (service_of made) (other_is kind)
                 mine.behind mine.last mine.off_behind mine.served_behind)))
-                (ends choices degrades decides reader_degrades names taken naming order old state stands agree number made there once life
-                agreed
+                (ends choices terms.degrades terms.decides terms.reader_degrades names taken naming order old state stands agree number
+                made there once life agreed
                 nodes phase_is seated new.hub.table id table_then new.pledged last each_once.0 each_once.1 alone domain found spare)
               where
                 other_is : pattern_in made ≡ pattern.PublishSubscribe → (other : ℕ) (service : Service T)
                     → (other ≡ service_of made → ⊥) → IsServedBy old.factories.made old.hub.services other service
                     → is_service_of (factory_as made) service ≡ false
                 other_is its other service off served =
-                    is_another choices degrades decides reader_degrades names taken naming order old state stands agree number made there
-                    its other
-                    service off served
+                    is_another choices terms.degrades terms.decides terms.reader_degrades names taken naming order old state stands agree
+                    number made there its other service off served
 
             kind_by : (which : MessagingPattern) → pattern_in made ≡ which → IsClosed
             kind_by pattern.PublishSubscribe is = here is
@@ -357,8 +335,7 @@ module _ {T U B D : Type 0} (payload user_header : Detail) (types : MessageTypeD
       order = order;
       after = state;
       step = subst (λ (it : Reply T). machine.Closes number state it state) (sym (told ∙ ap closed_reply does.0)) skipped;
-      stands = stands_still payload user_header types choices is_default_header fixed degrades decides fixed_reader reader_degrades
-          names taken naming order old new state stands does.2 does.1 same;
+      stands = stands_still terms choices names taken naming order old new state stands does.2 does.1 same;
     }
       where
         skipped : machine.Closes number state reply.Skipped state
@@ -368,8 +345,7 @@ module _ {T U B D : Type 0} (payload user_header : Detail) (types : MessageTypeD
     close_by (Some made) closed there does told =
         of_by made there _ closed (eq-eqb _ _ (stands.factories.each number made there).storage) does told
 
-  pub closing_follows : ClosingMatches payload user_header types choices is_default_header fixed degrades decides fixed_reader
-      reader_degrades
+  pub closing_follows : ClosingMatches terms choices
   closing_follows names number taken naming order old new state answer own agreed each_once come stands (closed, does, same, told) =
       close_by names number taken naming order old new state answer own (agreement_is_one old.factories.made old.hub agreed).0 each_once
       come stands

@@ -2,19 +2,12 @@
 use Rattle.std.proofs.Common.{◌≡◌, ◌+◌, ℕ, Bool, false, cond, List, [], ◌∷◌, Option, None, Some, Result, Ok, Err, refl, sym, ap, subst, ◌∙◌}
 use Rattle.std.specs.Option.{option_map}
 use Rattle.std.specs.Prelude.{find, is_some, MatchOption}
-use Rattle.iox_command.specs.DomainValues.declared.backpressure.BackpressureAction.{BackpressureAction}
-use Rattle.iox_command.specs.DomainValues.declared.backpressure.BackpressureDecision.{BackpressureDecision}
-use Rattle.iox_command.specs.DomainValues.declared.backpressure.BackpressureInfo.{BackpressureInfo}
-use Rattle.iox_command.specs.DomainValues.declared.backpressure_strategy.BackpressureStrategy.{BackpressureStrategy}
 use Rattle.iox_command.specs.DomainValues.declared.create_error.SubscriberCreateError.{SubscriberCreateError}
 use Rattle.iox_command.specs.DomainValues.declared.create_error.SubscriberCreateError.TheVariants as error
 use Rattle.iox_command.specs.DomainValues.declared.degradation.DegradationAction.{DegradationAction}
-use Rattle.iox_command.specs.DomainValues.declared.degradation.DegradationCause.{DegradationCause}
 use Rattle.iox_command.specs.DomainValues.declared.degradation.DegradationCause.TheVariants.{FailedToEstablishConnection}
 use Rattle.iox_command.specs.DomainValues.declared.degradation.DegradationInfo.{DegradationInfo}
 use Rattle.iox_command.specs.DomainValues.declared.port_owner.PortOwner.{PortOwner}
-use Rattle.iox_command.specs.NegotiateBase.DescribeBase.Detail.{Detail}
-use Rattle.iox_command.specs.NegotiateBase.DescribeBase.declared.message_type.MessageTypeDetails.{MessageTypeDetails}
 use Rattle.iox_command.specs.NegotiateBase.DescribeBase.declared.pattern.MessagingPattern.{MessagingPattern}
 use Rattle.iox_command.specs.NegotiateBase.DescribeBase.declared.pattern.MessagingPattern.TheVariants.{PublishSubscribe}
 use Rattle.iox_command.specs.declared.command.Command.{Command}
@@ -45,6 +38,7 @@ use Rattle.iox_hub_commands.specs.declared.numbered_hub.NumberedHub.{NumberedHub
 use Rattle.iox_hub_commands.specs.declared.ports.made.Made.{Made}
 use Rattle.iox_hub_commands.specs.declared.services.made.MadeFactory.{MadeFactory}
 use Rattle.iox_hub_commands.specs.declared.services.made.MadeFactory.TheVariants as made
+use Rattle.iox_hub_commands.specs.Terms.{Terms}
 use Rattle.iox_hub_machine.proofs.Amidst.{at_one_skips}
 use Rattle.iox_hub_machine.proofs.ComesHouse.{changed_again}
 use Rattle.iox_hub_machine.proofs.ComesRoomier.{hub_roomier}
@@ -104,27 +98,23 @@ none_of_others factory off (service ∷ services) =
     (find (λ (one : Service _). is_some (cond (is_service_of factory one) (Some one) None)) services)) (off service)
     ∙ none_of_others factory off services
 
-module _ {T U B D : Type 0} (payload user_header : Detail) (types : MessageTypeDetails) (choices : Choices T)
-    (is_default_header : U → Type 0) (fixed : BackpressureStrategy → Option BackpressureAction → DegradationAction → B)
-    (degrades : B → DegradationCause → DegradationInfo → DegradationAction → Type 0)
-    (decides : B → BackpressureInfo → BackpressureDecision → Type 0) (fixed_reader : DegradationAction → D)
-    (reader_degrades : D → DegradationCause → DegradationInfo → DegradationAction → Type 0)
-    (names : List (List ℕ)) (factory : ℕ)
+module _ {T U B D : Type 0} (terms : Terms T U B D) (choices : Choices T) (names : List (List ℕ)) (factory : ℕ)
     (options : SubscriberOptions)
     (taken : MessagingPattern → List ℕ → List ℕ) (naming : ℕ → Naming) (order : List (ℕ × ServicePorts T U))
     (old new : NumberedHub T U B D) (state : State T) (answer : Reply T) (may_come : MayCome old)
-    (stands : HubStandsFor choices degrades decides reader_degrades names taken naming order old state)
+    (stands : HubStandsFor choices terms.degrades terms.decides terms.reader_degrades names taken naming order old state)
     (answers : answer ≡ reply.SubscriberMade (state.made.subscribers + 1)
-    → AnswersAsChosen choices reader_degrades (subscriber_handler fixed_reader options) (state.made.subscribers + 1) options) where
+    → AnswersAsChosen choices terms.reader_degrades (subscriber_handler terms.fixed_reader options) (state.made.subscribers + 1)
+    options) where
   abbrev asked : Command T
   asked = command.Subscriber factory options
 
   abbrev Followed : Reply T → NumberedHub T U B D → Type 0
-  Followed told later = IsFollowed payload user_header types choices is_default_header fixed degrades decides fixed_reader
-      reader_degrades names asked old later state told
+  Followed told later = IsFollowed terms choices names asked old later state told
 
   -- where nothing happens, and the machine skips the command
-  skipped : machine.Step types choices old.hub.expired_connection_buffer asked state reply.Skipped state → Followed reply.Skipped old
+  skipped : machine.Step terms.types choices old.hub.expired_connection_buffer asked state reply.Skipped state → Followed reply.Skipped
+      old
   skipped step = record { taken = taken; naming = naming; order = order; after = state; step = step; stands = stands }
 
   machine_has : at factory state.factories ≡ option_map factory_as (value_at old.factories.made factory)
@@ -137,7 +127,7 @@ module _ {T U B D : Type 0} (payload user_header : Detail) (types : MessageTypeD
   -- a factory of another pattern has no service that takes ports
   skipped_of : (made_one : MadeFactory) → value_at old.factories.made factory ≡ Some made_one
       → ((service : Service T) → is_service_of (factory_as made_one) service ≡ false)
-      → machine.Step types choices old.hub.expired_connection_buffer asked state reply.Skipped state
+      → machine.Step terms.types choices old.hub.expired_connection_buffer asked state reply.Skipped state
   skipped_of made_one there off =
       subst (λ (found : Option Factory). MatchOption found (IsSkipped {T = T} state reply.Skipped state)
       (λ one. AtOne (λ (service : Service T). cond (is_service_of one service) (Some service) None) Does state reply.Skipped state))
@@ -146,7 +136,7 @@ module _ {T U B D : Type 0} (payload user_header : Detail) (types : MessageTypeD
       (none_of_others (factory_as made_one) off state.services))
 
   skipped_none : value_at old.factories.made factory ≡ None
-      → machine.Step types choices old.hub.expired_connection_buffer asked state reply.Skipped state
+      → machine.Step terms.types choices old.hub.expired_connection_buffer asked state reply.Skipped state
   skipped_none none =
       subst (λ (found : Option Factory). MatchOption found (IsSkipped {T = T} state reply.Skipped state)
       (λ one. AtOne (λ (service : Service T). cond (is_service_of one service) (Some service) None) Does state reply.Skipped state))
@@ -164,35 +154,36 @@ module _ {T U B D : Type 0} (payload user_header : Detail) (types : MessageTypeD
     config = subscriber_config (record { number = (parts_of made_one).1; node_id = (parts_of made_one).0.node }) options
 
     abbrev handler : D
-    handler = subscriber_handler fixed_reader options
+    handler = subscriber_handler terms.fixed_reader options
 
     -- the hub once there is room for a number
     abbrev mid : NumberedHub T U B D
     mid = record old { made = roomier; pledged = new.pledged }
 
-    stands_mid : HubStandsFor choices degrades decides reader_degrades names taken naming order mid state
-    stands_mid = hub_roomier choices degrades decides reader_degrades names taken naming order old state stands roomier new.pledged room
+    stands_mid : HubStandsFor choices terms.degrades terms.decides terms.reader_degrades names taken naming order mid state
+    stands_mid = hub_roomier choices terms.degrades terms.decides terms.reader_degrades names taken naming order old state stands roomier
+        new.pledged room
 
     may_mid : MayCome mid
     may_mid = record { grown = may_come.grown; agreed = may_come.agreed; counted = may_come.counted }
 
     abbrev its_ports : ServicePorts T U
-    its_ports = ports choices degrades decides reader_degrades names taken naming order mid state stands_mid may_mid factory made_one
-        there kind types options fixed_reader
+    its_ports = ports choices terms.degrades terms.decides terms.reader_degrades names taken naming order mid state stands_mid may_mid
+        factory made_one there kind terms.types options terms.fixed_reader
 
     its_found : hub_ports its_id old.hub ≡ Some its_ports
-    its_found = found choices degrades decides reader_degrades names taken naming order mid state stands_mid may_mid factory made_one
-        there kind types options fixed_reader
+    its_found = found choices terms.degrades terms.decides terms.reader_degrades names taken naming order mid state stands_mid may_mid
+        factory made_one there kind terms.types options terms.fixed_reader
 
     abbrev Creates : Result ℕ SubscriberCreateError → ServicePorts T U → Type 0
-    Creates told after = CreatesSubscriber (reader_degrades handler FailedToEstablishConnection) config.owner
+    Creates told after = CreatesSubscriber (terms.reader_degrades handler FailedToEstablishConnection) config.owner
         (buffer_of config.buffer_size its_ports.sizes) (subscriber_place its_ports) its_ports told after
 
     abbrev Makes : Option (ServicePorts T U) → Option (Result ℕ SubscriberCreateError) → Hub T U B D → Type 0
     Makes where_to came later = MakesAt (λ after. with_hub_ports its_id after old.hub)
         (λ number. with_hub_subscriber its_id number handler)
-        (steps.SubscriberComes (reader_degrades handler FailedToEstablishConnection) config) (steps.why_no_subscriber config) where_to
-        old.hub came later
+        (steps.SubscriberComes (terms.reader_degrades handler FailedToEstablishConnection) config) (steps.why_no_subscriber config)
+        where_to old.hub came later
 
     refused_then : (why : SubscriberCreateError) → Creates (Err why) its_ports → Followed (reply.Refused (refusal.Subscriber why)) mid
     refused_then why creates = record {
@@ -200,8 +191,8 @@ module _ {T U B D : Type 0} (payload user_header : Detail) (types : MessageTypeD
       naming = naming;
       order = order;
       after = state;
-      step = refused_so choices degrades decides reader_degrades names taken naming order mid state stands_mid may_mid factory made_one
-          there kind types options fixed_reader why creates;
+      step = refused_so choices terms.degrades terms.decides terms.reader_degrades names taken naming order mid state stands_mid may_mid
+          factory made_one there kind terms.types options terms.fixed_reader why creates;
       stands = stands_mid;
     }
 
@@ -213,15 +204,15 @@ module _ {T U B D : Type 0} (payload user_header : Detail) (types : MessageTypeD
         })
     came_then after creates came =
         let (naming_then, order_then, state_then, step, so) =
-        follows_so choices degrades decides reader_degrades names taken naming order mid state stands_mid may_mid factory made_one there
-        kind types options fixed_reader after creates (answers came) in record {
+        follows_so choices terms.degrades terms.decides terms.reader_degrades names taken naming order mid state stands_mid may_mid
+        factory made_one there kind terms.types options terms.fixed_reader after creates (answers came) in record {
           taken = taken;
           naming = naming_then;
           order = order_then;
           after = state_then;
           step = step;
-          stands = subst (λ (it : Hub T U B D). HubStandsFor choices degrades decides reader_degrades names taken naming_then order_then
-              (record mid { hub = it; made = with_subscriber its_id its_ports.next_port roomier }) state_then)
+          stands = subst (λ (it : Hub T U B D). HubStandsFor choices terms.degrades terms.decides terms.reader_degrades names taken
+              naming_then order_then (record mid { hub = it; made = with_subscriber its_id its_ports.next_port roomier }) state_then)
               (sym (changed_again its_id (with_ports after) (subscriber_kept its_ports.next_port handler) old.hub)) so;
         }
 
@@ -238,12 +229,12 @@ module _ {T U B D : Type 0} (payload user_header : Detail) (types : MessageTypeD
           subst (λ (it : Reply T). Followed it new) (sym (told ∙ ap subscriber_reply replied))
           (subst (Followed (reply.Refused (refusal.Subscriber why))) (sym (is_so old.hub roomier same_hub same_made))
           (refused_then why (subst (λ (it : SubscriberCreateError). Creates (Err it) its_ports) (sym is)
-          (why_refused (reader_degrades handler FailedToEstablishConnection) config.owner (buffer_of config.buffer_size its_ports.sizes)
-          (subscriber_place its_ports) its_ports))))
+          (why_refused (terms.reader_degrades handler FailedToEstablishConnection) config.owner
+          (buffer_of config.buffer_size its_ports.sizes) (subscriber_place its_ports) its_ports))))
       by_answer (Some (Ok number)) came (after, creates, hub_is) (replied, made_is) told =
           let next : number ≡ its_ports.next_port =
-          came_number (reader_degrades handler FailedToEstablishConnection) config.owner (buffer_of config.buffer_size its_ports.sizes)
-          (subscriber_place its_ports) its_ports after number creates in
+          came_number (terms.reader_degrades handler FailedToEstablishConnection) config.owner
+          (buffer_of config.buffer_size its_ports.sizes) (subscriber_place its_ports) its_ports after number creates in
           let was : answer ≡ reply.SubscriberMade (state.made.subscribers + 1) =
           told ∙ ap subscriber_reply replied ∙ ap (λ (it : ℕ). reply.SubscriberMade it) stands.ports.numbers.subscribers in
           subst (λ (it : Reply T). Followed it new)
@@ -262,7 +253,7 @@ module _ {T U B D : Type 0} (payload user_header : Detail) (types : MessageTypeD
           by_answer first came (subst (λ (it : Option (ServicePorts T U)). Makes it first new.hub) its_found makes) numbers told
 
   by_factory : (one : Option MadeFactory) → value_at old.factories.made factory ≡ one
-      → SubscriberComes fixed_reader reader_degrades (publish_subscribe_in one) options old answer new → Followed answer new
+      → SubscriberComes terms.fixed_reader terms.reader_degrades (publish_subscribe_in one) options old answer new → Followed answer new
   by_factory None none (told, same) =
       subst (λ (it : Reply T). Followed it new) (sym told) (subst (Followed reply.Skipped) (sym same) (skipped (skipped_none none)))
   by_factory (Some (made.PublishSubscribe one)) there ((came, (roomier, room, (first, makes, numbers)), told), same) =
@@ -274,16 +265,10 @@ module _ {T U B D : Type 0} (payload user_header : Detail) (types : MessageTypeD
       subst (λ (it : Reply T). Followed it new) (sym told)
       (subst (Followed reply.Skipped) (sym same) (skipped (skipped_of (made.RequestResponse one) there (λ service. refl))))
 
-pub subscriber_coming_followed : {T U B D : Type 0} (payload user_header : Detail) (types : MessageTypeDetails) (choices : Choices T)
-    (is_default_header : U → Type 0) (fixed : BackpressureStrategy → Option BackpressureAction → DegradationAction → B)
-    (degrades : B → DegradationCause → DegradationInfo → DegradationAction → Type 0)
-    (decides : B → BackpressureInfo → BackpressureDecision → Type 0) (fixed_reader : DegradationAction → D)
-    (reader_degrades : D → DegradationCause → DegradationInfo → DegradationAction → Type 0)
-    → SubscriberComingIsFollowed payload user_header types choices is_default_header fixed degrades decides fixed_reader reader_degrades
-subscriber_coming_followed payload user_header types choices is_default_header fixed degrades decides fixed_reader reader_degrades names
-    factory options taken naming order old new state answer (may_come, answers) stands does =
-    by_factory payload user_header types choices is_default_header fixed degrades decides fixed_reader reader_degrades names factory options
-    taken naming order old new state answer may_come stands
+pub subscriber_coming_followed : {T U B D : Type 0} (terms : Terms T U B D) (choices : Choices T)
+    → SubscriberComingIsFollowed terms choices
+subscriber_coming_followed terms choices names factory options taken naming order old new state answer (may_come, answers) stands does =
+    by_factory terms choices names factory options taken naming order old new state answer may_come stands
     (subst (λ (n : ℕ). answer ≡ reply.SubscriberMade n
-    → AnswersAsChosen choices reader_degrades (subscriber_handler fixed_reader options) n options)
+    → AnswersAsChosen choices terms.reader_degrades (subscriber_handler terms.fixed_reader options) n options)
     stands.ports.numbers.subscribers answers) (value_at old.factories.made factory) refl does

@@ -2,18 +2,11 @@
 use Rattle.std.proofs.Common.{◌≡◌, ◌+◌, ℕ, true, false, cond, List, Option, None, Some, Result, Ok, Err, refl, sym, ap, subst, ◌∙◌}
 use Rattle.std.specs.Option.{option_map, unwrap_or}
 use Rattle.std.specs.Prelude.{max, MatchOption}
-use Rattle.iox_command.specs.DomainValues.declared.backpressure.BackpressureAction.{BackpressureAction}
-use Rattle.iox_command.specs.DomainValues.declared.backpressure.BackpressureDecision.{BackpressureDecision}
-use Rattle.iox_command.specs.DomainValues.declared.backpressure.BackpressureInfo.{BackpressureInfo}
-use Rattle.iox_command.specs.DomainValues.declared.backpressure_strategy.BackpressureStrategy.{BackpressureStrategy}
 use Rattle.iox_command.specs.DomainValues.declared.create_error.PublisherCreateError.{PublisherCreateError}
 use Rattle.iox_command.specs.DomainValues.declared.create_error.PublisherCreateError.TheVariants as error
 use Rattle.iox_command.specs.DomainValues.declared.degradation.DegradationAction.{DegradationAction}
-use Rattle.iox_command.specs.DomainValues.declared.degradation.DegradationCause.{DegradationCause}
 use Rattle.iox_command.specs.DomainValues.declared.degradation.DegradationCause.TheVariants.{FailedToEstablishConnection}
 use Rattle.iox_command.specs.DomainValues.declared.degradation.DegradationInfo.{DegradationInfo}
-use Rattle.iox_command.specs.NegotiateBase.DescribeBase.Detail.{Detail}
-use Rattle.iox_command.specs.NegotiateBase.DescribeBase.declared.message_type.MessageTypeDetails.{MessageTypeDetails}
 use Rattle.iox_command.specs.NegotiateBase.DescribeBase.declared.pattern.MessagingPattern.{MessagingPattern}
 use Rattle.iox_command.specs.NegotiateBase.DescribeBase.declared.pattern.MessagingPattern.TheVariants.{PublishSubscribe}
 use Rattle.iox_command.specs.declared.command.Command.{Command}
@@ -43,6 +36,7 @@ use Rattle.iox_hub_commands.specs.declared.numbered_hub.NumberedHub.{NumberedHub
 use Rattle.iox_hub_commands.specs.declared.ports.made.Made.{Made}
 use Rattle.iox_hub_commands.specs.declared.services.made.MadeFactory.{MadeFactory}
 use Rattle.iox_hub_commands.specs.declared.services.made.MadeFactory.TheVariants as made
+use Rattle.iox_hub_commands.specs.Terms.{Terms}
 use Rattle.iox_hub_machine.proofs.Amidst.{at_one_skips}
 use Rattle.iox_hub_machine.proofs.ComesAsked.{none_of_others}
 use Rattle.iox_hub_machine.proofs.ComesHouse.{changed_again}
@@ -97,27 +91,23 @@ module _ {T U : Type 0} (overrides : ℕ → ℕ → Type 0) (may : DegradationI
   why_refused some_slots allowed (Some needed) (Some place) old =
       (some_slots (max needed 1), allowed (max needed 1), Err (record {}), refl, refl)
 
-module _ {T U B D : Type 0} (payload user_header : Detail) (types : MessageTypeDetails) (choices : Choices T)
-    (is_default_header : U → Type 0) (fixed : BackpressureStrategy → Option BackpressureAction → DegradationAction → B)
-    (degrades : B → DegradationCause → DegradationInfo → DegradationAction → Type 0)
-    (decides : B → BackpressureInfo → BackpressureDecision → Type 0) (fixed_reader : DegradationAction → D)
-    (reader_degrades : D → DegradationCause → DegradationInfo → DegradationAction → Type 0)
-    (names : List (List ℕ)) (factory : ℕ)
+module _ {T U B D : Type 0} (terms : Terms T U B D) (choices : Choices T) (names : List (List ℕ)) (factory : ℕ)
     (options : PublisherOptions)
     (taken : MessagingPattern → List ℕ → List ℕ) (naming : ℕ → Naming) (order : List (ℕ × ServicePorts T U))
     (old new : NumberedHub T U B D) (state : State T) (answer : Reply T) (may_come : MayCome old)
-    (stands : HubStandsFor choices degrades decides reader_degrades names taken naming order old state)
+    (stands : HubStandsFor choices terms.degrades terms.decides terms.reader_degrades names taken naming order old state)
     (answers : answer ≡ reply.PublisherMade (state.made.publishers + 1)
-    → DecidesAsChosen choices degrades decides (publisher_handlers fixed options) (state.made.publishers + 1) options) where
+    → DecidesAsChosen choices terms.degrades terms.decides (publisher_handlers terms.fixed options) (state.made.publishers + 1)
+    options) where
   abbrev asked : Command T
   asked = command.Publisher factory options
 
   abbrev Followed : Reply T → NumberedHub T U B D → Type 0
-  Followed told later = IsFollowed payload user_header types choices is_default_header fixed degrades decides fixed_reader
-      reader_degrades names asked old later state told
+  Followed told later = IsFollowed terms choices names asked old later state told
 
   -- where nothing happens, and the machine skips the command
-  skipped : machine.Step types choices old.hub.expired_connection_buffer asked state reply.Skipped state → Followed reply.Skipped old
+  skipped : machine.Step terms.types choices old.hub.expired_connection_buffer asked state reply.Skipped state → Followed reply.Skipped
+      old
   skipped step = record { taken = taken; naming = naming; order = order; after = state; step = step; stands = stands }
 
   machine_has : at factory state.factories ≡ option_map factory_as (value_at old.factories.made factory)
@@ -129,7 +119,7 @@ module _ {T U B D : Type 0} (payload user_header : Detail) (types : MessageTypeD
   -- a factory of another pattern has no service that takes ports
   skipped_of : (made_one : MadeFactory) → value_at old.factories.made factory ≡ Some made_one
       → ((service : Service T) → is_service_of (factory_as made_one) service ≡ false)
-      → machine.Step types choices old.hub.expired_connection_buffer asked state reply.Skipped state
+      → machine.Step terms.types choices old.hub.expired_connection_buffer asked state reply.Skipped state
   skipped_of made_one there off =
       subst (λ (found : Option Factory). MatchOption found (IsSkipped {T = T} state reply.Skipped state)
       (λ one. AtOne (λ (service : Service T). cond (is_service_of one service) (Some service) None) Does state reply.Skipped state))
@@ -138,7 +128,7 @@ module _ {T U B D : Type 0} (payload user_header : Detail) (types : MessageTypeD
       (none_of_others (factory_as made_one) off state.services))
 
   skipped_none : value_at old.factories.made factory ≡ None
-      → machine.Step types choices old.hub.expired_connection_buffer asked state reply.Skipped state
+      → machine.Step terms.types choices old.hub.expired_connection_buffer asked state reply.Skipped state
   skipped_none none =
       subst (λ (found : Option Factory). MatchOption found (IsSkipped {T = T} state reply.Skipped state)
       (λ one. AtOne (λ (service : Service T). cond (is_service_of one service) (Some service) None) Does state reply.Skipped state))
@@ -156,7 +146,7 @@ module _ {T U B D : Type 0} (payload user_header : Detail) (types : MessageTypeD
     config = publisher_config (record { number = (parts_of made_one).1; node_id = (parts_of made_one).0.node }) options
 
     abbrev handler : B
-    handler = publisher_handlers fixed options
+    handler = publisher_handlers terms.fixed options
 
     -- as many slots as are named, or else as are needed
     abbrev named_slots : ℕ → ℕ → Type 0
@@ -166,29 +156,30 @@ module _ {T U B D : Type 0} (payload user_header : Detail) (types : MessageTypeD
     abbrev mid : NumberedHub T U B D
     mid = record old { made = roomier; pledged = new.pledged }
 
-    stands_mid : HubStandsFor choices degrades decides reader_degrades names taken naming order mid state
-    stands_mid = hub_roomier choices degrades decides reader_degrades names taken naming order old state stands roomier new.pledged room
+    stands_mid : HubStandsFor choices terms.degrades terms.decides terms.reader_degrades names taken naming order mid state
+    stands_mid = hub_roomier choices terms.degrades terms.decides terms.reader_degrades names taken naming order old state stands roomier
+        new.pledged room
 
     may_mid : MayCome mid
     may_mid = record { grown = may_come.grown; agreed = may_come.agreed; counted = may_come.counted }
 
     abbrev its_ports : ServicePorts T U
-    its_ports = ports choices degrades decides reader_degrades names taken naming order mid state stands_mid may_mid factory made_one
-        there kind types options fixed header
+    its_ports = ports choices terms.degrades terms.decides terms.reader_degrades names taken naming order mid state stands_mid may_mid
+        factory made_one there kind terms.types options terms.fixed header
 
     its_found : hub_ports its_id old.hub ≡ Some its_ports
-    its_found = found choices degrades decides reader_degrades names taken naming order mid state stands_mid may_mid factory made_one
-        there kind types options fixed header
+    its_found = found choices terms.degrades terms.decides terms.reader_degrades names taken naming order mid state stands_mid may_mid
+        factory made_one there kind terms.types options terms.fixed header
 
     abbrev Creates : Result ℕ PublisherCreateError → ServicePorts T U → Type 0
-    Creates told after = CreatesPublisher named_slots (degrades handler FailedToEstablishConnection) config header
+    Creates told after = CreatesPublisher named_slots (terms.degrades handler FailedToEstablishConnection) config header
         (slots_needed config its_ports) (publisher_place its_ports) its_ports told after
 
     abbrev Makes : Option (ServicePorts T U) → Option (Result ℕ PublisherCreateError) → Hub T U B D → Type 0
     Makes where_to came later = MakesAt (λ after. with_hub_ports its_id after old.hub)
         (λ number. with_hub_publisher its_id number handler)
-        (steps.PublisherComes named_slots (degrades handler FailedToEstablishConnection) config header) (steps.why_no_publisher config)
-        where_to old.hub came later
+        (steps.PublisherComes named_slots (terms.degrades handler FailedToEstablishConnection) config header)
+        (steps.why_no_publisher config) where_to old.hub came later
 
     refused_then : (why : PublisherCreateError) → Creates (Err why) its_ports → Followed (reply.Refused (refusal.Publisher why)) mid
     refused_then why creates = record {
@@ -196,8 +187,8 @@ module _ {T U B D : Type 0} (payload user_header : Detail) (types : MessageTypeD
       naming = naming;
       order = order;
       after = state;
-      step = refused_so choices degrades decides reader_degrades names taken naming order mid state stands_mid may_mid factory made_one
-          there kind types options fixed header why creates;
+      step = refused_so choices terms.degrades terms.decides terms.reader_degrades names taken naming order mid state stands_mid may_mid
+          factory made_one there kind terms.types options terms.fixed header why creates;
       stands = stands_mid;
     }
 
@@ -209,15 +200,15 @@ module _ {T U B D : Type 0} (payload user_header : Detail) (types : MessageTypeD
         })
     came_then after creates came =
         let (naming_then, order_then, state_then, step, so) =
-        follows_so choices degrades decides reader_degrades names taken naming order mid state stands_mid may_mid factory made_one there
-        kind types options fixed header after creates (answers came) in record {
+        follows_so choices terms.degrades terms.decides terms.reader_degrades names taken naming order mid state stands_mid may_mid
+        factory made_one there kind terms.types options terms.fixed header after creates (answers came) in record {
           taken = taken;
           naming = naming_then;
           order = order_then;
           after = state_then;
           step = step;
-          stands = subst (λ (it : Hub T U B D). HubStandsFor choices degrades decides reader_degrades names taken naming_then order_then
-              (record mid { hub = it; made = with_publisher its_id true its_ports.next_port roomier }) state_then)
+          stands = subst (λ (it : Hub T U B D). HubStandsFor choices terms.degrades terms.decides terms.reader_degrades names taken
+              naming_then order_then (record mid { hub = it; made = with_publisher its_id true its_ports.next_port roomier }) state_then)
               (sym (changed_again its_id (with_ports after) (publisher_kept its_ports.next_port handler) old.hub)) so;
         }
 
@@ -234,12 +225,12 @@ module _ {T U B D : Type 0} (payload user_header : Detail) (types : MessageTypeD
           subst (λ (it : Reply T). Followed it new) (sym (told ∙ ap publisher_reply replied))
           (subst (Followed (reply.Refused (refusal.Publisher why))) (sym (is_so old.hub roomier same_hub same_made))
           (refused_then why (subst (λ (it : PublisherCreateError). Creates (Err it) its_ports) (sym is)
-          (why_refused named_slots (degrades handler FailedToEstablishConnection) config header
+          (why_refused named_slots (terms.degrades handler FailedToEstablishConnection) config header
           (λ needed. unwrap_or options.preallocated_samples needed) (λ needed. refl) (slots_needed config its_ports)
           (publisher_place its_ports) its_ports))))
       by_answer (Some (Ok number)) came (after, creates, hub_is) (replied, made_is) told =
           let next : number ≡ its_ports.next_port =
-          came_number named_slots (degrades handler FailedToEstablishConnection) config header (slots_needed config its_ports)
+          came_number named_slots (terms.degrades handler FailedToEstablishConnection) config header (slots_needed config its_ports)
           (publisher_place its_ports) its_ports after number creates in
           let was : answer ≡ reply.PublisherMade (state.made.publishers + 1) =
           told ∙ ap publisher_reply replied ∙ ap (λ (it : ℕ). reply.PublisherMade it) stands.ports.numbers.publishers in
@@ -259,7 +250,8 @@ module _ {T U B D : Type 0} (payload user_header : Detail) (types : MessageTypeD
           by_answer first came (subst (λ (it : Option (ServicePorts T U)). Makes it first new.hub) its_found makes) numbers told
 
   by_factory : (one : Option MadeFactory) → value_at old.factories.made factory ≡ one
-      → PublisherComes is_default_header fixed degrades (publish_subscribe_in one) options old answer new → Followed answer new
+      → PublisherComes terms.is_default_header terms.fixed terms.degrades (publish_subscribe_in one) options old answer new → Followed
+      answer new
   by_factory None none (told, same) =
       subst (λ (it : Reply T). Followed it new) (sym told) (subst (Followed reply.Skipped) (sym same) (skipped (skipped_none none)))
   by_factory (Some (made.PublishSubscribe one)) there
@@ -272,16 +264,10 @@ module _ {T U B D : Type 0} (payload user_header : Detail) (types : MessageTypeD
       subst (λ (it : Reply T). Followed it new) (sym told)
       (subst (Followed reply.Skipped) (sym same) (skipped (skipped_of (made.RequestResponse one) there (λ service. refl))))
 
-pub publisher_coming_followed : {T U B D : Type 0} (payload user_header : Detail) (types : MessageTypeDetails) (choices : Choices T)
-    (is_default_header : U → Type 0) (fixed : BackpressureStrategy → Option BackpressureAction → DegradationAction → B)
-    (degrades : B → DegradationCause → DegradationInfo → DegradationAction → Type 0)
-    (decides : B → BackpressureInfo → BackpressureDecision → Type 0) (fixed_reader : DegradationAction → D)
-    (reader_degrades : D → DegradationCause → DegradationInfo → DegradationAction → Type 0)
-    → PublisherComingIsFollowed payload user_header types choices is_default_header fixed degrades decides fixed_reader reader_degrades
-publisher_coming_followed payload user_header types choices is_default_header fixed degrades decides fixed_reader reader_degrades names
-    factory options taken naming order old new state answer (may_come, answers) stands does =
-    by_factory payload user_header types choices is_default_header fixed degrades decides fixed_reader reader_degrades names factory options
-    taken naming order old new state answer may_come stands
+pub publisher_coming_followed : {T U B D : Type 0} (terms : Terms T U B D) (choices : Choices T)
+    → PublisherComingIsFollowed terms choices
+publisher_coming_followed terms choices names factory options taken naming order old new state answer (may_come, answers) stands does =
+    by_factory terms choices names factory options taken naming order old new state answer may_come stands
     (subst (λ (n : ℕ). answer ≡ reply.PublisherMade n
-    → DecidesAsChosen choices degrades decides (publisher_handlers fixed options) n options)
+    → DecidesAsChosen choices terms.degrades terms.decides (publisher_handlers terms.fixed options) n options)
     stands.ports.numbers.publishers answers) (value_at old.factories.made factory) refl does

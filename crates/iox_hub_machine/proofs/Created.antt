@@ -4,14 +4,6 @@ use Rattle.std.proofs.Common.{inl, inr, refl, sym, ap, subst, ◌∙◌, arith}
 use Rattle.std.specs.List.{AllByRecursion, IsAmong}
 use Rattle.std.specs.Prelude.{nat_le, MatchBool, MatchOption}
 use Rattle.std.specs.declared.alloc.AllocError.{AllocError}
-use Rattle.iox_command.specs.DomainValues.declared.backpressure.BackpressureAction.{BackpressureAction}
-use Rattle.iox_command.specs.DomainValues.declared.backpressure.BackpressureDecision.{BackpressureDecision}
-use Rattle.iox_command.specs.DomainValues.declared.backpressure.BackpressureInfo.{BackpressureInfo}
-use Rattle.iox_command.specs.DomainValues.declared.backpressure_strategy.BackpressureStrategy.{BackpressureStrategy}
-use Rattle.iox_command.specs.DomainValues.declared.degradation.DegradationAction.{DegradationAction}
-use Rattle.iox_command.specs.DomainValues.declared.degradation.DegradationCause.{DegradationCause}
-use Rattle.iox_command.specs.DomainValues.declared.degradation.DegradationInfo.{DegradationInfo}
-use Rattle.iox_command.specs.NegotiateBase.DescribeBase.Detail.{Detail}
 use Rattle.iox_command.specs.NegotiateBase.DescribeBase.declared.attribute.Attribute.{Attribute}
 use Rattle.iox_command.specs.NegotiateBase.DescribeBase.declared.message_type.MessageTypeDetails.{MessageTypeDetails}
 use Rattle.iox_command.specs.NegotiateBase.DescribeBase.declared.pattern.MessagingPattern.{MessagingPattern}
@@ -46,10 +38,11 @@ use Rattle.iox_hub_commands.specs.Replies.{factory_reply}
 use Rattle.iox_hub_commands.specs.ServicesNumbering.{GetsNumber, IsRefusedWith, Prepares}
 use Rattle.iox_hub_commands.specs.ServicesTables.{FactoryTable, SameNumbers}
 use Rattle.iox_hub_commands.specs.declared.numbered_hub.NumberedHub.{NumberedHub}
+use Rattle.iox_hub_commands.specs.Terms.{Terms}
 use Rattle.iox_hub_machine.proofs.Answered.{IsAnswered, answered, lacking_answered, room_lacking}
 use Rattle.iox_hub_machine.proofs.EnteredStands.{stands_entered}
 use Rattle.iox_hub_machine.proofs.Entering.{created_enters, uncreated_keeps}
-use Rattle.iox_hub_machine.proofs.FittingThen.{FitsHere, new_fits}
+use Rattle.iox_hub_machine.proofs.FittingThen.{FitsHere, asked_terms, new_fits}
 use Rattle.iox_hub_machine.proofs.Formed.{AreMade, formed_so, listed_so}
 use Rattle.iox_hub_machine.proofs.FoundStanding.{described_so, look_finds, refuses_to_create, same_phase}
 use Rattle.iox_hub_machine.proofs.Skipping.{by_none, skipped_matches, stands_still}
@@ -115,14 +108,17 @@ by_some P Q found v is q = subst (λ o. MatchOption o P Q) (sym is) q
 by_true : (P Q : Type 0) (b : Bool) → b ≡ true → P → MatchBool b P Q
 by_true P Q b is p = subst (λ (it : Bool). MatchBool it P Q) (sym is) p
 
-module _ (payload user_header : Detail) (variant : TypeVariant) where
+module _ {T U B D : Type 0} (variant : TypeVariant) (terms : Terms T U B D) where
+  abbrev terms_so : Terms T U B D
+  terms_so = asked_terms variant terms
+
   -- the types of the messages of a hub
   abbrev types : MessageTypeDetails
-  types = asked_types variant payload user_header
+  types = asked_types variant terms.payload terms.user_header
 
   -- the settings of a service that is created fit
-  fits_so : (named : ServiceOptions) → FitsHere payload user_header (settings_of types named)
-  fits_so (options.PublishSubscribe named) = new_fits payload user_header variant named
+  fits_so : (named : ServiceOptions) → FitsHere terms.payload terms.user_header (settings_of types named)
+  fits_so (options.PublishSubscribe named) = new_fits terms.payload terms.user_header variant named
   fits_so (options.Event named) = λ c is. absurd (differ c is)
     where
       differ : (c : StaticConfig) → settings_of types (options.Event named) ≡ settings.PublishSubscribe c → ⊥
@@ -132,16 +128,12 @@ module _ (payload user_header : Detail) (variant : TypeVariant) where
       differ : (c : StaticConfig) → settings_of types (options.RequestResponse named) ≡ settings.PublishSubscribe c → ⊥
       differ c e = cc
 
-  module _ {T U B D : Type 0} (choices : Choices T) (is_default_header : U → Type 0)
-      (fixed : BackpressureStrategy → Option BackpressureAction → DegradationAction → B)
-      (degrades : B → DegradationCause → DegradationInfo → DegradationAction → Type 0)
-      (decides : B → BackpressureInfo → BackpressureDecision → Type 0) (fixed_reader : DegradationAction → D)
-      (reader_degrades : D → DegradationCause → DegradationInfo → DegradationAction → Type 0)
-      (names : List (List ℕ)) (node : ℕ) (name : List ℕ) (named : ServiceOptions) (attributes : List Attribute) (steps : List StepBefore)
+  module _ (choices : Choices T) (names : List (List ℕ)) (node : ℕ) (name : List ℕ) (named : ServiceOptions) (attributes : List Attribute)
+      (steps : List StepBefore)
       (asked : IsAmong names name)
       (taken : MessagingPattern → List ℕ → List ℕ) (naming : ℕ → Naming) (order : List (ℕ × ServicePorts T U))
       (old new : NumberedHub T U B D) (state : State T) (own : HaveOwnHashes names) (ready : HasNumbersFor (length steps + 1) old)
-      (stands : HubStandsFor choices degrades decides reader_degrades names taken naming order old state) where
+      (stands : HubStandsFor choices terms.degrades terms.decides terms.reader_degrades names taken naming order old state) where
     -- what is to be agreed on
     abbrev agreed_on : Agreement
     agreed_on = record { settings = settings_of types named; attributes = attributes }
@@ -151,8 +143,8 @@ module _ (payload user_header : Detail) (variant : TypeVariant) where
     Calls = Creates types (pattern_of named) steps (Own node) agreed_on
 
     abbrev Replied : Reply T → Type 0
-    Replied = IsAnswered payload user_header choices degrades decides reader_degrades names own (pattern_of named) name asked taken naming
-        order
+    Replied = IsAnswered terms.payload terms.user_header choices terms.degrades terms.decides terms.reader_degrades names own
+        (pattern_of named) name asked taken naming order
         node old new state stands Calls (create_refusal named) (λ is_new. uncreated.OutOfMemory)
 
     module _ {E : Type 0} (error : CreateFailure → E) where
@@ -161,29 +153,30 @@ module _ (payload user_header : Detail) (variant : TypeVariant) where
           (same : SameNumbers old.factories.made roomier) (same_made : new.made ≡ old.made) (result : Result ℕ Refusal) where
         -- a creation over the table of the hub is answered as one of the machine
         created_so : GetsNumber (pattern_of named) told
-            (CreatesAgreed payload user_header error (hash_of name named) node (agreed_of name named types attributes) lists) roomier
-            old.hub result new.factories.made new.hub
+            (CreatesAgreed terms.payload terms.user_header error (hash_of name named) node (agreed_of name named types attributes) lists)
+            roomier old.hub result new.factories.made new.hub
             → Replied (factory_reply (Some result))
         created_so (opened, inr (can, is, still), numbers) =
-            room_lacking payload user_header choices degrades decides reader_degrades names own (pattern_of named) name asked taken naming
+            room_lacking terms.payload terms.user_header choices terms.degrades terms.decides terms.reader_degrades names own
+            (pattern_of named) name asked taken naming
             order node old new state stands Calls (create_refusal named) (λ is_new. uncreated.OutOfMemory) told
             (error uncreated.OutOfMemory) (tells uncreated.OutOfMemory) opened is roomier result same same_made numbers still
         created_so (opened, inl opens, numbers) =
-            answered payload user_header choices degrades decides reader_degrades names own (pattern_of named) name asked taken naming
-            order node
+            answered terms.payload terms.user_header choices terms.degrades terms.decides terms.reader_degrades names own
+            (pattern_of named) name asked taken naming order node
             old new state stands Calls (create_refusal named) (λ is_new. uncreated.OutOfMemory) error told tells
             (λ was_new. error uncreated.OutOfMemory) (λ fresh. refl)
             (λ why last calls. uncreated_keeps (pattern_of named) name (taken (pattern_of named) name)
             (state.phases (pattern_of named) name) types steps node agreed_on last why calls)
             (λ fresh last calls. created_enters (pattern_of named) name (taken (pattern_of named) name)
             (state.phases (pattern_of named) name) types steps node agreed_on last fresh calls)
-            (λ fresh last calls kind life other nodes is. subst (λ (a : Agreement). FitsHere payload user_header a.settings)
+            (λ fresh last calls kind life other nodes is. subst (λ (a : Agreement). FitsHere terms.payload terms.user_header a.settings)
             (sym (created_agreed types (pattern_of named) steps (Own node) agreed_on
             (record { phase = state.phases (pattern_of named) name; accesses = 0 }) last fresh calls life other nodes is))
             (fits_so named))
             stands.factories.numbers
-            (stands_entered payload user_header choices degrades decides reader_degrades names own (pattern_of named) name asked taken
-            naming order
+            (stands_entered terms.payload terms.user_header choices terms.degrades terms.decides terms.reader_degrades names own
+            (pattern_of named) name asked taken naming order
             node old new state stands ready.rise ready.factories)
             roomier same same_made opens.mid.table
             (went-keeps opens.negotiated.negotiated.done.made (record { table = old.hub.table; lists = lists }) opens.mid
@@ -198,19 +191,20 @@ module _ (payload user_header : Detail) (variant : TypeVariant) where
     -- ---- the reply
 
     abbrev Numbered : Option (Result ℕ Refusal) → Bool → Type 0
-    Numbered made is_there = CreatesNumbered is_there payload user_header types (record { node = node; name = name; options = named })
-        attributes steps old.factories.made old.hub made new.factories.made new.hub
+    Numbered made is_there = CreatesNumbered is_there terms.payload terms.user_header types (record
+        { node = node; name = name; options = named }) attributes steps old.factories.made old.hub made new.factories.made new.hub
 
     module _ (roomier : FactoryTable) (same : SameNumbers old.factories.made roomier) (same_made : new.made ≡ old.made)
         (result : Result ℕ Refusal) where
       abbrev GetsBy : {E : Type 0} → (E → Refusal) → (CreateFailure → E) → List (List TableStep) → ServiceOptions → Type 0
       GetsBy told error lists it = GetsNumber (pattern_of it) told
-          (CreatesAgreed payload user_header error (hash_of name it) node (agreed_of name it types attributes) lists) roomier old.hub
-          result
+          (CreatesAgreed terms.payload terms.user_header error (hash_of name it) node (agreed_of name it types attributes) lists) roomier
+          old.hub result
           new.factories.made new.hub
 
       by_options : (it : ServiceOptions) → it ≡ named → (lists : List (List TableStep)) → AreMade types name steps lists
-          → CreatesAs it payload user_header types node name attributes lists roomier old.hub result new.factories.made new.hub
+          → CreatesAs it terms.payload terms.user_header types node name attributes lists roomier old.hub result new.factories.made
+          new.hub
           → Replied (factory_reply (Some result))
       by_options (options.PublishSubscribe one) is lists listed creates =
           created_so publish_subscribe.create_error refusal.PublishSubscribeCreate
@@ -230,25 +224,23 @@ module _ (payload user_header : Detail) (variant : TypeVariant) where
 
     by_prepared : (prepared : Result (List (List TableStep)) AllocError) (roomier : FactoryTable) (result : Result ℕ Refusal)
         → new.made ≡ old.made → Prepares name types steps old.factories.made prepared roomier
-        → CreatesPrepared prepared payload user_header types (record { node = node; name = name; options = named }) attributes roomier
-        old.hub result new.factories.made new.hub
+        → CreatesPrepared prepared terms.payload terms.user_header types (record { node = node; name = name; options = named }) attributes
+        roomier old.hub result new.factories.made new.hub
         → Replied (factory_reply (Some result))
     by_prepared (Err lacking) roomier result same_made prepares creates =
-        lacking_answered payload user_header choices degrades decides reader_degrades names own (pattern_of named) name asked taken naming
-        order
+        lacking_answered terms.payload terms.user_header choices terms.degrades terms.decides terms.reader_degrades names own
+        (pattern_of named) name asked taken naming order
         node old new state stands Calls (create_refusal named) (λ is_new. uncreated.OutOfMemory) roomier result prepares.0 same_made
         (subst (λ (why : Refusal). IsRefusedWith why roomier old.hub result new.factories.made new.hub) (lacking_is named) creates)
     by_prepared (Ok lists) roomier result same_made prepares creates =
         by_options roomier prepares.0 same_made result named refl lists (prepares.1, prepares.3) creates
 
     abbrev Followed : Reply T → Type 0
-    Followed answer = IsFollowed payload user_header types choices is_default_header fixed degrades decides fixed_reader reader_degrades
-        names (command.Create node name named attributes steps) old new state answer
+    Followed answer = IsFollowed terms_so choices names (command.Create node name named attributes steps) old new state answer
 
     abbrev StepsTo : Reply T → Type 0
-    StepsTo answer = hub.Step payload user_header types choices.is_default is_default_header fixed degrades decides fixed_reader
-        reader_degrades
-        (command.Create node name named attributes steps) old (Ok answer) new
+    StepsTo answer = hub.Step (record terms_so { is_default = choices.is_default }) (command.Create node name named attributes steps) old
+        (Ok answer) new
 
     -- where the first look finds the service the machine refuses, too
     standing_so : (failure : CreateFailure) → failure ≡ uncreated.AlreadyExists
@@ -275,15 +267,15 @@ module _ (payload user_header : Detail) (variant : TypeVariant) where
               sym (same_phase (pattern_of named) name state),
             ),
           );
-          stands_then = stands_still payload user_header types choices is_default_header fixed degrades decides fixed_reader
-              reader_degrades names taken naming order old new state stands still same same_made;
+          stands_then = stands_still terms_so choices names taken naming order old new state stands still same same_made;
         }
 
     -- where it isn't refused first, the machine goes on as the call does
     pub creation_followed : is_node node old.hub.nodes ≡ true → IsUncreated (settings_of types named) None
         → (prepared : Result (List (List TableStep)) AllocError) (roomier : FactoryTable) (result : Result ℕ Refusal)
         → new.made ≡ old.made → Prepares name types steps old.factories.made prepared roomier
-        → CreatesPrepared prepared payload user_header types (record { node = node; name = name; options = named }) attributes roomier
+        → CreatesPrepared prepared terms.payload terms.user_header types (record { node = node; name = name; options = named }) attributes
+        roomier
         old.hub result new.factories.made new.hub
         → Followed (factory_reply (Some result))
     creation_followed is fits prepared roomier result same_made prepares creates =
@@ -313,9 +305,7 @@ module _ (payload user_header : Detail) (variant : TypeVariant) where
             replied ∙ ap factory_reply made_is ∙ ap (λ (why : Refusal). factory_reply {T = T} (Some (Err why))) (refusal_is named failure),
             refl,
           ));
-      stands = stands_still payload user_header types choices is_default_header fixed degrades decides fixed_reader reader_degrades
-          names
-          taken naming order old new state stands still same same_made;
+      stands = stands_still terms_so choices names taken naming order old new state stands still same same_made;
     }
     by_node true is made (Some failure, inr (fits, finds, told), (made_is, same, still)) same_made answer replied does =
         let it = standing_so failure told finds fits still same same_made in
@@ -339,8 +329,8 @@ module _ (payload user_header : Detail) (variant : TypeVariant) where
         (creation_followed is fits prepared roomier result same_made prepares creates)
     by_node false is made skipped same_made answer replied does =
         let is_skipped : answer ≡ reply.Skipped = replied ∙ ap factory_reply skipped.0 in
-        let it = skipped_matches payload user_header types choices is_default_header fixed degrades decides fixed_reader
-        reader_degrades names (command.Create node name named attributes steps) taken naming order old new state tt stands
+        let it = skipped_matches terms_so choices names (command.Create node name named attributes steps) taken naming order old new state
+        tt stands
         (subst StepsTo is_skipped does) in
         record {
           taken = taken;
@@ -356,13 +346,6 @@ module _ (payload user_header : Detail) (variant : TypeVariant) where
     followed answer (made, numbered, same_made, replied) =
         by_node (is_node node old.hub.nodes) refl made numbered same_made answer replied (made, numbered, same_made, replied)
 
-  pub create_matches : {T U B D : Type 0} (choices : Choices T) (is_default_header : U → Type 0)
-      (fixed : BackpressureStrategy → Option BackpressureAction → DegradationAction → B)
-      (degrades : B → DegradationCause → DegradationInfo → DegradationAction → Type 0)
-      (decides : B → BackpressureInfo → BackpressureDecision → Type 0) (fixed_reader : DegradationAction → D)
-      (reader_degrades : D → DegradationCause → DegradationInfo → DegradationAction → Type 0)
-      → CreateMatches payload user_header types choices is_default_header fixed degrades decides fixed_reader reader_degrades
-  create_matches choices is_default_header fixed degrades decides fixed_reader reader_degrades names node name named attributes steps
-      asked own taken naming order old new state answer ready stands does =
-      followed choices is_default_header fixed degrades decides fixed_reader reader_degrades names node name named attributes steps
-      asked taken naming order old new state own ready stands answer does
+  pub create_matches : (choices : Choices T) → CreateMatches terms_so choices
+  create_matches choices names node name named attributes steps asked own taken naming order old new state answer ready stands does =
+      followed choices names node name named attributes steps asked taken naming order old new state own ready stands answer does

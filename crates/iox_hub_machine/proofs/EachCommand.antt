@@ -1,25 +1,15 @@
 -- Each command is followed: the laws of all commands together.
-use Rattle.std.proofs.Common.{ℕ, List, Option, Ok, refl, arith}
-use Rattle.iox_command.specs.DomainValues.declared.backpressure.BackpressureAction.{BackpressureAction}
-use Rattle.iox_command.specs.DomainValues.declared.backpressure.BackpressureDecision.{BackpressureDecision}
-use Rattle.iox_command.specs.DomainValues.declared.backpressure.BackpressureInfo.{BackpressureInfo}
-use Rattle.iox_command.specs.DomainValues.declared.backpressure_strategy.BackpressureStrategy.{BackpressureStrategy}
-use Rattle.iox_command.specs.DomainValues.declared.degradation.DegradationAction.{DegradationAction}
-use Rattle.iox_command.specs.DomainValues.declared.degradation.DegradationCause.{DegradationCause}
-use Rattle.iox_command.specs.DomainValues.declared.degradation.DegradationInfo.{DegradationInfo}
-use Rattle.iox_command.specs.NegotiateBase.DescribeBase.Detail.{Detail}
-use Rattle.iox_command.specs.NegotiateBase.DescribeBase.declared.message_type.MessageTypeDetails.{MessageTypeDetails}
+use Rattle.std.proofs.Common.{ℕ, List, Ok, refl, arith}
 use Rattle.iox_command.specs.NegotiateBase.DescribeBase.declared.pattern.MessagingPattern.{MessagingPattern}
-use Rattle.iox_command.specs.NegotiateBase.DescribeBase.declared.type_detail.TypeVariant.{TypeVariant}
 use Rattle.iox_command.specs.declared.command.Command.{Command}
 use Rattle.iox_command.specs.declared.command.Command.TheVariants as command
 use Rattle.iox_command.specs.declared.port.PortNumber.TheVariants as port
 use Rattle.iox_command.specs.declared.reply.Reply.{Reply}
 use Rattle.iox_domain.specs.declared.ports.service_ports.ServicePorts.{ServicePorts}
 use Rattle.iox_domain_machine.specs.Naming.{Naming}
-use Rattle.iox_domain.specs.Fitting.{asked_types}
 use Rattle.iox_hub_commands.specs.CommandSteps as hub
 use Rattle.iox_hub_commands.specs.declared.numbered_hub.NumberedHub.{NumberedHub}
+use Rattle.iox_hub_commands.specs.Terms.{Terms}
 use Rattle.iox_hub_machine.proofs.Lifted.{lifted}
 use Rattle.iox_hub_machine.proofs.Running.{MayBeAsked}
 use Rattle.iox_hub_machine.proofs.RunsOn.{can_count, each_once}
@@ -42,62 +32,45 @@ use Rattle.iox_machine.specs.Choices.{Choices}
 use Rattle.iox_machine.specs.State.{State}
 use Rattle.iox_negotiate_machine.specs.Laws.{HaveOwnHashes}
 
-module _ {T U B D : Type 0} (payload user_header : Detail) (variant : TypeVariant) (choices : Choices T)
-    (is_default_header : U → Type 0)
-    (fixed : BackpressureStrategy → Option BackpressureAction → DegradationAction → B)
-    (degrades : B → DegradationCause → DegradationInfo → DegradationAction → Type 0)
-    (decides : B → BackpressureInfo → BackpressureDecision → Type 0)
-    (fixed_reader : DegradationAction → D)
-    (reader_degrades : D → DegradationCause → DegradationInfo → DegradationAction → Type 0) where
-  -- the types of the messages
-  abbrev types : MessageTypeDetails
-  types = asked_types variant payload user_header
-
+module _ {T U B D : Type 0} (terms : Terms T U B D) (choices : Choices T) where
   -- The laws of the commands.
   pub record CommandLaws : Type 0 where
-    pub node : NodeMatches payload user_header types choices is_default_header fixed degrades decides fixed_reader reader_degrades
-    pub create : CreateMatches payload user_header types choices is_default_header fixed degrades decides fixed_reader reader_degrades
-    pub opening : OpeningMatches payload user_header types choices is_default_header fixed degrades decides fixed_reader reader_degrades
-    pub either : OpeningOrCreatingMatches payload user_header types choices is_default_header fixed degrades decides fixed_reader
-        reader_degrades
-    pub foreign : ForeignMatches payload user_header types choices is_default_header fixed degrades decides fixed_reader reader_degrades
-    pub close : ClosingMatches payload user_header types choices is_default_header fixed degrades decides fixed_reader reader_degrades
-    pub publisher : PublisherComingIsFollowed payload user_header types choices is_default_header fixed degrades decides fixed_reader
-        reader_degrades
-    pub subscriber : SubscriberComingIsFollowed payload user_header types choices is_default_header fixed degrades decides fixed_reader
-        reader_degrades
-    pub loan : LendIsSimulated choices is_default_header degrades decides reader_degrades
-    pub loan_uninit : LendUninitIsSimulated choices is_default_header degrades decides reader_degrades
-    pub set : SetIsSimulated choices is_default_header degrades decides reader_degrades
-    pub fill : FillIsSimulated choices is_default_header degrades decides reader_degrades
-    pub drop : DropIsSimulated choices is_default_header degrades decides reader_degrades
-    pub send : SendIsSimulated choices is_default_header degrades decides reader_degrades
-    pub put : PutIsSimulated choices is_default_header degrades decides reader_degrades
-    pub retry : RetryIsSimulated choices is_default_header degrades decides reader_degrades
-    pub give_up : GiveUpIsSimulated choices is_default_header degrades decides reader_degrades
-    pub receive : ReceiveIsSimulated choices is_default_header degrades decides reader_degrades
-    pub read : ReadIsSimulated choices is_default_header degrades decides reader_degrades
-    pub sequence : SequenceIsSimulated choices is_default_header degrades decides reader_degrades
-    pub release : ReleaseIsSimulated choices is_default_header degrades decides reader_degrades
-    pub update_publisher : PublisherUpdateIsSimulated choices is_default_header degrades decides reader_degrades
-    pub update_subscriber : SubscriberUpdateIsSimulated choices is_default_header degrades decides reader_degrades
-    pub publisher_leaves : PublisherLeaveIsSimulated choices is_default_header degrades decides reader_degrades
-    pub subscriber_leaves : SubscriberLeaveIsSimulated choices is_default_header degrades decides reader_degrades
-    pub has : HasIsSimulated choices is_default_header degrades decides reader_degrades
+    pub node : NodeMatches terms choices
+    pub create : CreateMatches terms choices
+    pub opening : OpeningMatches terms choices
+    pub either : OpeningOrCreatingMatches terms choices
+    pub foreign : ForeignMatches terms choices
+    pub close : ClosingMatches terms choices
+    pub publisher : PublisherComingIsFollowed terms choices
+    pub subscriber : SubscriberComingIsFollowed terms choices
+    pub loan : LendIsSimulated choices terms.is_default_header terms.degrades terms.decides terms.reader_degrades
+    pub loan_uninit : LendUninitIsSimulated choices terms.is_default_header terms.degrades terms.decides terms.reader_degrades
+    pub set : SetIsSimulated choices terms.is_default_header terms.degrades terms.decides terms.reader_degrades
+    pub fill : FillIsSimulated choices terms.is_default_header terms.degrades terms.decides terms.reader_degrades
+    pub drop : DropIsSimulated choices terms.is_default_header terms.degrades terms.decides terms.reader_degrades
+    pub send : SendIsSimulated choices terms.is_default_header terms.degrades terms.decides terms.reader_degrades
+    pub put : PutIsSimulated choices terms.is_default_header terms.degrades terms.decides terms.reader_degrades
+    pub retry : RetryIsSimulated choices terms.is_default_header terms.degrades terms.decides terms.reader_degrades
+    pub give_up : GiveUpIsSimulated choices terms.is_default_header terms.degrades terms.decides terms.reader_degrades
+    pub receive : ReceiveIsSimulated choices terms.is_default_header terms.degrades terms.decides terms.reader_degrades
+    pub read : ReadIsSimulated choices terms.is_default_header terms.degrades terms.decides terms.reader_degrades
+    pub sequence : SequenceIsSimulated choices terms.is_default_header terms.degrades terms.decides terms.reader_degrades
+    pub release : ReleaseIsSimulated choices terms.is_default_header terms.degrades terms.decides terms.reader_degrades
+    pub update_publisher : PublisherUpdateIsSimulated choices terms.is_default_header terms.degrades terms.decides terms.reader_degrades
+    pub update_subscriber : SubscriberUpdateIsSimulated choices terms.is_default_header terms.degrades terms.decides terms.reader_degrades
+    pub publisher_leaves : PublisherLeaveIsSimulated choices terms.is_default_header terms.degrades terms.decides terms.reader_degrades
+    pub subscriber_leaves : SubscriberLeaveIsSimulated choices terms.is_default_header terms.degrades terms.decides terms.reader_degrades
+    pub has : HasIsSimulated choices terms.is_default_header terms.degrades terms.decides terms.reader_degrades
 
   module _ (laws : CommandLaws) (names : List (List ℕ))
       (taken : MessagingPattern → List ℕ → List ℕ) (naming : ℕ → Naming) (order : List (ℕ × ServicePorts T U))
       (old new : NumberedHub T U B D) (state : State T) (answer : Reply T) (own : HaveOwnHashes names)
-      (stands : HubStandsFor choices degrades decides reader_degrades names taken naming order old state) where
+      (stands : HubStandsFor choices terms.degrades terms.decides terms.reader_degrades names taken naming order old state) where
     abbrev Did : Command T → Type 0
-    Did asked = hub.Step payload user_header types choices.is_default is_default_header fixed degrades decides fixed_reader
-        reader_degrades asked
-        old
-        (Ok answer) new
+    Did asked = hub.Step (record terms { is_default = choices.is_default }) asked old (Ok answer) new
 
     abbrev Followed : Command T → Type 0
-    Followed asked = IsFollowed payload user_header types choices is_default_header fixed degrades decides fixed_reader reader_degrades
-        names asked old new state answer
+    Followed asked = IsFollowed terms choices names asked old new state answer
 
     abbrev May : ℕ → Type 0
     May steps = MayBeAsked steps old
@@ -114,8 +87,9 @@ module _ {T U B D : Type 0} (payload user_header : Detail) (variant : TypeVarian
     }
 
     each : (asked : Command T) → AsksAmong names asked
-        → ComesAsChosen types choices degrades decides reader_degrades asked fixed fixed_reader old answer → May (steps_named asked)
-        → IsCome types choices old.hub.expired_connection_buffer state → Did asked → Followed asked
+        → ComesAsChosen terms.types choices terms.degrades terms.decides terms.reader_degrades asked terms.fixed terms.fixed_reader old
+        answer → May (steps_named asked)
+        → IsCome terms.types choices old.hub.expired_connection_buffer state → Did asked → Followed asked
     each command.Node asks chosen (most, on, few) came step =
         let nodes = on.nodes in
         laws.node names taken naming order old new state answer (omega (arith, few, nodes)) stands step
@@ -151,79 +125,69 @@ module _ {T U B D : Type 0} (payload user_header : Detail) (variant : TypeVarian
     each (command.Subscriber factory options) asks chosen may came step =
         laws.subscriber names factory options taken naming order old new state answer (may_come may, chosen) stands step
     each (command.Loan publisher elements) asks chosen (most, on, few) came step =
-        lifted payload user_header types choices is_default_header fixed degrades decides fixed_reader reader_degrades names
-        (command.Loan publisher elements) refl taken naming order old new state answer
+        lifted terms choices names (command.Loan publisher elements) refl taken naming order old new state answer
         (laws.loan publisher elements old on.grown on.rise) stands step
     each (command.LoanUninit publisher elements) asks chosen (most, on, few) came step =
-        lifted payload user_header types choices is_default_header fixed degrades decides fixed_reader reader_degrades names
-        (command.LoanUninit publisher elements) refl taken naming order old new state answer
+        lifted terms choices names (command.LoanUninit publisher elements) refl taken naming order old new state answer
         (laws.loan_uninit publisher elements old on.grown on.rise) stands step
     each (command.Set loan place value) asks chosen may came step =
-        lifted payload user_header types choices is_default_header fixed degrades decides fixed_reader reader_degrades names
-        (command.Set loan place value) refl taken naming order old new state answer (laws.set loan place value old) stands step
+        lifted terms choices names (command.Set loan place value) refl taken naming order old new state answer
+        (laws.set loan place value old) stands step
     each (command.Fill loan values) asks chosen may came step =
-        lifted payload user_header types choices is_default_header fixed degrades decides fixed_reader reader_degrades names
-        (command.Fill loan values) refl taken naming order old new state answer (laws.fill loan values old) stands step
+        lifted terms choices names (command.Fill loan values) refl taken naming order old new state answer (laws.fill loan values old)
+        stands step
     each (command.Drop loan) asks chosen (most, on, few) came step =
-        lifted payload user_header types choices is_default_header fixed degrades decides fixed_reader reader_degrades names
-        (command.Drop loan) refl taken naming order old new state answer (laws.drop loan old on.grown) stands step
+        lifted terms choices names (command.Drop loan) refl taken naming order old new state answer (laws.drop loan old on.grown) stands
+        step
     each (command.Send loan) asks chosen (most, on, few) came step =
-        lifted payload user_header types choices is_default_header fixed degrades decides fixed_reader reader_degrades names
-        (command.Send loan) refl taken naming order old new state answer (laws.send loan old on.grown) stands step
+        lifted terms choices names (command.Send loan) refl taken naming order old new state answer (laws.send loan old on.grown) stands
+        step
     each (command.Put publisher values) asks chosen (most, on, few) came step =
-        lifted payload user_header types choices is_default_header fixed degrades decides fixed_reader reader_degrades names
-        (command.Put publisher values) refl taken naming order old new state answer (laws.put publisher values old on.grown) stands step
+        lifted terms choices names (command.Put publisher values) refl taken naming order old new state answer
+        (laws.put publisher values old on.grown) stands step
     each (command.Retry publisher nanoseconds) asks chosen (most, on, few) came step =
-        lifted payload user_header types choices is_default_header fixed degrades decides fixed_reader reader_degrades names
-        (command.Retry publisher nanoseconds) refl taken naming order old new state answer
+        lifted terms choices names (command.Retry publisher nanoseconds) refl taken naming order old new state answer
         (laws.retry publisher nanoseconds old on.grown) stands step
     each (command.GiveUp publisher) asks chosen may came step =
-        lifted payload user_header types choices is_default_header fixed degrades decides fixed_reader reader_degrades names
-        (command.GiveUp publisher) refl taken naming order old new state answer (laws.give_up publisher old) stands step
+        lifted terms choices names (command.GiveUp publisher) refl taken naming order old new state answer (laws.give_up publisher old)
+        stands step
     each (command.Receive subscriber) asks chosen (most, on, few) came step =
         let numbers = on.numbers in
-        lifted payload user_header types choices is_default_header fixed degrades decides fixed_reader reader_degrades names
-        (command.Receive subscriber) refl taken naming order old new state answer
+        lifted terms choices names (command.Receive subscriber) refl taken naming order old new state answer
         (laws.receive subscriber old on.grown on.rise (omega (arith, few, numbers))) stands step
     each (command.Read sample) asks chosen may came step =
-        lifted payload user_header types choices is_default_header fixed degrades decides fixed_reader reader_degrades names
-        (command.Read sample) refl taken naming order old new state answer (laws.read sample old) stands step
+        lifted terms choices names (command.Read sample) refl taken naming order old new state answer (laws.read sample old) stands step
     each (command.Sequence sample) asks chosen may came step =
-        lifted payload user_header types choices is_default_header fixed degrades decides fixed_reader reader_degrades names
-        (command.Sequence sample) refl taken naming order old new state answer (laws.sequence sample old) stands step
+        lifted terms choices names (command.Sequence sample) refl taken naming order old new state answer (laws.sequence sample old)
+        stands step
     each (command.Release sample) asks chosen (most, on, few) came step =
-        lifted payload user_header types choices is_default_header fixed degrades decides fixed_reader reader_degrades names
-        (command.Release sample) refl taken naming order old new state answer (laws.release sample old on.grown) stands step
+        lifted terms choices names (command.Release sample) refl taken naming order old new state answer
+        (laws.release sample old on.grown) stands step
     each (command.Update (port.Publisher number)) asks chosen (most, on, few) came step =
-        lifted payload user_header types choices is_default_header fixed degrades decides fixed_reader reader_degrades names
-        (command.Update (port.Publisher number)) refl taken naming order old new state answer
+        lifted terms choices names (command.Update (port.Publisher number)) refl taken naming order old new state answer
         (laws.update_publisher number old on.grown) stands step
     each (command.Update (port.Subscriber number)) asks chosen (most, on, few) came step =
-        lifted payload user_header types choices is_default_header fixed degrades decides fixed_reader reader_degrades names
-        (command.Update (port.Subscriber number)) refl taken naming order old new state answer
+        lifted terms choices names (command.Update (port.Subscriber number)) refl taken naming order old new state answer
         (laws.update_subscriber number old on.grown) stands step
     each (command.Leave (port.Publisher number)) asks chosen (most, on, few) came step =
-        lifted payload user_header types choices is_default_header fixed degrades decides fixed_reader reader_degrades names
-        (command.Leave (port.Publisher number)) refl taken naming order old new state answer
+        lifted terms choices names (command.Leave (port.Publisher number)) refl taken naming order old new state answer
         (laws.publisher_leaves number old on.grown on.rise (lists_change (most, on, few))) stands step
     each (command.Leave (port.Subscriber number)) asks chosen (most, on, few) came step =
-        lifted payload user_header types choices is_default_header fixed degrades decides fixed_reader reader_degrades names
-        (command.Leave (port.Subscriber number)) refl taken naming order old new state answer
+        lifted terms choices names (command.Leave (port.Subscriber number)) refl taken naming order old new state answer
         (laws.subscriber_leaves number old on.grown on.rise (lists_change (most, on, few))) stands step
     each (command.Has subscriber) asks chosen (most, on, few) came step =
-        lifted payload user_header types choices is_default_header fixed degrades decides fixed_reader reader_degrades names
-        (command.Has subscriber) refl taken naming order old new state answer (laws.has subscriber old on.grown) stands step
+        lifted terms choices names (command.Has subscriber) refl taken naming order old new state answer
+        (laws.has subscriber old on.grown) stands step
 
   pub each_followed : CommandLaws → (names : List (List ℕ)) (asked : Command T) (taken : MessagingPattern → List ℕ → List ℕ)
       (naming : ℕ → Naming) (order : List (ℕ × ServicePorts T U)) (old new : NumberedHub T U B D) (state : State T) (answer : Reply T)
       → HaveOwnHashes names → AsksAmong names asked
-      → ComesAsChosen types choices degrades decides reader_degrades asked fixed fixed_reader old answer
+      → ComesAsChosen terms.types choices terms.degrades terms.decides terms.reader_degrades asked terms.fixed terms.fixed_reader old
+      answer
       → MayBeAsked (steps_named asked) old
-      → IsCome types choices old.hub.expired_connection_buffer state
-      → HubStandsFor choices degrades decides reader_degrades names taken naming order old state
-      → hub.Step payload user_header types choices.is_default is_default_header fixed degrades decides fixed_reader reader_degrades asked
-      old (Ok answer) new
-      → IsFollowed payload user_header types choices is_default_header fixed degrades decides fixed_reader reader_degrades names asked
-      old new state answer
+      → IsCome terms.types choices old.hub.expired_connection_buffer state
+      → HubStandsFor choices terms.degrades terms.decides terms.reader_degrades names taken naming order old state
+      → hub.Step (record terms { is_default = choices.is_default }) asked old (Ok answer) new
+      → IsFollowed terms choices names asked old new state answer
   each_followed laws names asked taken naming order old new state answer own asks chosen may came stands step =
       each laws names taken naming order old new state answer own stands asked asks chosen may came step

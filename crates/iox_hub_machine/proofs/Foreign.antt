@@ -1,17 +1,14 @@
 -- Nodes outside the hub do steps: what the hub has stands.
 use Rattle.std.proofs.Common.{◌≡◌, ℕ, ◌+◌, ◌^◌, ◌<◌, Bool, true, false, cond, ◌&&◌, nat_lt, List, [], ◌∷◌, length, map, fold, take}
-use Rattle.std.proofs.Common.{Option, Result, Ok, Err, refl, sym, ap, subst, ◌∙◌, inl, inr, arith}
+use Rattle.std.proofs.Common.{Result, Ok, Err, refl, sym, ap, subst, ◌∙◌, inl, inr, arith}
 use Rattle.std.proofs.lemmas.Bool.{lt-ltb}
 use Rattle.std.specs.List.{AllByRecursion, IsAmong}
 use Rattle.std.specs.declared.alloc.AllocError.{AllocError}
-use Rattle.iox_command.specs.DomainValues.declared.backpressure.BackpressureAction.{BackpressureAction}
 use Rattle.iox_command.specs.DomainValues.declared.backpressure.BackpressureDecision.{BackpressureDecision}
 use Rattle.iox_command.specs.DomainValues.declared.backpressure.BackpressureInfo.{BackpressureInfo}
-use Rattle.iox_command.specs.DomainValues.declared.backpressure_strategy.BackpressureStrategy.{BackpressureStrategy}
 use Rattle.iox_command.specs.DomainValues.declared.degradation.DegradationAction.{DegradationAction}
 use Rattle.iox_command.specs.DomainValues.declared.degradation.DegradationCause.{DegradationCause}
 use Rattle.iox_command.specs.DomainValues.declared.degradation.DegradationInfo.{DegradationInfo}
-use Rattle.iox_command.specs.NegotiateBase.DescribeBase.Detail.{Detail}
 use Rattle.iox_command.specs.NegotiateBase.DescribeBase.Hash.{service_hash_of}
 use Rattle.iox_command.specs.NegotiateBase.DescribeBase.declared.message_type.MessageTypeDetails.{MessageTypeDetails}
 use Rattle.iox_command.specs.NegotiateBase.DescribeBase.declared.pattern.MessagingPattern.{MessagingPattern}
@@ -35,6 +32,7 @@ use Rattle.iox_hub_commands.specs.declared.services.made.MadeFactory.{MadeFactor
 use Rattle.iox_hub_machine.proofs.Meantime.{same_numbers, seats_stay, service_stays}
 use Rattle.iox_hub_machine.proofs.PortsStay.{ports_stay}
 use Rattle.iox_hub_commands.specs.Steps.{PublishesInForm}
+use Rattle.iox_hub_commands.specs.Terms.{Terms}
 use Rattle.iox_hub_machine.proofs.Formed.{all_formed}
 use Rattle.iox_hub_machine.proofs.SameSteps.{same_list}
 use Rattle.iox_hub_base.proofs.SameTable.{acts-keep}
@@ -148,62 +146,53 @@ some_steps : (steps : List ForeignStep) → (steps ≡ [] → ⊥) → nat_lt 0 
 some_steps [] some = absurd (some refl)
 some_steps (one ∷ steps) some = lt-ltb 0 (length (one ∷ steps)) (omega arith)
 
-module _ {T U B D : Type 0} (payload user_header : Detail) (types : MessageTypeDetails) (choices : Choices T)
-    (is_default_header : U → Type 0) (fixed : BackpressureStrategy → Option BackpressureAction → DegradationAction → B)
-    (degrades : B → DegradationCause → DegradationInfo → DegradationAction → Type 0)
-    (decides : B → BackpressureInfo → BackpressureDecision → Type 0) (fixed_reader : DegradationAction → D)
-    (reader_degrades : D → DegradationCause → DegradationInfo → DegradationAction → Type 0) where
+module _ {T U B D : Type 0} (terms : Terms T U B D) (choices : Choices T) where
   module _ (names : List (List ℕ)) (pattern : MessagingPattern) (name : List ℕ) (steps : List ForeignStep) (asked : IsAmong names name)
       (taken : MessagingPattern → List ℕ → List ℕ) (naming : ℕ → Naming)
       (order : List (ℕ × ServicePorts T U)) (old new : NumberedHub T U B D) (state : State T) (answer : Reply T) (own : HaveOwnHashes names)
       (room : old.hub.table.next + length steps < 2 ^ 64)
-      (stands : HubStandsFor choices degrades decides reader_degrades names taken naming order old state) where
+      (stands : HubStandsFor choices terms.degrades terms.decides terms.reader_degrades names taken naming order old state) where
     -- the machine after some of the steps
     abbrev after : List ForeignStep → State T
-    after some = after_steps names own types pattern name asked taken some state
+    after some = after_steps names own terms.types pattern name asked taken some state
 
     -- what is shown where some of the steps were done
     settled : (table : Contents) (some : List ForeignStep) → new ≡ record old { hub = record old.hub { table = table } }
         → table.id ≡ old.hub.table.id
         → (since : MessagingPattern → List ℕ → List ℕ) → GoOn taken since → TableStands names since table (after some)
-        → machine.Step types choices old.hub.expired_connection_buffer (command.Foreign pattern name steps) state answer (after some)
-        → IsFollowed payload user_header types choices is_default_header fixed degrades decides fixed_reader reader_degrades names
-        (command.Foreign pattern name steps) old new state answer
+        → machine.Step terms.types choices old.hub.expired_connection_buffer (command.Foreign pattern name steps) state answer
+        (after some)
+        → IsFollowed terms choices names (command.Foreign pattern name steps) old new state answer
     settled table some is id since goes_on stands_then step = record {
       taken = since;
       naming = naming;
       order = order;
       after = after some;
       step = step;
-      stands = subst (λ (hub : NumberedHub T U B D). HubStandsFor choices degrades decides reader_degrades names since naming order hub
-          (after some))
-          (sym is)
-          (hub_then names own types pattern name asked taken some state choices degrades decides reader_degrades naming order old table
-          stands id
-          since
-          goes_on stands_then);
+      stands = subst (λ (hub : NumberedHub T U B D). HubStandsFor choices terms.degrades terms.decides terms.reader_degrades names since
+          naming order hub (after some)) (sym is)
+          (hub_then names own terms.types pattern name asked taken some state choices terms.degrades terms.decides terms.reader_degrades
+          naming order old table stands id since goes_on stands_then);
     }
 
     acted_then : (happened : Result (Unit {0}) AllocError) → answer ≡ foreign_reply (told happened)
-        → AllByRecursion (HasStepForm types name) steps
-        → ActsAll (service_hash_of pattern name) (map (table_step_of types name) steps) old.hub.table happened new.hub.table
+        → AllByRecursion (HasStepForm terms.types name) steps
+        → ActsAll (service_hash_of pattern name) (map (table_step_of terms.types name) steps) old.hub.table happened new.hub.table
         → new ≡ record old { hub = record old.hub { table = new.hub.table } }
-        → IsFollowed payload user_header types choices is_default_header fixed degrades decides fixed_reader reader_degrades names
-        (command.Foreign pattern name steps) old new state answer
+        → IsFollowed terms choices names (command.Foreign pattern name steps) old new state answer
     acted_then (Ok done) replied form did is =
-        let all = steps-match T names types pattern name steps taken old.hub.table new.hub.table (Ok done) state own asked form room
+        let all = steps-match T names terms.types pattern name steps taken old.hub.table new.hub.table (Ok done) state own asked form room
         stands.table did in
         settled new.hub.table steps is (acts-keep _ _ old.hub.table new.hub.table (Ok done) did) all.0 all.1 all.2 (inl (replied, refl))
     acted_then (Err lacking) replied form did is =
-        let all = steps-match T names types pattern name steps taken old.hub.table new.hub.table (Err lacking) state own asked form room
-        stands.table did in
+        let all = steps-match T names terms.types pattern name steps taken old.hub.table new.hub.table (Err lacking) state own asked form
+        room stands.table did in
         settled new.hub.table (take all.2.0 steps) is (acts-keep _ _ old.hub.table new.hub.table (Err lacking) did) all.0 all.1 all.2.2
         (inr (all.2.0, lt-ltb _ _ all.2.1, (replied, refl)))
 
     -- where no memory was found for the list of steps none is done
     none_done : (steps ≡ [] → ⊥) → answer ≡ reply.Refused (refusal.Hub OutOfMemory) → new ≡ old
-        → IsFollowed payload user_header types choices is_default_header fixed degrades decides fixed_reader reader_degrades names
-        (command.Foreign pattern name steps) old new state answer
+        → IsFollowed terms choices names (command.Foreign pattern name steps) old new state answer
     none_done some replied is =
         settled old.hub.table [] is refl (later names own pattern name asked taken []) (goes-on names own pattern name asked taken [])
         (all-stand names own pattern name asked taken old.hub.table old.hub.table state stands.table
@@ -211,21 +200,16 @@ module _ {T U B D : Type 0} (payload user_header : Detail) (types : MessageTypeD
         (stands.table.phases pattern name asked))
         (inr (0, some_steps steps some, (replied, refl)))
 
-    pub followed : hub.Step payload user_header types choices.is_default is_default_header fixed degrades decides fixed_reader
-        reader_degrades
-        (command.Foreign pattern name steps) old (Ok answer) new
-        → IsFollowed payload user_header types choices is_default_header fixed degrades decides fixed_reader reader_degrades names
-        (command.Foreign pattern name steps) old new state answer
+    pub followed : hub.Step (record terms { is_default = choices.is_default }) (command.Foreign pattern name steps) old (Ok answer) new
+        → IsFollowed terms choices names (command.Foreign pattern name steps) old new state answer
     followed (acted, inl (((happened, did, is), same), forms), other, replied) =
         acted_then happened (replied ∙ ap foreign_reply is)
-        (all_formed types name steps (subst (AllByRecursion PublishesInForm) (same_list name types steps) forms))
+        (all_formed terms.types name steps (subst (AllByRecursion PublishesInForm) (same_list name terms.types steps) forms))
         (subst (λ (list : List TableStep). ActsAll (service_hash_of pattern name) list old.hub.table happened new.hub.table)
-        (same_list name types steps) did)
-        (other ∙ ap (λ (h : Hub T U B D). record old { hub = h }) same)
+        (same_list name terms.types steps) did) (other ∙ ap (λ (h : Hub T U B D). record old { hub = h }) same)
     followed (acted, inr (some, is, same), other, replied) =
         none_done some (replied ∙ ap foreign_reply is) (other ∙ ap (λ (h : Hub T U B D). record old { hub = h }) same)
 
-  pub foreign_matches : ForeignMatches payload user_header types choices is_default_header fixed degrades decides fixed_reader
-      reader_degrades
+  pub foreign_matches : ForeignMatches terms choices
   foreign_matches names pattern name steps asked own taken naming order old new state answer room stands does =
       followed names pattern name steps asked taken naming order old new state answer own room stands does

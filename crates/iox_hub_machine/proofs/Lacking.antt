@@ -5,16 +5,7 @@ use Rattle.std.proofs.Handle.{handle}
 use Rattle.std.specs.Global.{Vec}
 use Rattle.std.specs.declared.alloc.AllocError.{AllocError}
 use denote.RawPtr.{null_ptr}
-use Rattle.iox_command.specs.DomainValues.declared.backpressure.BackpressureAction.{BackpressureAction}
-use Rattle.iox_command.specs.DomainValues.declared.backpressure.BackpressureDecision.{BackpressureDecision}
-use Rattle.iox_command.specs.DomainValues.declared.backpressure.BackpressureInfo.{BackpressureInfo}
-use Rattle.iox_command.specs.DomainValues.declared.backpressure_strategy.BackpressureStrategy.{BackpressureStrategy}
-use Rattle.iox_command.specs.DomainValues.declared.degradation.DegradationAction.{DegradationAction}
-use Rattle.iox_command.specs.DomainValues.declared.degradation.DegradationCause.{DegradationCause}
-use Rattle.iox_command.specs.DomainValues.declared.degradation.DegradationInfo.{DegradationInfo}
 use Rattle.iox_command.specs.DomainValues.declared.port_error.ReceiveError.{ReceiveError}
-use Rattle.iox_command.specs.NegotiateBase.DescribeBase.Detail.{Detail}
-use Rattle.iox_command.specs.NegotiateBase.DescribeBase.declared.message_type.MessageTypeDetails.{MessageTypeDetails}
 use Rattle.iox_command.specs.declared.command.Command.{Command}
 use Rattle.iox_command.specs.declared.command.Command.TheVariants as command
 use Rattle.iox_command.specs.declared.reply.Reply.{Reply}
@@ -31,10 +22,10 @@ use Rattle.iox_hub_commands.specs.Receiving.{IsArrival, IsTold}
 use Rattle.iox_hub_commands.specs.Tables.{IsFull}
 use Rattle.iox_hub_commands.specs.declared.numbered_hub.NumberedHub.{NumberedHub}
 use Rattle.iox_hub_commands.specs.declared.ports.made.Made.{Made}
+use Rattle.iox_hub_commands.specs.Terms.{Terms}
 use Rattle.iox_delivery.specs.declared.port_id.PortId.{PortId}
 use Rattle.iox_domain.specs.DomainPorts.declared.attached.Taken.{Taken}
 use Rattle.iox_hub_machine.specs.GoingOnLaws.{NewestFits}
-use Rattle.iox_machine.specs.Choices.{Choices}
 
 -- a vector of values, where they fit
 abbrev pub vector_of : {T : Type 0} (values : List T) → length values < 2 ^ 63 → Vec T
@@ -75,18 +66,9 @@ is_newest (Some port) (Some (Ok (Some taken))) roomier after sample (is, same) =
         → sample ≡ roomier.samples.next
     first_of e = cc
 
-module _ {T U B D : Type 0} (payload user_header : Detail) (types : MessageTypeDetails) (choices : Choices T)
-    (is_default_header : U → Type 0)
-    (fixed : BackpressureStrategy → Option BackpressureAction → DegradationAction → B)
-    (degrades : B → DegradationCause → DegradationInfo → DegradationAction → Type 0)
-    (decides : B → BackpressureInfo → BackpressureDecision → Type 0)
-    (fixed_reader : DegradationAction → D)
-    (reader_degrades : D → DegradationCause → DegradationInfo → DegradationAction → Type 0) (old new : NumberedHub T U B D)
-    (lacking : AllocError) where
+module _ {T U B D : Type 0} (terms : Terms T U B D) (old new : NumberedHub T U B D) (lacking : AllocError) where
   abbrev Steps : Command T → Result (Reply T) AllocError → Type 0
-  Steps asked answer = hub.Step payload user_header types choices.is_default is_default_header fixed degrades decides fixed_reader
-      reader_degrades
-      asked old answer new
+  Steps asked answer = hub.Step terms asked old answer new
 
   -- nothing changed but what is pledged
   abbrev pub OnlyPledges : Type 0
@@ -106,8 +88,8 @@ module _ {T U B D : Type 0} (payload user_header : Detail) (types : MessageTypeD
 
     abbrev Grows : Result (Option (Result (Option ℕ) ReceiveError)) AllocError → Type 0
     Grows received = GrowsFirst (IsFull old.made.samples)
-        (ReceivesNumbered hub_ports with_hub_ports (subscriber_may_degrade reader_degrades) (value_at old.made.subscribers number)) old.made
-        old.hub received new.made new.hub
+        (ReceivesNumbered hub_ports with_hub_ports (subscriber_may_degrade terms.reader_degrades) (value_at old.made.subscribers number))
+        old.made old.hub received new.made new.hub
 
     -- no memory was found for the values of a sample that came
     came : (sample : ℕ) → Grows (Ok (Some (Ok (Some sample)))) → sample ≡ new.made.samples.next - 1 → (found : Option (List T))

@@ -3,15 +3,11 @@ use Rattle.std.proofs.Common.{◌≡◌, ℕ, ◌+◌, Bool, true, false, cond, 
 use Rattle.std.proofs.Common.{inl, inr}
 use Rattle.std.specs.Map.{keys_of}
 use Rattle.std.specs.Prelude.{find, is_some}
-use Rattle.iox_command.specs.DomainValues.declared.backpressure.BackpressureAction.{BackpressureAction}
 use Rattle.iox_command.specs.DomainValues.declared.backpressure.BackpressureDecision.{BackpressureDecision}
 use Rattle.iox_command.specs.DomainValues.declared.backpressure.BackpressureInfo.{BackpressureInfo}
-use Rattle.iox_command.specs.DomainValues.declared.backpressure_strategy.BackpressureStrategy.{BackpressureStrategy}
 use Rattle.iox_command.specs.DomainValues.declared.degradation.DegradationAction.{DegradationAction}
 use Rattle.iox_command.specs.DomainValues.declared.degradation.DegradationCause.{DegradationCause}
 use Rattle.iox_command.specs.DomainValues.declared.degradation.DegradationInfo.{DegradationInfo}
-use Rattle.iox_command.specs.NegotiateBase.DescribeBase.Detail.{Detail}
-use Rattle.iox_command.specs.NegotiateBase.DescribeBase.declared.message_type.MessageTypeDetails.{MessageTypeDetails}
 use Rattle.iox_command.specs.NegotiateBase.DescribeBase.declared.pattern.MessagingPattern.{MessagingPattern}
 use Rattle.iox_command.specs.NegotiateBase.DescribeSettings.declared.static_config.Settings.TheVariants as settings
 use Rattle.iox_command.specs.NegotiateBase.DescribeSettings.declared.static_config.publish_subscribe.StaticConfig.{StaticConfig}
@@ -33,6 +29,7 @@ use Rattle.iox_hub_commands.specs.CommandSteps as hub
 use Rattle.iox_hub_commands.specs.ServicesTables.{FactoryTable}
 use Rattle.iox_hub_commands.specs.declared.numbered_hub.NumberedHub.{NumberedHub}
 use Rattle.iox_hub_commands.specs.declared.services.factories.Factories.{Factories}
+use Rattle.iox_hub_commands.specs.Terms.{Terms}
 use Rattle.iox_hub_machine.proofs.PortsRest.{port_leaves}
 use Rattle.iox_hub_machine.proofs.Resting.{Rests, shown}
 use Rattle.iox_hub_machine.specs.Laws.{IsSimulatedFrom, answered_with}
@@ -203,35 +200,27 @@ module _ {T U B D : Type 0} (choices : Choices T) (degrades : B → DegradationC
         ports = ports;
       }
 
-module _ {T U B D : Type 0} (payload user_header : Detail) (types : MessageTypeDetails) (choices : Choices T)
-    (is_default_header : U → Type 0) (fixed : BackpressureStrategy → Option BackpressureAction → DegradationAction → B)
-    (degrades : B → DegradationCause → DegradationInfo → DegradationAction → Type 0)
-    (decides : B → BackpressureInfo → BackpressureDecision → Type 0) (fixed_reader : DegradationAction → D)
-    (reader_degrades : D → DegradationCause → DegradationInfo → DegradationAction → Type 0) where
+module _ {T U B D : Type 0} (terms : Terms T U B D) (choices : Choices T) where
   pub lifted : (names : List (List ℕ)) (asked : Command T) → is_of_ports asked ≡ true
       → (taken : MessagingPattern → List ℕ → List ℕ) (naming : ℕ → Naming) (order : List (ℕ × ServicePorts T U))
       (old new : NumberedHub T U B D) (state : State T) (answer : Reply T)
-      → IsSimulatedFrom choices is_default_header degrades decides reader_degrades old asked
-      → HubStandsFor choices degrades decides reader_degrades names taken naming order old state
-      → hub.Step payload user_header types choices.is_default is_default_header fixed degrades decides fixed_reader reader_degrades asked
-      old
-      (Ok answer) new
-      → IsFollowed payload user_header types choices is_default_header fixed degrades decides fixed_reader reader_degrades names asked
-      old new state answer
+      → IsSimulatedFrom choices terms.is_default_header terms.degrades terms.decides terms.reader_degrades old asked
+      → HubStandsFor choices terms.degrades terms.decides terms.reader_degrades names taken naming order old state
+      → hub.Step (record terms { is_default = choices.is_default }) asked old (Ok answer) new
+      → IsFollowed terms choices names asked old new state answer
   lifted names asked is taken naming order old new state answer simulated stands step =
-      let (naming_then, order_then, services, keys, did, ports) = simulated payload user_header types fixed fixed_reader naming order new
-      state answer stands.ports step in
-      let leaves = port_leaves payload user_header types choices is_default_header fixed degrades decides fixed_reader reader_degrades
-      old new answer asked is step in
+      let (naming_then, order_then, services, keys, did, ports) = simulated terms.payload terms.user_header terms.types terms.fixed
+      terms.fixed_reader naming order new state answer stands.ports step in
+      let leaves = port_leaves (record terms { is_default = choices.is_default }) old new answer asked is step in
       let after : State T = answered_with answer services state in record {
         taken = taken;
         naming = naming_then;
         order = order_then;
         after = after;
         step = did;
-        stands = rested choices degrades decides reader_degrades names taken naming naming_then order order_then old new state
-            (counted answer state.made) services stands leaves.hub leaves.factories (leaves.told.nodes state.made)
+        stands = rested choices terms.degrades terms.decides terms.reader_degrades names taken naming naming_then order order_then old new
+            state (counted answer state.made) services stands leaves.hub leaves.factories (leaves.told.nodes state.made)
             (leaves.told.factories state.made) keys
             (beside_alike asked state answer services
-            (ports-move types choices old.hub.expired_connection_buffer asked state answer after is did)) ports;
+            (ports-move terms.types choices old.hub.expired_connection_buffer asked state answer after is did)) ports;
       }

@@ -13,8 +13,6 @@ use Rattle.iox_command.specs.DomainValues.declared.degradation.DegradationAction
 use Rattle.iox_command.specs.DomainValues.declared.degradation.DegradationAction.TheVariants.{Warn}
 use Rattle.iox_command.specs.DomainValues.declared.degradation.DegradationCause.{DegradationCause}
 use Rattle.iox_command.specs.DomainValues.declared.degradation.DegradationInfo.{DegradationInfo}
-use Rattle.iox_command.specs.NegotiateBase.DescribeBase.Detail.{Detail}
-use Rattle.iox_command.specs.NegotiateBase.DescribeBase.declared.message_type.MessageTypeDetails.{MessageTypeDetails}
 use Rattle.iox_command.specs.declared.command.Command.{Command}
 use Rattle.iox_command.specs.declared.command.Command.TheVariants as command
 use Rattle.iox_command.specs.declared.port.PublisherOptions.{PublisherOptions}
@@ -26,6 +24,7 @@ use Rattle.iox_hub_commands.specs.Lives.{NumbersRise}
 use Rattle.iox_hub_commands.specs.Naming.{publisher_handlers, subscriber_handler}
 use Rattle.iox_hub_commands.specs.Runs.{IsRun, Runs}
 use Rattle.iox_hub_commands.specs.declared.numbered_hub.NumberedHub.{NumberedHub}
+use Rattle.iox_hub_commands.specs.Terms.{Terms}
 use Rattle.iox_hub_machine.specs.ArrivalLaws.{AnswersAsChosen, AnswersAsFixed, DecidesAsChosen, DecidesAsFixed, MayBeNamedLater}
 use Rattle.iox_hub_machine.specs.GoingOnLaws.{ComesAsChosen, Decided, DecidedStep, asked_of}
 use Rattle.iox_machine.specs.Choices.{Choices, as_named}
@@ -91,20 +90,15 @@ module _ {T U B D : Type 0} (choices : Choices T) where
       let named = unwrap_or options.degradation_handler Warn in
       subst (choices.subscriber_acts next named) (sym (so named action info may)) (may_name.2 next named (omega arith))
 
-  module _ (payload user_header : Detail) (types : MessageTypeDetails) (is_default_header : U → Type 0)
-      (fixed : BackpressureStrategy → Option BackpressureAction → DegradationAction → B)
-      (degrades : B → DegradationCause → DegradationInfo → DegradationAction → Type 0)
-      (decides : B → BackpressureInfo → BackpressureDecision → Type 0) (fixed_reader : DegradationAction → D)
-      (reader_degrades : D → DegradationCause → DegradationInfo → DegradationAction → Type 0) where
+  module _ (terms : Terms T U B D) where
     abbrev Steps : Command T → NumberedHub T U B D → Result (Reply T) AllocError → NumberedHub T U B D → Type 0
-    Steps = hub.Step payload user_header types choices.is_default is_default_header fixed degrades decides fixed_reader reader_degrades
+    Steps = hub.Step (record terms { is_default = choices.is_default })
 
     -- after a command
     named_later : (old new : NumberedHub T U B D) (answer : Reply T) (asked : Command T) → Steps asked old (Ok answer) new
         → NumbersRise old → MayBeNamedLater choices old → NumbersRise new × MayBeNamedLater choices new
     named_later old new answer asked step rise may_name =
-        let changes = step_changes payload user_header types choices.is_default is_default_header fixed degrades decides fixed_reader
-        reader_degrades asked old new (Ok answer) step in
+        let changes = step_changes (record terms { is_default = choices.is_default }) asked old new (Ok answer) step in
         let goes = numbers_go_on old new changes in
         let factories = goes.0 rise.0 in
         let publishers = goes.1 rise.1 in
@@ -114,18 +108,21 @@ module _ {T U B D : Type 0} (choices : Choices T) where
         )
 
     abbrev Chosen : Decided T B D → NumberedHub T U B D → Result (Reply T) AllocError → NumberedHub T U B D → Type 0
-    Chosen = DecidedStep types choices degrades decides reader_degrades payload user_header is_default_header
+    Chosen = DecidedStep terms.types choices terms.degrades terms.decides terms.reader_degrades terms.payload terms.user_header
+        terms.is_default_header
 
     abbrev with_actions : Command T → Decided T B D
-    with_actions asked = record { asked = asked; fixed = fixed; fixed_reader = fixed_reader }
+    with_actions asked = record { asked = asked; fixed = terms.fixed; fixed_reader = terms.fixed_reader }
 
-    module _ (decides_so : DecidesAsFixed fixed degrades decides) (answers_so : AnswersAsFixed fixed_reader reader_degrades) where
+    module _ (decides_so : DecidesAsFixed terms.fixed terms.degrades terms.decides)
+        (answers_so : AnswersAsFixed terms.fixed_reader terms.reader_degrades) where
       comes_chosen : (asked : Command T) (old : NumberedHub T U B D) (told : Reply T) → MayBeNamedLater choices old
-          → ComesAsChosen types choices degrades decides reader_degrades asked fixed fixed_reader old told
+          → ComesAsChosen terms.types choices terms.degrades terms.decides terms.reader_degrades asked terms.fixed terms.fixed_reader old
+          told
       comes_chosen (command.Publisher factory options) old told may_name = λ made.
-          decided fixed degrades decides decides_so old may_name options
+          decided terms.fixed terms.degrades terms.decides decides_so old may_name options
       comes_chosen (command.Subscriber factory options) old told may_name = λ made.
-          answered fixed_reader reader_degrades answers_so old may_name options
+          answered terms.fixed_reader terms.reader_degrades answers_so old may_name options
       comes_chosen command.Node old told may_name = tt
       comes_chosen (command.Create node name options attributes steps) old told may_name = tt
       comes_chosen (command.Open node name options required steps) old told may_name = tt
@@ -155,7 +152,7 @@ module _ {T U B D : Type 0} (choices : Choices T) where
 
       all_chosen : (commands : List (Command T)) (old new : NumberedHub T U B D) (replies : List (Reply T)) → NumbersRise old
           → MayBeNamedLater choices old → Runs Steps commands old replies new
-          → Runs Chosen (by_actions fixed fixed_reader commands) old replies new × MayBeNamedLater choices new
+          → Runs Chosen (by_actions terms.fixed terms.fixed_reader commands) old replies new × MayBeNamedLater choices new
       all_chosen [] old new replies rise may_name runs =
           (runs, subst (λ (hub : NumberedHub T U B D). MayBeNamedLater choices hub) (sym runs.1) may_name)
       all_chosen (asked ∷ more) old new replies rise may_name (reply, mid, rest, step, runs, is) =
@@ -166,19 +163,20 @@ module _ {T U B D : Type 0} (choices : Choices T) where
       -- a run whose ports that come decide by actions
       pub run_chosen : (commands : List (Command T)) (old new : NumberedHub T U B D) (replies : List (Reply T)) (stopped : Bool)
           → NumbersRise old → MayBeNamedLater choices old → IsRun Steps commands old replies stopped new
-          → IsRun Chosen (by_actions fixed fixed_reader commands) old replies stopped new
+          → IsRun Chosen (by_actions terms.fixed terms.fixed_reader commands) old replies stopped new
       run_chosen commands old new replies false rise may_name runs = (all_chosen commands old new replies rise may_name runs).0
       run_chosen [] old new replies true rise may_name (inl (some, none, same)) = inl (some, none, same)
       run_chosen (asked ∷ more) old new replies true rise may_name (inl (some, none, same)) = inl (omega arith, none, same)
       run_chosen commands old new replies true rise may_name (inr (first, asked, rest, mid, lacking, is, runs, lack)) =
           let (went, later) = all_chosen first old mid replies rise may_name runs in
           inr (
-            by_actions fixed fixed_reader first,
+            by_actions terms.fixed terms.fixed_reader first,
             with_actions asked,
-            by_actions fixed fixed_reader rest,
+            by_actions terms.fixed terms.fixed_reader rest,
             mid,
             lacking,
-            ap (λ (them : List (Command T)). by_actions fixed fixed_reader them) is ∙ both_by fixed fixed_reader first (asked ∷ rest),
+            ap (λ (them : List (Command T)). by_actions terms.fixed terms.fixed_reader them) is ∙ both_by terms.fixed terms.fixed_reader
+                first (asked ∷ rest),
             went,
             one_chosen asked mid new (Err lacking) later lack,
           )

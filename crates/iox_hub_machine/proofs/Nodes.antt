@@ -1,14 +1,10 @@
 -- A node is made.
-use Rattle.std.proofs.Common.{◌≡◌, ℕ, ◌+◌, ◌^◌, ◌<◌, List, Option, sym, ap, subst, ◌∙◌, inl, arith}
-use Rattle.iox_command.specs.DomainValues.declared.backpressure.BackpressureAction.{BackpressureAction}
+use Rattle.std.proofs.Common.{◌≡◌, ℕ, ◌+◌, ◌^◌, ◌<◌, List, sym, ap, subst, ◌∙◌, inl, arith}
 use Rattle.iox_command.specs.DomainValues.declared.backpressure.BackpressureDecision.{BackpressureDecision}
 use Rattle.iox_command.specs.DomainValues.declared.backpressure.BackpressureInfo.{BackpressureInfo}
-use Rattle.iox_command.specs.DomainValues.declared.backpressure_strategy.BackpressureStrategy.{BackpressureStrategy}
 use Rattle.iox_command.specs.DomainValues.declared.degradation.DegradationAction.{DegradationAction}
 use Rattle.iox_command.specs.DomainValues.declared.degradation.DegradationCause.{DegradationCause}
 use Rattle.iox_command.specs.DomainValues.declared.degradation.DegradationInfo.{DegradationInfo}
-use Rattle.iox_command.specs.NegotiateBase.DescribeBase.Detail.{Detail}
-use Rattle.iox_command.specs.NegotiateBase.DescribeBase.declared.message_type.MessageTypeDetails.{MessageTypeDetails}
 use Rattle.iox_command.specs.NegotiateBase.DescribeBase.declared.pattern.MessagingPattern.{MessagingPattern}
 use Rattle.iox_command.specs.declared.reply.Reply.{Reply}
 use Rattle.iox_command.specs.declared.reply.Reply.TheVariants as reply
@@ -16,6 +12,7 @@ use Rattle.iox_domain.specs.declared.ports.service_ports.ServicePorts.{ServicePo
 use Rattle.iox_domain_machine.specs.Naming.{Naming}
 use Rattle.iox_hub_base.specs.Hubs.{one_more}
 use Rattle.iox_hub_commands.specs.declared.numbered_hub.NumberedHub.{NumberedHub}
+use Rattle.iox_hub_commands.specs.Terms.{Terms}
 use Rattle.iox_hub_machine.proofs.PortsStay.{ports_stay}
 use Rattle.iox_hub_machine.specs.ServiceLaws.{NodeMatches}
 use Rattle.iox_hub_machine.specs.Services.{HubStandsFor}
@@ -56,14 +53,8 @@ module _ {T U B D : Type 0} (choices : Choices T) (degrades : B → DegradationC
         state.phases stands.ports;
   }
 
-pub node_matches : {T U B D : Type 0} (payload user_header : Detail) (types : MessageTypeDetails) (choices : Choices T)
-    (is_default_header : U → Type 0) (fixed : BackpressureStrategy → Option BackpressureAction → DegradationAction → B)
-    (degrades : B → DegradationCause → DegradationInfo → DegradationAction → Type 0)
-    (decides : B → BackpressureInfo → BackpressureDecision → Type 0) (fixed_reader : DegradationAction → D)
-    (reader_degrades : D → DegradationCause → DegradationInfo → DegradationAction → Type 0)
-    → NodeMatches payload user_header types choices is_default_header fixed degrades decides fixed_reader reader_degrades
-node_matches {T} {U} {B} {D} payload user_header types choices is_default_header fixed degrades decides fixed_reader reader_degrades
-    names taken naming order old new state answer few stands does =
+pub node_matches : {T U B D : Type 0} (terms : Terms T U B D) (choices : Choices T) → NodeMatches terms choices
+node_matches {T} {U} {B} {D} terms choices names taken naming order old new state answer few stands does =
     let one : one_more old.hub.nodes ≡ state.made.nodes + 1 =
     one_node_more old.hub.nodes few ∙ ap (λ (n : ℕ). n + 1) stands.nodes in
     let told : answer ≡ reply.NodeMade (state.made.nodes + 1) = does.0 ∙ ap (λ (n : ℕ). reply.NodeMade n) one in
@@ -73,10 +64,8 @@ node_matches {T} {U} {B} {D} payload user_header types choices is_default_header
       order = order;
       after = record state { made = record state.made { nodes = state.made.nodes + 1 } };
       step = inl (told, ap (λ (a : Reply T). record state { made = counted a state.made }) (sym told));
-      stands = subst (λ (hub : NumberedHub T U B D). HubStandsFor choices degrades decides reader_degrades names taken naming order hub
-          (record state { made = record state.made { nodes = state.made.nodes + 1 } })) (sym does.1)
-          (node_stands choices degrades decides reader_degrades names taken naming order old state (one_more old.hub.nodes)
-          (state.made.nodes + 1)
-          one
-          stands);
+      stands = subst (λ (hub : NumberedHub T U B D). HubStandsFor choices terms.degrades terms.decides terms.reader_degrades names taken
+          naming order hub (record state { made = record state.made { nodes = state.made.nodes + 1 } })) (sym does.1)
+          (node_stands choices terms.degrades terms.decides terms.reader_degrades names taken naming order old state
+          (one_more old.hub.nodes) (state.made.nodes + 1) one stands);
     }

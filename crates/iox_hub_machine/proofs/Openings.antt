@@ -4,15 +4,7 @@ use Rattle.std.proofs.Common.{refl, sym, ap, subst, ◌∙◌, inl, inr}
 use Rattle.std.specs.List.{IsAmong}
 use Rattle.std.specs.Prelude.{nat_le, MatchBool}
 use Rattle.std.specs.declared.alloc.AllocError.{AllocError}
-use Rattle.iox_command.specs.DomainValues.declared.backpressure.BackpressureAction.{BackpressureAction}
-use Rattle.iox_command.specs.DomainValues.declared.backpressure.BackpressureDecision.{BackpressureDecision}
-use Rattle.iox_command.specs.DomainValues.declared.backpressure.BackpressureInfo.{BackpressureInfo}
-use Rattle.iox_command.specs.DomainValues.declared.backpressure_strategy.BackpressureStrategy.{BackpressureStrategy}
-use Rattle.iox_command.specs.DomainValues.declared.degradation.DegradationAction.{DegradationAction}
-use Rattle.iox_command.specs.DomainValues.declared.degradation.DegradationCause.{DegradationCause}
-use Rattle.iox_command.specs.DomainValues.declared.degradation.DegradationInfo.{DegradationInfo}
 use Rattle.iox_command.specs.NegotiateBase.DescribeBase.Attributes.{Required}
-use Rattle.iox_command.specs.NegotiateBase.DescribeBase.Detail.{Detail}
 use Rattle.iox_command.specs.NegotiateBase.DescribeBase.Hash.{service_hash_of}
 use Rattle.iox_command.specs.NegotiateBase.DescribeBase.declared.message_type.MessageTypeDetails.{MessageTypeDetails}
 use Rattle.iox_command.specs.NegotiateBase.DescribeBase.declared.pattern.MessagingPattern.{MessagingPattern}
@@ -53,12 +45,13 @@ use Rattle.iox_hub_commands.specs.Replies.{factory_reply}
 use Rattle.iox_hub_commands.specs.ServicesNumbering.{IsRefusedWith, Numbers, Prepares}
 use Rattle.iox_hub_commands.specs.ServicesTables.{FactoryTable, SameNumbers}
 use Rattle.iox_hub_commands.specs.declared.numbered_hub.NumberedHub.{NumberedHub}
+use Rattle.iox_hub_commands.specs.Terms.{Terms}
 use Rattle.iox_hub_machine.proofs.Answered.{Came, IsAnswered, StandsEntered, answered, lacking_answered}
 use Rattle.iox_hub_machine.proofs.Answered.{room_lacking, with_factory_in}
 use Rattle.iox_hub_machine.proofs.EnteredStands.{stands_entered}
 use Rattle.iox_hub_machine.proofs.Entering.{opened_enters, unopened_keeps}
 use Rattle.iox_hub_machine.proofs.FewHeld.{few_held}
-use Rattle.iox_hub_machine.proofs.FittingThen.{FitsHere, met_fits}
+use Rattle.iox_hub_machine.proofs.FittingThen.{FitsHere, asked_terms, met_fits}
 use Rattle.iox_hub_machine.proofs.Formed.{AreMade, formed_so, listed_so}
 use Rattle.iox_hub_machine.proofs.Skipping.{skipped_matches}
 use Rattle.iox_hub_machine.proofs.Verdicts.{event_judge, publish_subscribe_judge, request_response_judge}
@@ -109,29 +102,27 @@ is_event e = cc
 pub is_request_response : pattern.RequestResponse ≡ pattern.PublishSubscribe → ⊥
 is_request_response e = cc
 
-module _ {T U B D : Type 0} (payload user_header : Detail) (variant : TypeVariant) (choices : Choices T)
-    (is_default_header : U → Type 0)
-    (fixed : BackpressureStrategy → Option BackpressureAction → DegradationAction → B)
-    (degrades : B → DegradationCause → DegradationInfo → DegradationAction → Type 0)
-    (decides : B → BackpressureInfo → BackpressureDecision → Type 0) (fixed_reader : DegradationAction → D)
-    (reader_degrades : D → DegradationCause → DegradationInfo → DegradationAction → Type 0) where
+module _ {T U B D : Type 0} (variant : TypeVariant) (terms : Terms T U B D) (choices : Choices T) where
+  abbrev terms_so : Terms T U B D
+  terms_so = asked_terms variant terms
+
   abbrev types : MessageTypeDetails
-  types = asked_types variant payload user_header
+  types = asked_types variant terms.payload terms.user_header
 
   module _ (names : List (List ℕ)) (node : ℕ) (name : List ℕ) (required : Required) (steps : List StepBefore)
       (asked : IsAmong names name)
       (taken : MessagingPattern → List ℕ → List ℕ) (naming : ℕ → Naming) (order : List (ℕ × ServicePorts T U))
       (old new : NumberedHub T U B D) (state : State T) (own : HaveOwnHashes names) (fit : HasNumbersFor (length steps) old)
-      (stands : HubStandsFor choices degrades decides reader_degrades names taken naming order old state)
+      (stands : HubStandsFor choices terms.degrades terms.decides terms.reader_degrades names taken naming order old state)
       (there : is_node node old.hub.nodes ≡ true) where
     made_node : (nat_le 1 node && nat_le node state.made.nodes) ≡ true
     made_node = ap (λ (n : ℕ). nat_le 1 node && nat_le node n) (sym stands.nodes) ∙ there
 
     entering : (kind : MessagingPattern)
-        → StandsEntered payload user_header choices degrades decides reader_degrades names own kind name asked
-        taken naming order node old new state stands
-    entering kind = stands_entered payload user_header choices degrades decides reader_degrades names own kind name asked taken naming
-        order node
+        → StandsEntered terms.payload terms.user_header choices terms.degrades terms.decides terms.reader_degrades names own kind name
+        asked taken naming order node old new state stands
+    entering kind = stands_entered terms.payload terms.user_header choices terms.degrades terms.decides terms.reader_degrades names own
+        kind name asked taken naming order node
         old new state stands fit.rise fit.factories
 
     module _ (kind : MessagingPattern) {V E : Type 0} (judge : Description → Result (Unit {0}) V)
@@ -147,29 +138,30 @@ module _ {T U B D : Type 0} (payload user_header : Detail) (variant : TypeVarian
       tell why = refused (error why)
 
       abbrev Is : Reply T → Type 0
-      Is = IsAnswered payload user_header choices degrades decides reader_degrades names own kind name asked taken naming order node old
-          new state
+      Is = IsAnswered terms.payload terms.user_header choices terms.degrades terms.decides terms.reader_degrades names own kind name asked
+          taken naming order node old new state
           stands Goes tell (λ is_new. unopened.OutOfMemory)
 
       opened_so : (fits : (fresh : Bool) (last : Call)
           → Goes (record { phase = state.phases kind name; accesses = 0 }) (Some (Ok fresh)) last
           → kind ≡ pattern.PublishSubscribe → (life : ℕ) (agreed : Agreement) (nodes : List (Node × ℕ))
-          → last.phase ≡ Published life agreed nodes → FitsHere payload user_header agreed.settings)
+          → last.phase ≡ Published life agreed nodes → FitsHere terms.payload terms.user_header agreed.settings)
           → (lists : List (List TableStep)) → AreMade types name steps lists
           → (roomier : FactoryTable) → SameNumbers old.factories.made roomier → new.made ≡ old.made → (result : Result ℕ Refusal)
           → (opened : Result Made E)
-          → OpensInHub payload user_header (Unit {0}) (λ was_new. error unopened.OutOfMemory)
+          → OpensInHub terms.payload terms.user_header (Unit {0}) (λ was_new. error unopened.OutOfMemory)
           (λ before came after. built.Negotiates SteppedSight before.table.id node error
           (λ made answer. rounds.Opens (service_hash_of kind name) node judge made answer) before came after) lists old.hub opened new.hub
           → Numbers kind refused opened roomier result new.factories.made
           → Is (factory_reply (Some result))
       opened_so fits lists listed roomier same same_made result opened (inr (can, is, still)) numbers =
-          room_lacking payload user_header choices degrades decides reader_degrades names own kind name asked taken naming order node old
+          room_lacking terms.payload terms.user_header choices terms.degrades terms.decides terms.reader_degrades names own kind name
+          asked taken naming order node old
           new state stands Goes tell (λ is_new. unopened.OutOfMemory) refused (error unopened.OutOfMemory) refl opened is roomier result
           same same_made numbers still
       opened_so fits lists listed roomier same same_made result opened (inl does) numbers =
-          answered payload user_header choices degrades decides reader_degrades names own kind name asked taken naming order node old new
-          state
+          answered terms.payload terms.user_header choices terms.degrades terms.decides terms.reader_degrades names own kind name asked
+          taken naming order node old new state
           stands Goes tell (λ is_new. unopened.OutOfMemory) error refused (λ why. refl) (λ was_new. error unopened.OutOfMemory)
           (λ fresh. refl)
           (λ why last goes. unopened_keeps kind name (taken kind name) (state.phases kind name) types steps node verdict last why goes)
@@ -188,19 +180,18 @@ module _ {T U B D : Type 0} (payload user_header : Detail) (variant : TypeVarian
     -- ---- by pattern
 
     abbrev Followed : ServiceOptions → Reply T → Type 0
-    Followed named answer = IsFollowed payload user_header types choices is_default_header fixed degrades decides fixed_reader
-        reader_degrades names (command.Open node name named required steps) old new state answer
+    Followed named answer = IsFollowed terms_so choices names (command.Open node name named required steps) old new state answer
 
     module _ (named : ServiceOptions) (kind : MessagingPattern) {F : Type 0} (Calls : Call → Option (Result Bool F) → Call → Type 0)
         (told : F → Refusal) (lacks : Bool → F) (answer : Reply T)
         (steps_so : (after : State T)
-        → Came payload user_header choices degrades decides reader_degrades names own kind name asked taken naming order node old new
-        state stands
+        → Came terms.payload terms.user_header choices terms.degrades terms.decides terms.reader_degrades names own kind name asked taken
+        naming order node old new state stands
         Calls told lacks answer after
         → machine.Step types choices old.hub.expired_connection_buffer (command.Open node name named required steps) state answer after)
       where
-        followed_by : IsAnswered payload user_header choices degrades decides reader_degrades names own kind name asked taken naming order
-            node
+        followed_by : IsAnswered terms.payload terms.user_header choices terms.degrades terms.decides terms.reader_degrades names own kind
+            name asked taken naming order node
             old new
             state stands Calls told lacks answer
             → Followed named answer
@@ -257,9 +248,9 @@ module _ {T U B D : Type 0} (payload user_header : Detail) (variant : TypeVarian
         → Opens types pattern.PublishSubscribe steps (Own node) (publish_subscribe_judge types required name named)
         (record { phase = state.phases pattern.PublishSubscribe name; accesses = 0 }) (Some (Ok fresh)) last
         → pattern.PublishSubscribe ≡ pattern.PublishSubscribe → (life : ℕ) (agreed : Agreement) (nodes : List (Node × ℕ))
-        → last.phase ≡ Published life agreed nodes → FitsHere payload user_header agreed.settings
+        → last.phase ≡ Published life agreed nodes → FitsHere terms.payload terms.user_header agreed.settings
     opened_fits named fresh last goes is life agreed nodes phase_is =
-        met_fits payload user_header variant required named agreed
+        met_fits terms.payload terms.user_header variant required named agreed
         (agreed_there (λ one. verdict types (options.PublishSubscribe named) required one ≡ Ok tt) last.phase life agreed nodes phase_is
         (subst (IsAgreedOn (λ one. verdict types (options.PublishSubscribe named) required one ≡ Ok tt))
         (phase-there pattern.PublishSubscribe name last.phase state)
@@ -269,13 +260,13 @@ module _ {T U B D : Type 0} (payload user_header : Detail) (variant : TypeVarian
         (by_true _ _ _ made_node (inr (Ok fresh, last, goes, inl (refl, refl)))))).0 (state.made.factories + 1) refl)))
       where
         then : State T
-        then = with_factory_in payload user_header choices degrades decides reader_degrades names own pattern.PublishSubscribe name asked
-            taken
+        then = with_factory_in terms.payload terms.user_header choices terms.degrades terms.decides terms.reader_degrades names own
+            pattern.PublishSubscribe name asked taken
             naming order node old new state stands last.phase
 
     opens_as : (named : ServiceOptions) (lists : List (List TableStep)) → AreMade types name steps lists
         → (roomier : FactoryTable) → SameNumbers old.factories.made roomier → new.made ≡ old.made → (result : Result ℕ Refusal)
-        → OpensAs named payload user_header types node name required lists roomier old.hub result new.factories.made new.hub
+        → OpensAs named terms.payload terms.user_header types node name required lists roomier old.hub result new.factories.made new.hub
         → Followed named (factory_reply (Some result))
     opens_as (options.PublishSubscribe named) lists listed roomier same same_made result (opened, does, numbers) =
         followed_by (options.PublishSubscribe named) pattern.PublishSubscribe _ _ _ _
@@ -314,7 +305,8 @@ module _ {T U B D : Type 0} (payload user_header : Detail) (variant : TypeVarian
     lacks_as named lacking roomier same same_made result does =
         followed_by named (pattern_of named) (Opens types (pattern_of named) steps (Own node) (verdict types named required))
         (open_refusal named) (λ is_new. unopened.OutOfMemory) _ (λ after came. by_true _ _ _ made_node came)
-        (lacking_answered payload user_header choices degrades decides reader_degrades names own (pattern_of named) name asked taken naming
+        (lacking_answered terms.payload terms.user_header choices terms.degrades terms.decides terms.reader_degrades names own
+        (pattern_of named) name asked taken naming
         order node old new state stands (Opens types (pattern_of named) steps (Own node) (verdict types named required))
         (open_refusal named) (λ is_new. unopened.OutOfMemory) roomier result same same_made
         (subst (λ (why : Refusal). IsRefusedWith why roomier old.hub result new.factories.made new.hub) (lacking_is named) does))
@@ -322,7 +314,8 @@ module _ {T U B D : Type 0} (payload user_header : Detail) (variant : TypeVarian
     prepared_so : (named : ServiceOptions) (prepared : Result (List (List TableStep)) AllocError) (roomier : FactoryTable)
         → new.made ≡ old.made → (result : Result ℕ Refusal)
         → Prepares name types steps old.factories.made prepared roomier
-        → OpensPrepared prepared payload user_header types (record { node = node; name = name; options = named }) required roomier old.hub
+        → OpensPrepared prepared terms.payload terms.user_header types (record { node = node; name = name; options = named }) required
+        roomier old.hub
         result new.factories.made new.hub
         → Followed named (factory_reply (Some result))
     prepared_so named (Ok lists) roomier same_made result prepares does =
@@ -330,19 +323,16 @@ module _ {T U B D : Type 0} (payload user_header : Detail) (variant : TypeVarian
     prepared_so named (Err lacking) roomier same_made result prepares does =
         lacks_as named lacking roomier prepares.0 same_made result does
 
-  pub openings_match : OpeningMatches payload user_header types choices is_default_header fixed degrades decides fixed_reader
-      reader_degrades
+  pub openings_match : OpeningMatches terms_so choices
   openings_match names node name named required steps asked own taken naming order old new state answer fit stands
       (made, does, same_made, told) =
       by_node (is_node node old.hub.nodes) refl does
     where
       Now : Reply T → Type 0
-      Now given = IsFollowed payload user_header types choices is_default_header fixed degrades decides fixed_reader reader_degrades
-          names
-          (command.Open node name named required steps) old new state given
+      Now given = IsFollowed terms_so choices names (command.Open node name named required steps) old new state given
 
       by_node : (b : Bool) → is_node node old.hub.nodes ≡ b
-          → OpensNumbered b payload user_header types (record { node = node; name = name; options = named }) required steps
+          → OpensNumbered b terms.payload terms.user_header types (record { node = node; name = name; options = named }) required steps
           old.factories.made old.hub made new.factories.made new.hub
           → Now answer
       by_node true is (prepared, roomier, result, prepares, opens, made_is) =
@@ -351,8 +341,8 @@ module _ {T U B D : Type 0} (payload user_header : Detail) (variant : TypeVarian
           same_made result prepares opens)
       by_node false is (none, table_is, hub_is) =
           let replied : answer ≡ reply.Skipped = told ∙ ap factory_reply none in
-          let so = skipped_matches payload user_header types choices is_default_header fixed degrades decides fixed_reader
-          reader_degrades names (command.Open node name named required steps) taken naming order old new state tt stands
+          let so = skipped_matches terms_so choices names (command.Open node name named required steps) taken naming order old new state
+          tt stands
           (made, does, same_made, sym replied ∙ told) in
           subst Now (sym replied)
           (record { taken = taken; naming = naming; order = order; after = state; step = so.0; stands = so.1 })

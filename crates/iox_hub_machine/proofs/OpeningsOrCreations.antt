@@ -5,15 +5,7 @@ use Rattle.std.proofs.Math.Logic.{⊎_elim}
 use Rattle.std.specs.List.{IsAmong}
 use Rattle.std.specs.Prelude.{nat_le}
 use Rattle.std.specs.declared.alloc.AllocError.{AllocError}
-use Rattle.iox_command.specs.DomainValues.declared.backpressure.BackpressureAction.{BackpressureAction}
-use Rattle.iox_command.specs.DomainValues.declared.backpressure.BackpressureDecision.{BackpressureDecision}
-use Rattle.iox_command.specs.DomainValues.declared.backpressure.BackpressureInfo.{BackpressureInfo}
-use Rattle.iox_command.specs.DomainValues.declared.backpressure_strategy.BackpressureStrategy.{BackpressureStrategy}
-use Rattle.iox_command.specs.DomainValues.declared.degradation.DegradationAction.{DegradationAction}
-use Rattle.iox_command.specs.DomainValues.declared.degradation.DegradationCause.{DegradationCause}
-use Rattle.iox_command.specs.DomainValues.declared.degradation.DegradationInfo.{DegradationInfo}
 use Rattle.iox_command.specs.NegotiateBase.DescribeBase.Attributes.{Required}
-use Rattle.iox_command.specs.NegotiateBase.DescribeBase.Detail.{Detail}
 use Rattle.iox_command.specs.NegotiateBase.DescribeBase.Hash.{service_hash_of}
 use Rattle.iox_command.specs.NegotiateBase.DescribeBase.declared.message_type.MessageTypeDetails.{MessageTypeDetails}
 use Rattle.iox_command.specs.NegotiateBase.DescribeBase.declared.pattern.MessagingPattern.{MessagingPattern}
@@ -55,12 +47,13 @@ use Rattle.iox_hub_commands.specs.Replies.{factory_reply}
 use Rattle.iox_hub_commands.specs.ServicesNumbering.{IsRefusedWith, Numbers, Prepares}
 use Rattle.iox_hub_commands.specs.ServicesTables.{FactoryTable, SameNumbers}
 use Rattle.iox_hub_commands.specs.declared.numbered_hub.NumberedHub.{NumberedHub}
+use Rattle.iox_hub_commands.specs.Terms.{Terms}
 use Rattle.iox_hub_machine.proofs.Answered.{Came, IsAnswered, StandsEntered, answered, lacking_answered}
 use Rattle.iox_hub_machine.proofs.Answered.{room_lacking, with_factory_in}
 use Rattle.iox_hub_machine.proofs.EnteredStands.{stands_entered}
 use Rattle.iox_hub_machine.proofs.Entering.{either_enters, neither_keeps}
 use Rattle.iox_hub_machine.proofs.FewHeld.{few_held}
-use Rattle.iox_hub_machine.proofs.FittingThen.{FitsHere, met_fits, new_fits}
+use Rattle.iox_hub_machine.proofs.FittingThen.{FitsHere, asked_terms, met_fits, new_fits}
 use Rattle.iox_hub_machine.proofs.Formed.{AreMade, formed_so, listed_so}
 use Rattle.iox_hub_machine.proofs.Openings.{agreed_there, by_true, is_event, is_request_response}
 use Rattle.iox_hub_machine.proofs.Skipping.{skipped_matches}
@@ -93,29 +86,27 @@ use Rattle.iox_negotiate_table.specs.Stepped.{SteppedSight}
 use Rattle.iox_negotiate_table.specs.declared.step.ForeignStep.{ForeignStep as TableStep}
 use Rattle.iox_machine.proofs.Shorthands.{OpensOrCreates}
 
-module _ {T U B D : Type 0} (payload user_header : Detail) (variant : TypeVariant) (choices : Choices T)
-    (is_default_header : U → Type 0)
-    (fixed : BackpressureStrategy → Option BackpressureAction → DegradationAction → B)
-    (degrades : B → DegradationCause → DegradationInfo → DegradationAction → Type 0)
-    (decides : B → BackpressureInfo → BackpressureDecision → Type 0) (fixed_reader : DegradationAction → D)
-    (reader_degrades : D → DegradationCause → DegradationInfo → DegradationAction → Type 0) where
+module _ {T U B D : Type 0} (variant : TypeVariant) (terms : Terms T U B D) (choices : Choices T) where
+  abbrev terms_so : Terms T U B D
+  terms_so = asked_terms variant terms
+
   abbrev types : MessageTypeDetails
-  types = asked_types variant payload user_header
+  types = asked_types variant terms.payload terms.user_header
 
   module _ (names : List (List ℕ)) (node : ℕ) (name : List ℕ) (required : Required) (steps : List StepBefore)
       (asked : IsAmong names name)
       (taken : MessagingPattern → List ℕ → List ℕ) (naming : ℕ → Naming) (order : List (ℕ × ServicePorts T U))
       (old new : NumberedHub T U B D) (state : State T) (own : HaveOwnHashes names) (fit : HasNumbersFor (length steps + 1) old)
-      (stands : HubStandsFor choices degrades decides reader_degrades names taken naming order old state)
+      (stands : HubStandsFor choices terms.degrades terms.decides terms.reader_degrades names taken naming order old state)
       (there : is_node node old.hub.nodes ≡ true) where
     made_node : (nat_le 1 node && nat_le node state.made.nodes) ≡ true
     made_node = ap (λ (n : ℕ). nat_le 1 node && nat_le node n) (sym stands.nodes) ∙ there
 
     entering : (kind : MessagingPattern)
-        → StandsEntered payload user_header choices degrades decides reader_degrades names own kind name asked
-        taken naming order node old new state stands
-    entering kind = stands_entered payload user_header choices degrades decides reader_degrades names own kind name asked taken naming
-        order node
+        → StandsEntered terms.payload terms.user_header choices terms.degrades terms.decides terms.reader_degrades names own kind name
+        asked taken naming order node old new state stands
+    entering kind = stands_entered terms.payload terms.user_header choices terms.degrades terms.decides terms.reader_degrades names own
+        kind name asked taken naming order node
         old new state stands fit.rise fit.factories
 
     room : (next some : ℕ) → next + (some + 1) < 2 ^ 64 → next + some + 1 < 2 ^ 64
@@ -147,18 +138,18 @@ module _ {T U B D : Type 0} (payload user_header : Detail) (variant : TypeVarian
       tell why = refused (error why)
 
       abbrev Is : Reply T → Type 0
-      Is = IsAnswered payload user_header choices degrades decides reader_degrades names own kind name asked taken naming order node old
-          new state
+      Is = IsAnswered terms.payload terms.user_header choices terms.degrades terms.decides terms.reader_degrades names own kind name asked
+          taken naming order node old new state
           stands Goes tell told_of.either_lacking
 
       either_so : (fits : (fresh : Bool) (last : Call)
           → Goes (record { phase = state.phases kind name; accesses = 0 }) (Some (Ok fresh)) last
           → kind ≡ pattern.PublishSubscribe → (life : ℕ) (agreed : Agreement) (nodes : List (Node × ℕ))
-          → last.phase ≡ Published life agreed nodes → FitsHere payload user_header agreed.settings)
+          → last.phase ≡ Published life agreed nodes → FitsHere terms.payload terms.user_header agreed.settings)
           → (lists : List (List TableStep)) → AreMade types name steps lists
           → (roomier : FactoryTable) → SameNumbers old.factories.made roomier → new.made ≡ old.made → (result : Result ℕ Refusal)
           → (opened : Result Made E)
-          → OpensInHub payload user_header (Unit {0}) (λ was_new. error (lacking_either was_new))
+          → OpensInHub terms.payload terms.user_header (Unit {0}) (λ was_new. error (lacking_either was_new))
           (λ before came after. built.Either SteppedSight before.table.id (service_hash_of kind name) node judge
           (agreed_of name named types required.pairs) (AreWithinLimits (settings_of types named))
           (HasNoRoomForHistory (settings_of types named)) error before came after)
@@ -166,12 +157,13 @@ module _ {T U B D : Type 0} (payload user_header : Detail) (variant : TypeVarian
           → Numbers kind refused opened roomier result new.factories.made
           → Is (factory_reply (Some result))
       either_so fits lists listed roomier same same_made result opened (inr (can, is, still)) numbers =
-          room_lacking payload user_header choices degrades decides reader_degrades names own kind name asked taken naming order node old
-          new state stands Goes tell told_of.either_lacking refused (error (lacking_either false))
+          room_lacking terms.payload terms.user_header choices terms.degrades terms.decides terms.reader_degrades names own kind name
+          asked taken naming order node old new state stands Goes tell told_of.either_lacking refused (error (lacking_either false))
           (ap (λ (why : OpenOrCreateFailure V). refused (error why)) (same_lacking false)) opened is roomier result same same_made numbers
           still
       either_so fits lists listed roomier same same_made result opened (inl does) numbers =
-          answered payload user_header choices degrades decides reader_degrades names own kind name asked taken naming order node old new
+          answered terms.payload terms.user_header choices terms.degrades terms.decides terms.reader_degrades names own kind name asked
+          taken naming order node old new
           state
           stands Goes tell told_of.either_lacking error refused (λ why. refl) (λ was_new. error (lacking_either was_new))
           (λ fresh. ap error (same_lacking fresh))
@@ -195,20 +187,19 @@ module _ {T U B D : Type 0} (payload user_header : Detail) (variant : TypeVarian
     -- ---- by pattern
 
     abbrev Followed : ServiceOptions → Reply T → Type 0
-    Followed named answer = IsFollowed payload user_header types choices is_default_header fixed degrades decides fixed_reader
-        reader_degrades names (command.OpenOrCreate node name named required steps) old new state answer
+    Followed named answer = IsFollowed terms_so choices names (command.OpenOrCreate node name named required steps) old new state answer
 
     module _ (named : ServiceOptions) (kind : MessagingPattern) {F : Type 0} (Calls : Call → Option (Result Bool F) → Call → Type 0)
         (told : F → Refusal) (lacks : Bool → F) (answer : Reply T)
         (steps_so : (after : State T)
-        → Came payload user_header choices degrades decides reader_degrades names own kind name asked taken naming order node old new
-        state stands
+        → Came terms.payload terms.user_header choices terms.degrades terms.decides terms.reader_degrades names own kind name asked taken
+        naming order node old new state stands
         Calls told lacks answer after
         → machine.Step types choices old.hub.expired_connection_buffer (command.OpenOrCreate node name named required steps) state
         answer after)
       where
-        followed_by : IsAnswered payload user_header choices degrades decides reader_degrades names own kind name asked taken naming order
-            node
+        followed_by : IsAnswered terms.payload terms.user_header choices terms.degrades terms.decides terms.reader_degrades names own kind
+            name asked taken naming order node
             old new
             state stands Calls told lacks answer
             → Followed named answer
@@ -271,25 +262,24 @@ module _ {T U B D : Type 0} (payload user_header : Detail) (variant : TypeVarian
         (new_agreement types required name (options.PublishSubscribe named))
         (record { phase = state.phases pattern.PublishSubscribe name; accesses = 0 }) (Some (Ok fresh)) last
         → pattern.PublishSubscribe ≡ pattern.PublishSubscribe → (life : ℕ) (agreed : Agreement) (nodes : List (Node × ℕ))
-        → last.phase ≡ Published life agreed nodes → FitsHere payload user_header agreed.settings
+        → last.phase ≡ Published life agreed nodes → FitsHere terms.payload terms.user_header agreed.settings
     either_fits named fresh last goes is life agreed nodes phase_is =
-        ⊎_elim (λ met. met_fits payload user_header variant required named agreed
+        ⊎_elim (λ met. met_fits terms.payload terms.user_header variant required named agreed
         (agreed_there (λ one. verdict types (options.PublishSubscribe named) required one ≡ Ok tt) last.phase life agreed nodes phase_is
         (subst (IsAgreedOn (λ one. verdict types (options.PublishSubscribe named) required one ≡ Ok tt))
         (phase-there pattern.PublishSubscribe name last.phase state) met)))
-        (λ new_one. subst (λ (one : Agreement). FitsHere payload user_header one.settings)
-        (same_agreed new_one.0 life
+        (λ new_one. subst (λ (one : Agreement). FitsHere terms.payload terms.user_header one.settings) (same_agreed new_one.0 life
         (new_agreement types required name (options.PublishSubscribe named)) agreed _ nodes
         (sym new_one.2 ∙ phase-there pattern.PublishSubscribe name last.phase state ∙ phase_is))
-        (new_fits payload user_header variant named))
+        (new_fits terms.payload terms.user_header variant named))
         ((either-meets-asked choices types old.hub.expired_connection_buffer node name (options.PublishSubscribe named) required steps
         state (reply.FactoryMade (state.made.factories + 1)) then
         (publish_subscribe_step (reply.FactoryMade (state.made.factories + 1)) then named
         (by_true _ _ _ made_node (inr (Ok fresh, last, goes, inl (refl, refl)))))).0 (state.made.factories + 1) refl)
       where
         then : State T
-        then = with_factory_in payload user_header choices degrades decides reader_degrades names own pattern.PublishSubscribe name asked
-            taken
+        then = with_factory_in terms.payload terms.user_header choices terms.degrades terms.decides terms.reader_degrades names own
+            pattern.PublishSubscribe name asked taken
             naming order node old new state stands last.phase
 
         same_agreed : (one other : ℕ) (agreed another : Agreement) (some others : List (Node × ℕ))
@@ -298,7 +288,7 @@ module _ {T U B D : Type 0} (payload user_header : Detail) (variant : TypeVarian
 
     either_as : (named : ServiceOptions) (lists : List (List TableStep)) → AreMade types name steps lists
         → (roomier : FactoryTable) → SameNumbers old.factories.made roomier → new.made ≡ old.made → (result : Result ℕ Refusal)
-        → EitherAs named payload user_header types node name required lists roomier old.hub result new.factories.made new.hub
+        → EitherAs named terms.payload terms.user_header types node name required lists roomier old.hub result new.factories.made new.hub
         → Followed named (factory_reply (Some result))
     either_as (options.PublishSubscribe named) lists listed roomier same same_made result (opened, does, numbers) =
         followed_by (options.PublishSubscribe named) pattern.PublishSubscribe _ _ _ _
@@ -342,8 +332,8 @@ module _ {T U B D : Type 0} (payload user_header : Detail) (variant : TypeVarian
         followed_by named (pattern_of named)
         (OpensOrCreates types (pattern_of named) steps (Own node) (verdict types named required) (new_agreement types required name named))
         (either_refusal named) told_of.either_lacking _ (λ after came. by_true _ _ _ made_node came)
-        (lacking_answered payload user_header choices degrades decides reader_degrades names own (pattern_of named) name asked taken naming
-        order node old new state stands
+        (lacking_answered terms.payload terms.user_header choices terms.degrades terms.decides terms.reader_degrades names own
+        (pattern_of named) name asked taken naming order node old new state stands
         (OpensOrCreates types (pattern_of named) steps (Own node) (verdict types named required) (new_agreement types required name named))
         (either_refusal named) told_of.either_lacking roomier result same same_made
         (subst (λ (why : Refusal). IsRefusedWith why roomier old.hub result new.factories.made new.hub) (lacking_is named) does))
@@ -351,7 +341,8 @@ module _ {T U B D : Type 0} (payload user_header : Detail) (variant : TypeVarian
     prepared_so : (named : ServiceOptions) (prepared : Result (List (List TableStep)) AllocError) (roomier : FactoryTable)
         → new.made ≡ old.made → (result : Result ℕ Refusal)
         → Prepares name types steps old.factories.made prepared roomier
-        → EitherPrepared prepared payload user_header types (record { node = node; name = name; options = named }) required roomier old.hub
+        → EitherPrepared prepared terms.payload terms.user_header types (record { node = node; name = name; options = named }) required
+        roomier old.hub
         result new.factories.made new.hub
         → Followed named (factory_reply (Some result))
     prepared_so named (Ok lists) roomier same_made result prepares does =
@@ -359,19 +350,16 @@ module _ {T U B D : Type 0} (payload user_header : Detail) (variant : TypeVarian
     prepared_so named (Err lacking) roomier same_made result prepares does =
         lacks_as named lacking roomier prepares.0 same_made result does
 
-  pub openings_or_creations_match : OpeningOrCreatingMatches payload user_header types choices is_default_header fixed degrades decides
-      fixed_reader reader_degrades
+  pub openings_or_creations_match : OpeningOrCreatingMatches terms_so choices
   openings_or_creations_match names node name named required steps asked own taken naming order old new state answer fit stands
       (made, does, same_made, told) =
       by_node (is_node node old.hub.nodes) refl does
     where
       Now : Reply T → Type 0
-      Now given = IsFollowed payload user_header types choices is_default_header fixed degrades decides fixed_reader reader_degrades
-          names
-          (command.OpenOrCreate node name named required steps) old new state given
+      Now given = IsFollowed terms_so choices names (command.OpenOrCreate node name named required steps) old new state given
 
       by_node : (b : Bool) → is_node node old.hub.nodes ≡ b
-          → EitherNumbered b payload user_header types (record { node = node; name = name; options = named }) required steps
+          → EitherNumbered b terms.payload terms.user_header types (record { node = node; name = name; options = named }) required steps
           old.factories.made old.hub made new.factories.made new.hub
           → Now answer
       by_node true is (prepared, roomier, result, prepares, opens, made_is) =
@@ -380,8 +368,8 @@ module _ {T U B D : Type 0} (payload user_header : Detail) (variant : TypeVarian
           same_made result prepares opens)
       by_node false is (none, table_is, hub_is) =
           let replied : answer ≡ reply.Skipped = told ∙ ap factory_reply none in
-          let so = skipped_matches payload user_header types choices is_default_header fixed degrades decides fixed_reader
-          reader_degrades names (command.OpenOrCreate node name named required steps) taken naming order old new state tt stands
+          let so = skipped_matches terms_so choices names (command.OpenOrCreate node name named required steps) taken naming order old new
+          state tt stands
           (made, does, same_made, sym replied ∙ told) in
           subst Now (sym replied)
           (record { taken = taken; naming = naming; order = order; after = state; step = so.0; stands = so.1 })

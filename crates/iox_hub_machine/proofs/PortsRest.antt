@@ -17,8 +17,6 @@ use Rattle.iox_command.specs.DomainValues.declared.degradation.DegradationInfo.{
 use Rattle.iox_command.specs.DomainValues.declared.port_error.LoanError.{LoanError}
 use Rattle.iox_command.specs.DomainValues.declared.port_error.ReceiveError.{ReceiveError}
 use Rattle.iox_command.specs.DomainValues.declared.port_error.SendError.{SendError}
-use Rattle.iox_command.specs.NegotiateBase.DescribeBase.Detail.{Detail}
-use Rattle.iox_command.specs.NegotiateBase.DescribeBase.declared.message_type.MessageTypeDetails.{MessageTypeDetails}
 use Rattle.iox_command.specs.declared.command.Command.{Command}
 use Rattle.iox_command.specs.declared.command.Command.TheVariants as command
 use Rattle.iox_command.specs.declared.port.PortNumber.TheVariants as port
@@ -65,9 +63,9 @@ use Rattle.iox_hub_commands.specs.declared.numbered_hub.NumberedHub.{NumberedHub
 use Rattle.iox_hub_commands.specs.declared.ports.made.Made.{Made}
 use Rattle.iox_hub_commands.specs.declared.ports.made.MadeLoan.{MadeLoan}
 use Rattle.iox_hub_commands.specs.declared.ports.made.MadeSample.{MadeSample}
+use Rattle.iox_hub_commands.specs.Terms.{Terms}
 use Rattle.iox_hub_machine.proofs.Resting.{Rests, at_domain_rests, changed_rests, leaves_rests, makes_rests, rests_same, rests_then}
 use Rattle.iox_hub_machine.proofs.Resting.{step_rests}
-use Rattle.iox_machine.specs.Choices.{Choices}
 use Rattle.iox_machine.proofs.Ported.{is_of_ports}
 use Rattle.iox_machine.specs.State as machine
 use Rattle.iox_machine.specs.State.{counted}
@@ -310,16 +308,9 @@ module _ {T U B D : Type 0} where
         told = neither_by (subscriber_reply came) answer told (arrived_neither came);
       }
 
-  module _ (payload user_header : Detail) (types : MessageTypeDetails) (choices : Choices T) (is_default_header : U → Type 0)
-      (fixed : BackpressureStrategy → Option BackpressureAction → DegradationAction → B)
-      (degrades : B → DegradationCause → DegradationInfo → DegradationAction → Type 0)
-      (decides : B → BackpressureInfo → BackpressureDecision → Type 0) (fixed_reader : DegradationAction → D)
-      (reader_degrades : D → DegradationCause → DegradationInfo → DegradationAction → Type 0) (old new : NumberedHub T U B D)
-      (answer : Reply T) where
+  module _ (terms : Terms T U B D) (old new : NumberedHub T U B D) (answer : Reply T) where
     pub port_leaves : (asked : Command T) → is_of_ports asked ≡ true
-        → hub.Step payload user_header types choices.is_default is_default_header fixed degrades decides fixed_reader reader_degrades
-        asked old
-        (Ok answer) new
+        → hub.Step terms asked old (Ok answer) new
         → Leaves old new answer
     port_leaves command.Node is step = absurd (differ is)
       where
@@ -346,11 +337,11 @@ module _ {T U B D : Type 0} where
         differ : false ≡ true → ⊥
         differ e = cc
     port_leaves (command.Publisher factory options) is step =
-        publisher_comes is_default_header fixed degrades (publish_subscribe_in (value_at old.factories.made factory)) options old new answer
-        step
+        publisher_comes terms.is_default_header terms.fixed terms.degrades (publish_subscribe_in (value_at old.factories.made factory))
+        options old new answer step
     port_leaves (command.Subscriber factory options) is step =
-        subscriber_comes fixed_reader reader_degrades (publish_subscribe_in (value_at old.factories.made factory)) options old new answer
-        step
+        subscriber_comes terms.fixed_reader terms.reader_degrades (publish_subscribe_in (value_at old.factories.made factory)) options old
+        new answer step
     port_leaves (command.Loan publisher elements) is ((value, is_value, lent, goes, told), same) =
         let found = ready hub_ports (lender elements (value_at old.made.publishers publisher)) old.hub in record {
           factories = same;
@@ -383,19 +374,19 @@ module _ {T U B D : Type 0} where
     }
     port_leaves (command.Send loan) is ((it, sends, is_made, told), same) = record {
       factories = same;
-      hub = sends_under (publisher_may_degrade degrades) (publisher_may_decide decides) (value_at old.made.loans loan) old.hub new.hub it
-          sends;
+      hub = sends_under (publisher_may_degrade terms.degrades) (publisher_may_decide terms.decides) (value_at old.made.loans loan) old.hub
+          new.hub it sends;
       told = neither_by (sent_reply it) answer told (sent_neither it);
     }
     port_leaves (command.Put publisher values) is ((it, at, told), same) =
         by_hub old new answer same
-        (at_port (Puts hub_ports with_hub_ports (publisher_may_degrade degrades) (publisher_may_decide decides) values)
-        (puts (publisher_may_degrade degrades) (publisher_may_decide decides) values)
+        (at_port (Puts hub_ports with_hub_ports (publisher_may_degrade terms.degrades) (publisher_may_decide terms.decides) values)
+        (puts (publisher_may_degrade terms.degrades) (publisher_may_decide terms.decides) values)
         (ready hub_ports (lender (length values) (value_at old.made.publishers publisher)) old.hub) old.hub new.hub it at)
         (neither_by (sent_reply it) answer told (sent_neither it))
     port_leaves (command.Retry publisher nanoseconds) is ((it, at, told), same) =
         by_hub old new answer same
-        (at_port (Retries hub_ports with_hub_ports (publisher_may_decide decides) nanoseconds)
+        (at_port (Retries hub_ports with_hub_ports (publisher_may_decide terms.decides) nanoseconds)
         (λ one first second result does. at_domain_rests one.domain _ (hub_ports one.domain first) first second result does)
         (port_under (value_at old.made.publishers publisher)) old.hub new.hub it at)
         (neither_by (sent_reply it) answer told (sent_neither it))
@@ -408,9 +399,9 @@ module _ {T U B D : Type 0} where
     port_leaves (command.Receive subscriber) is ((received, goes, told), same) =
         let found = value_at old.made.subscribers subscriber in record {
           factories = same;
-          hub = first (IsFull old.made.samples) (ReceivesNumbered hub_ports with_hub_ports (subscriber_may_degrade reader_degrades) found)
-              (λ before later it other said (outcome, at, numbers).
-              at_port (Receives hub_ports with_hub_ports (subscriber_may_degrade reader_degrades))
+          hub = first (IsFull old.made.samples) (ReceivesNumbered hub_ports with_hub_ports (subscriber_may_degrade terms.reader_degrades)
+              found) (λ before later it other said (outcome, at, numbers).
+              at_port (Receives hub_ports with_hub_ports (subscriber_may_degrade terms.reader_degrades))
               (λ one first second result does. at_domain_rests one.domain _ (hub_ports one.domain first) first second result does) found it
               other outcome at) old.made new.made old.hub new.hub received goes;
           told = told_neither (λ sample. values_under hub_ports (value_at new.made.samples sample) new.hub) received answer told;
@@ -433,13 +424,13 @@ module _ {T U B D : Type 0} where
     }
     port_leaves (command.Update (port.Publisher number)) is ((outcome, at, told), same) =
         by_hub old new answer same
-        (at_port (Follows hub_ports with_hub_ports (publisher_may_degrade degrades))
+        (at_port (Follows hub_ports with_hub_ports (publisher_may_degrade terms.degrades))
         (λ one first second result does. at_domain_rests one.domain _ (hub_ports one.domain first) first second result does)
         (port_under (value_at old.made.publishers number)) old.hub new.hub outcome at)
         (neither_by (updated_reply outcome) answer told (updated_neither outcome))
     port_leaves (command.Update (port.Subscriber number)) is ((outcome, at, told), same) =
         by_hub old new answer same
-        (at_port (FollowsPublishers hub_ports with_hub_ports (subscriber_may_degrade reader_degrades))
+        (at_port (FollowsPublishers hub_ports with_hub_ports (subscriber_may_degrade terms.reader_degrades))
         (λ one first second result does. at_domain_rests one.domain _ (hub_ports one.domain first) first second result does)
         (value_at old.made.subscribers number) old.hub new.hub outcome at)
         (neither_by (updated_reply outcome) answer told (updated_neither outcome))
@@ -463,7 +454,7 @@ module _ {T U B D : Type 0} where
     }
     port_leaves (command.Has subscriber) is ((outcome, at, told), same) =
         by_hub old new answer same
-        (at_port (Tells hub_ports with_hub_ports (subscriber_may_degrade reader_degrades))
+        (at_port (Tells hub_ports with_hub_ports (subscriber_may_degrade terms.reader_degrades))
         (λ one first second result does. at_domain_rests one.domain _ (hub_ports one.domain first) first second result does)
         (value_at old.made.subscribers subscriber) old.hub new.hub outcome at)
         (neither_by (has_reply outcome) answer told (has_neither outcome))

@@ -29,13 +29,14 @@ use Rattle.iox_hub_commands.specs.Runs as hub_runs
 use Rattle.iox_hub_commands.specs.Runs.{IsRun}
 use Rattle.iox_hub_commands.specs.declared.numbered_hub.NumberedHub.{NumberedHub}
 use Rattle.iox_hub_commands.specs.declared.room.Pledged.{Pledged}
+use Rattle.iox_hub_commands.specs.Terms.{Terms}
 use Rattle.iox_hub_machine.proofs.Going.{same_stands}
 use Rattle.iox_hub_machine.proofs.Lacking.{lacks}
 use Rattle.iox_hub_machine.proofs.NamedLater.{all_named, by_actions, own_commands, run_chosen}
 use Rattle.iox_hub_machine.proofs.RunsOn.{new_has_room, new_runs_on, step_runs_on, step_takes}
 use Rattle.iox_hub_machine.specs.ClosingLaws.{IsCome}
 use Rattle.iox_hub_machine.specs.GoingOnLaws.{AreAllOn, ComesAsChosen, Decided, DecidedRunsGoOn, DecidedStep, IsOnUntil, IsOneOn}
-use Rattle.iox_hub_machine.specs.GoingOnLaws.{RunGoesOn, RunsGoOn, asked_of, NewHubBegins}
+use Rattle.iox_hub_machine.specs.GoingOnLaws.{RunGoesOn, RunsGoOn, asked_of, NewHubBegins, decided_terms}
 use Rattle.iox_hub_machine.specs.Ran.{RanAtMost, StandsAfter}
 use Rattle.iox_hub_machine.specs.RunLaws.{AsksAmong, RunAnswers, RunStands, all_asked, names_in, steps_named}
 use Rattle.iox_hub_machine.specs.ServiceLaws.{IsFollowed}
@@ -181,6 +182,10 @@ module _ {T U B D : Type 0} (payload user_header : Detail) (types : MessageTypeD
     (degrades : B → DegradationCause → DegradationInfo → DegradationAction → Type 0)
     (decides : B → BackpressureInfo → BackpressureDecision → Type 0)
     (reader_degrades : D → DegradationCause → DegradationInfo → DegradationAction → Type 0) where
+  -- the terms of a hub, where these decide for a port that comes
+  abbrev terms_by : (BackpressureStrategy → Option BackpressureAction → DegradationAction → B) → (DegradationAction → D) → Terms T U B D
+  terms_by = decided_terms types choices degrades decides reader_degrades payload user_header is_default_header
+
   -- Each command is followed, whoever decides for a port that comes by it, from a hub that may be asked so, and stands for what a run of
   -- a new machine led to.
   abbrev pub EachFollows : Type 0
@@ -192,11 +197,8 @@ module _ {T U B D : Type 0} (payload user_header : Detail) (types : MessageTypeD
       → MayBeAsked (steps_named asked) old
       → IsCome types choices old.hub.expired_connection_buffer state
       → HubStandsFor choices degrades decides reader_degrades names taken naming order old state
-      → hub.Step payload user_header types choices.is_default is_default_header fixed degrades decides fixed_reader reader_degrades asked
-      old
-      (Ok answer) new
-      → IsFollowed payload user_header types choices is_default_header fixed degrades decides fixed_reader reader_degrades names asked
-      old new state answer
+      → hub.Step (terms_by fixed fixed_reader) asked old (Ok answer) new
+      → IsFollowed (terms_by fixed fixed_reader) choices names asked old new state answer
 
   abbrev Steps : Decided T B D → NumberedHub T U B D → Result (Reply T) AllocError → NumberedHub T U B D → Type 0
   Steps = DecidedStep types choices degrades decides reader_degrades payload user_header is_default_header
@@ -219,8 +221,7 @@ module _ {T U B D : Type 0} (payload user_header : Detail) (types : MessageTypeD
   buffer_stays [] old new replies runs = ap (λ (it : NumberedHub T U B D). it.hub.expired_connection_buffer) runs.1
   buffer_stays (asked ∷ more) old new replies (reply, mid, rest, step, runs, is) =
       buffer_stays more mid new rest runs
-      ∙ (step_takes payload user_header types choices is_default_header asked.fixed degrades decides asked.fixed_reader reader_degrades old
-      mid reply asked.asked step.0).buffer
+      ∙ (step_takes (terms_by asked.fixed asked.fixed_reader) old mid reply asked.asked step.0).buffer
 
   -- what is pledged isn't looked at
   repledged : (names : List (List ℕ)) (most : ℕ) (old : NumberedHub T U B D) (state : State T) (pledged : Pledged)
@@ -270,8 +271,7 @@ module _ {T U B D : Type 0} (payload user_header : Detail) (types : MessageTypeD
     one_on it most old new state answer asks few stood (step, chosen) =
         let followed = each it.fixed it.fixed_reader names it.asked stood.taken stood.naming stood.order old new state answer own asks
         (chosen answer refl) (most, stood.ran, few) stood.came stood.stands step in
-        let takes = step_takes payload user_header types choices is_default_header it.fixed degrades decides it.fixed_reader
-        reader_degrades old new answer it.asked step in record {
+        let takes = step_takes (terms_by it.fixed it.fixed_reader) old new answer it.asked step in record {
           after = followed.after;
           step = followed.step;
           stands = record {
@@ -281,8 +281,7 @@ module _ {T U B D : Type 0} (payload user_header : Detail) (types : MessageTypeD
             stands = followed.stands;
             came = subst (λ (buffer : ℕ). IsCome types choices buffer followed.after) (sym takes.buffer)
                 (came_more types choices old.hub.expired_connection_buffer it.asked state followed.after answer stood.came followed.step);
-            ran = step_runs_on payload user_header types choices is_default_header it.fixed degrades decides it.fixed_reader reader_degrades
-                old new answer most it.asked step stood.ran;
+            ran = step_runs_on (terms_by it.fixed it.fixed_reader) old new answer most it.asked step stood.ran;
           };
         }
 
@@ -301,8 +300,7 @@ module _ {T U B D : Type 0} (payload user_header : Detail) (types : MessageTypeD
         let one = one_on asked most old mid state reply asks.0 (omega (arith, few)) it step in
         let later = all_on more (most + (1 + steps_named asked.asked)) mid new one.after rest asks.1 (omega (arith, few)) one.stands
         runs in
-        let takes = step_takes payload user_header types choices is_default_header asked.fixed degrades decides asked.fixed_reader
-        reader_degrades old mid reply asked.asked step.0 in
+        let takes = step_takes (terms_by asked.fixed asked.fixed_reader) old mid reply asked.asked step.0 in
         let even : most + (1 + steps_named asked.asked) + all_asked (asked_of more)
         ≡ most + (1 + steps_named asked.asked + all_asked (asked_of more))
         = omega arith in record {
@@ -372,8 +370,7 @@ module _ {T U B D : Type 0} (payload user_header : Detail) (types : MessageTypeD
                           )),
                     ),
               ))
-              (lacks payload user_header types choices is_default_header asked.fixed degrades decides asked.fixed_reader reader_degrades mid
-              new lacking asked.asked lack.0);
+              (lacks (terms_by asked.fixed asked.fixed_reader) mid new lacking asked.asked lack.0);
         }
 
     goes_on : (commands : List (Decided T B D)) (most : ℕ) (old new : NumberedHub T U B D) (state : State T) (replies : List (Reply T))
@@ -393,82 +390,70 @@ module _ {T U B D : Type 0} (payload user_header : Detail) (types : MessageTypeD
   decided_go_on each names most commands old new state replies stopped own asks few it runs =
       goes_on each names own commands most old new state replies stopped asks few it runs
 
-module _ {T U B D : Type 0} (payload user_header : Detail) (types : MessageTypeDetails) (choices : Choices T)
-    (is_default_header : U → Type 0)
-    (fixed : BackpressureStrategy → Option BackpressureAction → DegradationAction → B)
-    (degrades : B → DegradationCause → DegradationInfo → DegradationAction → Type 0)
-    (decides : B → BackpressureInfo → BackpressureDecision → Type 0)
-    (fixed_reader : DegradationAction → D)
-    (reader_degrades : D → DegradationCause → DegradationInfo → DegradationAction → Type 0) where
-  pub runs_go_on : DecidedRunsGoOn types choices degrades decides reader_degrades payload user_header is_default_header
-      → RunsGoOn payload user_header types choices is_default_header fixed degrades decides fixed_reader reader_degrades
+module _ {T U B D : Type 0} (terms : Terms T U B D) (choices : Choices T) where
+  pub runs_go_on : DecidedRunsGoOn terms.types choices terms.degrades terms.decides terms.reader_degrades terms.payload terms.user_header
+      terms.is_default_header
+      → RunsGoOn terms choices
   runs_go_on on names most commands old new state replies stopped decides_so answers_so may_name own asks few it runs =
-      let same = own_commands fixed fixed_reader commands in
-      subst (λ (them : List (Command T)). RunGoesOn types choices degrades decides reader_degrades names most
+      let same = own_commands terms.fixed terms.fixed_reader commands in
+      subst (λ (them : List (Command T)). RunGoesOn terms.types choices terms.degrades terms.decides terms.reader_degrades names most
       old.hub.expired_connection_buffer them state replies stopped new) same
-      (on names most (by_actions fixed fixed_reader commands) old new state replies stopped own
+      (on names most (by_actions terms.fixed terms.fixed_reader commands) old new state replies stopped own
       (subst (AllByRecursion (AsksAmong names)) (sym same) asks)
       (subst (λ (them : List (Command T)). most + all_asked them < 2 ^ 56) (sym same) few) it
-      (run_chosen choices payload user_header types is_default_header fixed degrades decides fixed_reader reader_degrades decides_so
-      answers_so commands old new replies stopped it.ran.rise may_name runs))
+      (run_chosen choices terms decides_so answers_so commands old new replies stopped it.ran.rise may_name runs))
 
-module _ {T U B D : Type 0} (payload user_header : Detail) (types : MessageTypeDetails) (is_default : T → Type 0)
-    (is_default_header : U → Type 0)
-    (fixed : BackpressureStrategy → Option BackpressureAction → DegradationAction → B)
-    (degrades : B → DegradationCause → DegradationInfo → DegradationAction → Type 0)
-    (decides : B → BackpressureInfo → BackpressureDecision → Type 0)
-    (fixed_reader : DegradationAction → D)
-    (reader_degrades : D → DegradationCause → DegradationInfo → DegradationAction → Type 0) where
+module _ {T U B D : Type 0} (terms : Terms T U B D) where
   -- ---- a new hub
 
-  module _ (on : RunsGoOn payload user_header types (as_named is_default) is_default_header fixed degrades decides fixed_reader
-      reader_degrades)
-      (begins : NewHubBegins U types (as_named is_default) degrades decides reader_degrades) where
+  module _ (on : RunsGoOn terms (as_named terms.is_default))
+      (begins : NewHubBegins U terms.types (as_named terms.is_default) terms.degrades terms.decides terms.reader_degrades) where
     answers_so : (config : HubConfig) (commands : List (Command T)) (old new : NumberedHub T U B D) (replies : List (Reply T))
         (stopped : Bool) → old.hub.expired_connection_buffer ≡ config.expired_connection_buffer
         → (stopped ≡ true → StopsInTime commands old (length replies) new)
-        → RunGoesOn types (as_named is_default) degrades decides reader_degrades
+        → RunGoesOn terms.types (as_named terms.is_default) terms.degrades terms.decides terms.reader_degrades
         (names_in commands) 0 old.hub.expired_connection_buffer commands new_state replies stopped new
-        → machine.Answers types (as_named is_default) config.expired_connection_buffer commands stopped replies
+        → machine.Answers terms.types (as_named terms.is_default) config.expired_connection_buffer commands stopped replies
     answers_so config commands old new replies false same stops it = (
       commands,
       [],
       it.after,
       sym (append-nil commands),
       refl,
-      subst (λ (n : ℕ). machine.Runs types (as_named is_default) n commands new_state replies it.after) same it.runs,
+      subst (λ (n : ℕ). machine.Runs terms.types (as_named terms.is_default) n commands new_state replies it.after) same it.runs,
     )
     answers_so config commands old new replies true same stops it =
-        let runs = subst (λ (n : ℕ). machine.Runs types (as_named is_default) n it.first new_state replies it.after) same it.runs in (
+        let runs = subst (λ (n : ℕ). machine.Runs terms.types (as_named terms.is_default) n it.first new_state replies it.after) same
+        it.runs in (
           it.first,
           it.asked ∷ it.rest,
           it.after,
           it.are,
           may_stop it.first it.rest it.asked replies
-              (one_each types (as_named is_default) config.expired_connection_buffer it.first new_state it.after replies runs)
+              (one_each terms.types (as_named terms.is_default) config.expired_connection_buffer it.first new_state it.after replies runs)
               (⊎_elim (λ never. inl never.0)
               (λ lacks. inr (subst (λ (them : List (Command T)). LacksValues them (length replies)) it.are lacks)) (stops refl)),
           runs,
         )
 
-    pub run_answers : RunAnswers payload user_header types is_default is_default_header fixed degrades decides fixed_reader reader_degrades
+    pub run_answers : RunAnswers terms
     run_answers config commands old new replies stopped runs stops decides_so answers_fixed is_new own few =
         answers_so config commands old new replies stopped is_new.expired_connection_buffer
         (stops (new_has_room config old is_new) (new_runs_on config old is_new).grown)
-        (on (names_in commands) 0 commands old new new_state replies stopped decides_so answers_fixed (all_named is_default old) own
+        (on (names_in commands) 0 commands old new new_state replies stopped decides_so answers_fixed (all_named terms.is_default old) own
         (all_among commands)
         (omega (arith, few)) (begins (names_in commands) config old is_new) runs)
 
-    pub run_stands : RunStands payload user_header types is_default is_default_header fixed degrades decides fixed_reader reader_degrades
+    pub run_stands : RunStands terms
     run_stands config commands old new replies runs decides_so answers_fixed is_new own few =
-        let it = on (names_in commands) 0 commands old new new_state replies false decides_so answers_fixed (all_named is_default old) own
-        (all_among commands)
+        let it = on (names_in commands) 0 commands old new new_state replies false decides_so answers_fixed
+        (all_named terms.is_default old) own (all_among commands)
         (omega (arith, few)) (begins (names_in commands) config old is_new) runs in (
           it.stands.taken,
           it.stands.naming,
           it.stands.order,
           it.after,
-          subst (λ (n : ℕ). machine.Runs types (as_named is_default) n commands new_state replies it.after)
+          subst (λ (n : ℕ). machine.Runs terms.types (as_named terms.is_default) n commands new_state replies it.after)
               is_new.expired_connection_buffer it.runs,
           it.stands.stands,
         )

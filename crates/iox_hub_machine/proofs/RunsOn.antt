@@ -13,14 +13,11 @@ use Rattle.std.specs.Ordering.{nat_cmp}
 use Rattle.std.specs.Prelude.{◌==◌}
 use Rattle.std.specs.declared.cmp.Ordering.TheVariants.{Less}
 use Rattle.iox_command.specs.DomainValues.declared.backpressure.BackpressureAction.{BackpressureAction}
-use Rattle.iox_command.specs.DomainValues.declared.backpressure.BackpressureDecision.{BackpressureDecision}
-use Rattle.iox_command.specs.DomainValues.declared.backpressure.BackpressureInfo.{BackpressureInfo}
 use Rattle.iox_command.specs.DomainValues.declared.backpressure_strategy.BackpressureStrategy.{BackpressureStrategy}
 use Rattle.iox_command.specs.DomainValues.declared.degradation.DegradationAction.{DegradationAction}
 use Rattle.iox_command.specs.DomainValues.declared.degradation.DegradationCause.{DegradationCause}
 use Rattle.iox_command.specs.DomainValues.declared.degradation.DegradationInfo.{DegradationInfo}
 use Rattle.iox_command.specs.NegotiateBase.DescribeBase.Detail.{Detail}
-use Rattle.iox_command.specs.NegotiateBase.DescribeBase.declared.message_type.MessageTypeDetails.{MessageTypeDetails}
 use Rattle.iox_command.specs.NegotiateBase.DescribeSettings.declared.static_config.Settings.{Settings}
 use Rattle.iox_command.specs.declared.command.Command.{Command}
 use Rattle.iox_command.specs.declared.command.Command.TheVariants as command
@@ -54,6 +51,7 @@ use Rattle.iox_hub_commands.specs.PortRoom.{HasRoom, OfPorts}
 use Rattle.iox_hub_commands.specs.Services.{PublisherComes, SubscriberComes, domain_of_factory, owner_of_factory}
 use Rattle.iox_hub_commands.specs.ServicesTables.{publish_subscribe_in}
 use Rattle.iox_hub_commands.specs.declared.numbered_hub.NumberedHub.{NumberedHub}
+use Rattle.iox_hub_commands.specs.Terms.{Terms}
 use Rattle.iox_hub_commands.proofs.Measures.{AreFine, IsFineAt, total}
 use Rattle.iox_hub_commands.proofs.PortsCount.{Balances, brought_at, held_at, publisher_balances, subscriber_balances}
 use Rattle.iox_hub_commands.proofs.ServicesAgree.{nothing_agrees}
@@ -68,7 +66,6 @@ use Rattle.iox_hub_machine.proofs.PortMeasure.{port_measure}
 use Rattle.iox_hub_machine.proofs.PortsRest.{port_leaves}
 use Rattle.iox_hub_machine.specs.Ran.{AreRising, RanAtMost, port_count}
 use Rattle.iox_hub_machine.specs.RunLaws.{steps_named}
-use Rattle.iox_machine.specs.Choices.{Choices}
 use Rattle.iox_machine.proofs.Ported.{is_of_ports}
 use Rattle.iox_negotiate.proofs.Maps.{Distinct, Rising, insert-rising, remove-rising, rising-distinct, weaker}
 
@@ -223,38 +220,30 @@ module _ {T U B D : Type 0} where
   closing number old =
       λ rises. remove-rising nat_cmp nat_cmp_total (λ x y same. exact_unsigned x y same) (is_at (nat_cmp number)) old.domains rises
 
-  module _ (payload user_header : Detail) (types : MessageTypeDetails) (choices : Choices T) (is_default_header : U → Type 0)
-      (fixed : BackpressureStrategy → Option BackpressureAction → DegradationAction → B)
-      (degrades : B → DegradationCause → DegradationInfo → DegradationAction → Type 0)
-      (decides : B → BackpressureInfo → BackpressureDecision → Type 0) (fixed_reader : DegradationAction → D)
-      (reader_degrades : D → DegradationCause → DegradationInfo → DegradationAction → Type 0) (old new : NumberedHub T U B D)
-      (answer : Reply T) where
+  module _ (terms : Terms T U B D) (old new : NumberedHub T U B D) (answer : Reply T) where
     abbrev Steps : Command T → Type 0
-    Steps asked = hub.Step payload user_header types choices.is_default is_default_header fixed degrades decides fixed_reader
-        reader_degrades asked
-        old (Ok answer) new
+    Steps asked = hub.Step terms asked old (Ok answer) new
 
     abbrev FewMore : Type 0
     FewMore = total port_measure new.hub.services.domains ≤ total port_measure old.hub.services.domains + 6
 
     of_ports : (asked : Command T) → Steps asked → OfPorts FewMore asked
     of_ports (command.Publisher factory options) step =
-        publisher_few is_default_header fixed degrades (publish_subscribe_in (value_at old.factories.made factory)) options old new answer
-        step
+        publisher_few terms.is_default_header terms.fixed terms.degrades (publish_subscribe_in (value_at old.factories.made factory))
+        options old new answer step
     of_ports (command.Subscriber factory options) step =
-        subscriber_few fixed_reader reader_degrades (publish_subscribe_in (value_at old.factories.made factory)) options old new answer step
+        subscriber_few terms.fixed_reader terms.reader_degrades (publish_subscribe_in (value_at old.factories.made factory)) options old
+        new answer step
     of_ports other step = tt
 
     few_more : (asked : Command T) → Steps asked → FewMore
     few_more asked step =
-        step_holds port_measure payload user_header types choices.is_default is_default_header fixed degrades decides fixed_reader
-        reader_degrades
-        old new FewMore (λ keeps. balanced 0 old new (omega arith) keeps.1) asked (Ok answer) step (of_ports asked step)
+        step_holds port_measure terms old new FewMore (λ keeps. balanced 0 old new (omega arith) keeps.1) asked (Ok answer) step
+        (of_ports asked step)
 
     by_ports : (asked : Command T) → Steps asked → is_of_ports asked ≡ true → TakesSome 17 old.hub new.hub
     by_ports asked step is =
-        let leaves = port_leaves payload user_header types choices is_default_header fixed degrades decides fixed_reader reader_degrades
-        old new answer asked is step in
+        let leaves = port_leaves terms old new answer asked is step in
         let nodes = ap (λ (it : Hub T U B D). it.nodes) leaves.hub.rest in
         let locks = ap (λ (it : Hub T U B D). it.table.next) leaves.hub.rest in record {
           buffer = ap (λ (it : Hub T U B D). it.expired_connection_buffer) leaves.hub.rest;
@@ -274,15 +263,18 @@ module _ {T U B D : Type 0} where
         }
     step_takes (command.Create node name options attributes steps) (made, does, same, told) =
         few_taken (length steps) old.hub new.hub
-        (create_takes payload user_header types _ steps old.factories.made new.factories.made old.hub new.hub _ attributes made does)
+        (create_takes terms.payload terms.user_header terms.types _ steps old.factories.made new.factories.made old.hub new.hub _
+        attributes made does)
     step_takes (command.Open node name options required steps) (made, does, same, told) =
         few_taken (length steps) old.hub new.hub
-        (open_takes payload user_header types _ steps old.factories.made new.factories.made old.hub new.hub _ required made does)
+        (open_takes terms.payload terms.user_header terms.types _ steps old.factories.made new.factories.made old.hub new.hub _ required
+        made does)
     step_takes (command.OpenOrCreate node name options required steps) (made, does, same, told) =
         few_taken (length steps) old.hub new.hub
-        (either_takes payload user_header types _ steps old.factories.made new.factories.made old.hub new.hub _ required made does)
+        (either_takes terms.payload terms.user_header terms.types _ steps old.factories.made new.factories.made old.hub new.hub _ required
+        made does)
     step_takes (command.Foreign pattern name steps) (acted, acts, same, told) =
-        few_taken (length steps) old.hub new.hub (foreign_takes pattern name types steps old.hub new.hub acted acts)
+        few_taken (length steps) old.hub new.hub (foreign_takes pattern name terms.types steps old.hub new.hub acted acts)
     step_takes (command.Close factory) (closed, closes, same, told) =
         few_taken 0 old.hub new.hub
         (takes_more 17 (most_taken 0) old.hub new.hub (omega arith)
@@ -308,23 +300,22 @@ module _ {T U B D : Type 0} where
 
     rests : (asked : Command T) → Steps asked → is_of_ports asked ≡ true → Ascends old.hub.services new.hub.services
     rests asked step is =
-        (port_leaves payload user_header types choices is_default_header fixed degrades decides fixed_reader reader_degrades old new
-        answer asked is step).hub.rising
+        (port_leaves terms old new answer asked is step).hub.rising
 
     step_ascends : (asked : Command T) → Steps asked → Ascends old.hub.services new.hub.services
     step_ascends command.Node step =
         still old.hub.services new.hub.services (ap (λ (it : NumberedHub T U B D). it.hub.services) step.1)
     step_ascends (command.Create node name options attributes steps) (made, does, same, told) =
-        create_go Ascends still opening closing _ payload user_header types _ attributes steps old.factories.made new.factories.made old.hub
-        new.hub made does
+        create_go Ascends still opening closing _ terms.payload terms.user_header terms.types _ attributes steps old.factories.made
+        new.factories.made old.hub new.hub made does
     step_ascends (command.Open node name options required steps) (made, does, same, told) =
-        open_go Ascends still opening closing _ payload user_header types _ required steps old.factories.made new.factories.made old.hub
-        new.hub made does
+        open_go Ascends still opening closing _ terms.payload terms.user_header terms.types _ required steps old.factories.made
+        new.factories.made old.hub new.hub made does
     step_ascends (command.OpenOrCreate node name options required steps) (made, does, same, told) =
-        either_go Ascends still opening closing _ payload user_header types _ required steps old.factories.made new.factories.made old.hub
-        new.hub made does
+        either_go Ascends still opening closing _ terms.payload terms.user_header terms.types _ required steps old.factories.made
+        new.factories.made old.hub new.hub made does
     step_ascends (command.Foreign pattern name steps) (acted, acts, same, told) =
-        foreign_go Ascends still opening closing pattern name types steps old.hub new.hub acted acts
+        foreign_go Ascends still opening closing pattern name terms.types steps old.hub new.hub acted acts
     step_ascends (command.Close factory) (closed, closes, same, told) =
         close_go Ascends still opening closing factory _ old.factories.made new.factories.made old.hub new.hub closed closes
     step_ascends (command.Publisher factory options) step = rests (command.Publisher factory options) step refl
@@ -349,11 +340,9 @@ module _ {T U B D : Type 0} where
     -- one command more
     pub step_runs_on : (most : ℕ) (asked : Command T) → Steps asked → RanAtMost most old → RanAtMost (most + (1 + steps_named asked)) new
     step_runs_on most asked step on =
-        let changes = step_changes payload user_header types choices.is_default is_default_header fixed degrades decides fixed_reader
-        reader_degrades asked old new (Ok answer) step in
+        let changes = step_changes terms asked old new (Ok answer) step in
         let ((id, moves), agrees)
-        = step_goes payload user_header types choices.is_default is_default_header fixed degrades decides fixed_reader
-        reader_degrades asked old new (Ok answer) step in
+        = step_goes terms asked old new (Ok answer) step in
         let goes = numbers_go_on old new changes in
         let takes = step_takes asked step in
         let used = changes_count old new changes in

@@ -3,17 +3,8 @@ use Rattle.std.proofs.Common.{◌≡◌, ℕ, ◌&&◌, Bool, true, false, List,
 use Rattle.std.proofs.lemmas.Bool.{eq-eqb}
 use Rattle.std.specs.Option.{option_map}
 use Rattle.std.specs.Prelude.{nat_le, MatchBool, MatchOption}
-use Rattle.iox_command.specs.DomainValues.declared.backpressure.BackpressureAction.{BackpressureAction}
-use Rattle.iox_command.specs.DomainValues.declared.backpressure.BackpressureDecision.{BackpressureDecision}
-use Rattle.iox_command.specs.DomainValues.declared.backpressure.BackpressureInfo.{BackpressureInfo}
-use Rattle.iox_command.specs.DomainValues.declared.backpressure_strategy.BackpressureStrategy.{BackpressureStrategy}
-use Rattle.iox_command.specs.DomainValues.declared.degradation.DegradationAction.{DegradationAction}
-use Rattle.iox_command.specs.DomainValues.declared.degradation.DegradationCause.{DegradationCause}
-use Rattle.iox_command.specs.DomainValues.declared.degradation.DegradationInfo.{DegradationInfo}
 use Rattle.iox_command.specs.NegotiateBase.DescribeBase.Attributes.{Required}
-use Rattle.iox_command.specs.NegotiateBase.DescribeBase.Detail.{Detail}
 use Rattle.iox_command.specs.NegotiateBase.DescribeBase.declared.attribute.Attribute.{Attribute}
-use Rattle.iox_command.specs.NegotiateBase.DescribeBase.declared.message_type.MessageTypeDetails.{MessageTypeDetails}
 use Rattle.iox_command.specs.NegotiateBase.DescribeBase.declared.pattern.MessagingPattern.{MessagingPattern}
 use Rattle.iox_command.specs.NegotiateBase.declared.errors.close.CloseError.{CloseError}
 use Rattle.iox_command.specs.NegotiateBase.declared.errors.close.CloseError.TheVariants.{StillInUse}
@@ -40,6 +31,7 @@ use Rattle.iox_hub_commands.specs.ServicesTables.{parts_of}
 use Rattle.iox_hub_commands.specs.declared.numbered_hub.NumberedHub.{NumberedHub}
 use Rattle.iox_hub_commands.specs.declared.services.asked.ServiceAsked.{ServiceAsked}
 use Rattle.iox_hub_commands.specs.declared.services.made.MadeFactory.{MadeFactory}
+use Rattle.iox_hub_commands.specs.Terms.{Terms}
 use Rattle.iox_hub_machine.proofs.Numbered.{goes_so}
 use Rattle.iox_hub_machine.proofs.PortsStay.{ports_stay}
 use Rattle.iox_hub_machine.specs.ServiceLaws.{IsOnServices, SkippedMatches}
@@ -98,20 +90,17 @@ by_each : {V : Type 0} {P : Type 0} (Q : V → Type 0) (found : Option V) → P 
 by_each Q None p q = p
 by_each Q (Some v) p q = q v
 
-module _ {T U B D : Type 0} (payload user_header : Detail) (types : MessageTypeDetails) (choices : Choices T)
-    (is_default_header : U → Type 0) (fixed : BackpressureStrategy → Option BackpressureAction → DegradationAction → B)
-    (degrades : B → DegradationCause → DegradationInfo → DegradationAction → Type 0)
-    (decides : B → BackpressureInfo → BackpressureDecision → Type 0) (fixed_reader : DegradationAction → D)
-    (reader_degrades : D → DegradationCause → DegradationInfo → DegradationAction → Type 0) where
+module _ {T U B D : Type 0} (terms : Terms T U B D) (choices : Choices T) where
   module _ (names : List (List ℕ)) (taken : MessagingPattern → List ℕ → List ℕ) (naming : ℕ → Naming)
       (order : List (ℕ × ServicePorts T U)) (old new : NumberedHub T U B D)
-      (state : State T) (stands : HubStandsFor choices degrades decides reader_degrades names taken naming order old state) where
+      (state : State T) (stands : HubStandsFor choices terms.degrades terms.decides terms.reader_degrades names taken naming order old
+      state) where
     -- a hub stands still where others may be pledged
     pub stands_still : new.hub ≡ old.hub → new.factories.made ≡ old.factories.made → new.made ≡ old.made
-        → HubStandsFor choices degrades decides reader_degrades names taken naming order new state
+        → HubStandsFor choices terms.degrades terms.decides terms.reader_degrades names taken naming order new state
     stands_still same_hub same_factories same_made =
-        subst (λ (hub : NumberedHub T U B D). HubStandsFor choices degrades decides reader_degrades names taken naming order hub state)
-        (sym (λ i. record {
+        subst (λ (hub : NumberedHub T U B D). HubStandsFor choices terms.degrades terms.decides terms.reader_degrades names taken naming
+        order hub state) (sym (λ i. record {
           hub = same_hub i;
           factories = record { made = same_factories i };
           made = same_made i;
@@ -131,9 +120,8 @@ module _ {T U B D : Type 0} (payload user_header : Detail) (types : MessageTypeD
             opened = stands.factories.opened;
           };
           served = stands.served;
-          ports = ports_stay choices degrades decides reader_degrades naming order old state old.hub.table old.hub.nodes state.made.nodes
-              old.factories
-              new.pledged state.phases stands.ports;
+          ports = ports_stay choices terms.degrades terms.decides terms.reader_degrades naming order old state old.hub.table old.hub.nodes
+              state.made.nodes old.factories new.pledged state.phases stands.ports;
         })
 
     -- a node that isn't one of the hub isn't one of the machine
@@ -148,7 +136,8 @@ module _ {T U B D : Type 0} (payload user_header : Detail) (types : MessageTypeD
     -- what the hub does where it answers so
     create_skipped : (b : Bool) (asked : ServiceAsked) (attributes : List Attribute) (steps : List StepBefore)
         (made : Option (Result ℕ Refusal))
-        → CreatesNumbered b payload user_header types asked attributes steps old.factories.made old.hub made new.factories.made new.hub
+        → CreatesNumbered b terms.payload terms.user_header terms.types asked attributes steps old.factories.made old.hub made
+        new.factories.made new.hub
         → ◌≡◌ {A = Reply T} reply.Skipped (factory_reply made)
         → (b ≡ false) × (new.factories.made ≡ old.factories.made) × (new.hub ≡ old.hub)
     create_skipped false asked attributes steps made does is = (refl, does.1, does.2)
@@ -158,7 +147,8 @@ module _ {T U B D : Type 0} (payload user_header : Detail) (types : MessageTypeD
         made_something told (is ∙ ap factory_reply answers)
 
     open_skipped : (b : Bool) (asked : ServiceAsked) (required : Required) (steps : List StepBefore) (made : Option (Result ℕ Refusal))
-        → OpensNumbered b payload user_header types asked required steps old.factories.made old.hub made new.factories.made new.hub
+        → OpensNumbered b terms.payload terms.user_header terms.types asked required steps old.factories.made old.hub made
+        new.factories.made new.hub
         → ◌≡◌ {A = Reply T} reply.Skipped (factory_reply made)
         → (b ≡ false) × (new.factories.made ≡ old.factories.made) × (new.hub ≡ old.hub)
     open_skipped false asked required steps made does is = (refl, does.1, does.2)
@@ -166,7 +156,8 @@ module _ {T U B D : Type 0} (payload user_header : Detail) (types : MessageTypeD
         made_something told (is ∙ ap factory_reply answers)
 
     either_skipped : (b : Bool) (asked : ServiceAsked) (required : Required) (steps : List StepBefore) (made : Option (Result ℕ Refusal))
-        → EitherNumbered b payload user_header types asked required steps old.factories.made old.hub made new.factories.made new.hub
+        → EitherNumbered b terms.payload terms.user_header terms.types asked required steps old.factories.made old.hub made
+        new.factories.made new.hub
         → ◌≡◌ {A = Reply T} reply.Skipped (factory_reply made)
         → (b ≡ false) × (new.factories.made ≡ old.factories.made) × (new.hub ≡ old.hub)
     either_skipped false asked required steps made does is = (refl, does.1, does.2)
@@ -200,30 +191,29 @@ module _ {T U B D : Type 0} (payload user_header : Detail) (types : MessageTypeD
     -- what the machine does then
     opens_so : (named : ServiceOptions) (node : ℕ) (name : List ℕ) (required : Required) (steps : List StepBefore)
         → is_node node old.hub.nodes ≡ false
-        → OpensService types steps (factory_of node name named) named required state reply.Skipped state
+        → OpensService terms.types steps (factory_of node name named) named required state reply.Skipped state
     opens_so (options.PublishSubscribe named) node name required steps is = by_false _ _ _ (no_node node is) (refl, refl)
     opens_so (options.Event named) node name required steps is = by_false _ _ _ (no_node node is) (refl, refl)
     opens_so (options.RequestResponse named) node name required steps is = by_false _ _ _ (no_node node is) (refl, refl)
 
     either_so : (named : ServiceOptions) (node : ℕ) (name : List ℕ) (required : Required) (steps : List StepBefore)
         → is_node node old.hub.nodes ≡ false
-        → OpensOrCreatesService types steps (factory_of node name named) named required state reply.Skipped state
+        → OpensOrCreatesService terms.types steps (factory_of node name named) named required state reply.Skipped state
     either_so (options.PublishSubscribe named) node name required steps is = by_false _ _ _ (no_node node is) (refl, refl)
     either_so (options.Event named) node name required steps is = by_false _ _ _ (no_node node is) (refl, refl)
     either_so (options.RequestResponse named) node name required steps is = by_false _ _ _ (no_node node is) (refl, refl)
 
     abbrev Followed : Command T → Type 0
-    Followed asked = machine.Step types choices old.hub.expired_connection_buffer asked state reply.Skipped state
-        × HubStandsFor choices degrades decides reader_degrades names taken naming order new state
+    Followed asked = machine.Step terms.types choices old.hub.expired_connection_buffer asked state reply.Skipped state
+        × HubStandsFor choices terms.degrades terms.decides terms.reader_degrades names taken naming order new state
 
     pub skips : (asked : Command T) → IsOnServices asked
-        → hub.Step payload user_header types choices.is_default is_default_header fixed degrades decides fixed_reader reader_degrades
-        asked old
-        (Ok reply.Skipped) new
+        → hub.Step (record terms { is_default = choices.is_default }) asked old (Ok reply.Skipped) new
         → Followed asked
     skips (command.Create node name named attributes steps) is (made, does, same, told) =
         let so = create_skipped _ _ attributes steps made does told in (
-          by_each (λ failure. RefusesNode node (create_refusal named failure) state reply.Skipped state) (unfit (settings_of types named))
+          by_each (λ failure. RefusesNode node (create_refusal named failure) state reply.Skipped state)
+              (unfit (settings_of terms.types named))
               (by_false _ _ _ (no_node node so.0) (refl, refl)) (λ failure. by_false _ _ _ (no_node node so.0) (refl, refl)),
           stands_still so.2 so.1 same,
         )
@@ -238,7 +228,6 @@ module _ {T U B D : Type 0} (payload user_header : Detail) (types : MessageTypeD
         (by_none _ _ (no_factory factory so.0) (refl, refl), stands_still so.2 so.1 same)
     skips other is does = absurd is
 
-  pub skipped_matches : SkippedMatches payload user_header types choices is_default_header fixed degrades decides fixed_reader
-      reader_degrades
+  pub skipped_matches : SkippedMatches terms choices
   skipped_matches names asked taken naming order old new state is stands does
       = skips names taken naming order old new state stands asked is does

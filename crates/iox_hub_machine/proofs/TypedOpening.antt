@@ -52,7 +52,7 @@ use Rattle.iox_hub_machine.proofs.Created.{creation_followed}
 use Rattle.iox_hub_machine.proofs.CreatedBeside.{beside}
 use Rattle.iox_hub_machine.proofs.FoundStanding.{look_finds}
 use Rattle.iox_hub_machine.proofs.Running.{came_more}
-use Rattle.iox_hub_machine.proofs.TypedSteps.{by_step}
+use Rattle.iox_hub_machine.proofs.TypedSteps.{by_step, typed_terms}
 use Rattle.iox_hub_machine.specs.ClosingLaws.{IsCome}
 use Rattle.iox_hub_machine.specs.Ran.{RanAtMost}
 use Rattle.iox_hub_machine.specs.TypedOpening.{CreateIsStep, ForeignIsStep, OpenIsStep, OpenOrCreateIsStep, opened_then}
@@ -255,8 +255,9 @@ module _ {T U B D : Type 0} (payload user_header : Detail) (variant : TypeVarian
       as_standing fits creates same still names most state decides_so answers_so own asks few it =
           let numbers = it.ran.numbers in
           let locks = it.ran.locks in
-          let followed = creation_followed payload user_header variant (as_named is_default) is_default_header fixed degrades decides
-          fixed_reader reader_degrades names node name named attributes steps asks it.taken it.naming it.order old
+          let followed = creation_followed variant (typed_terms payload user_header variant is_default is_default_header fixed degrades
+          decides fixed_reader reader_degrades) (as_named is_default) names node name named attributes steps asks it.taken it.naming
+          it.order old
           (opened_then old table hub) state own (record {
             rise = it.ran.rise.0;
             factories = omega (arith, few, numbers);

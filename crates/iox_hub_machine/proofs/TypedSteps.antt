@@ -17,6 +17,7 @@ use Rattle.iox_hub_commands.specs.CommandSteps as hub
 use Rattle.iox_hub_commands.specs.Tables.{IsRoomier}
 use Rattle.iox_hub_commands.specs.declared.numbered_hub.NumberedHub.{NumberedHub}
 use Rattle.iox_hub_commands.specs.declared.ports.made.Made.{Made}
+use Rattle.iox_hub_commands.specs.Terms.{Terms}
 use Rattle.iox_hub_machine.proofs.AllCommands.{commands_go_on}
 use Rattle.iox_hub_machine.proofs.NamedLater.{all_named}
 use Rattle.iox_hub_machine.proofs.RunsOn.{step_takes}
@@ -49,10 +50,24 @@ module _ {T U B D : Type 0} (payload user_header : Detail) (variant : TypeVarian
   abbrev types : MessageTypeDetails
   types = asked_types variant payload user_header
 
+  -- the terms of a hub whose messages are of these types
+  abbrev pub typed_terms : Terms T U B D
+  typed_terms = record {
+    payload = payload;
+    user_header = user_header;
+    types = types;
+    is_default = is_default;
+    is_default_header = is_default_header;
+    fixed = fixed;
+    degrades = degrades;
+    decides = decides;
+    fixed_reader = fixed_reader;
+    reader_degrades = reader_degrades;
+  }
+
   abbrev pub Does : Command T → NumberedHub T U B D → Reply T → NumberedHub T U B D → Type 0
   Does asked old answer new
-      = hub.Step payload user_header types is_default is_default_header fixed degrades decides fixed_reader reader_degrades
-      asked old (Ok answer) new
+      = hub.Step typed_terms asked old (Ok answer) new
 
   abbrev pub Stands : List (List ℕ) → ℕ → NumberedHub T U B D → State T → Type 0
   Stands names most hub state = StandsAfter types (as_named is_default) degrades decides reader_degrades names most hub state
@@ -81,12 +96,9 @@ module _ {T U B D : Type 0} (payload user_header : Detail) (variant : TypeVarian
   by_step asked old new answer does names most state decides_so answers_so own asks few it =
       let did = does names most state it in (
         one_of names most asked old new state answer
-            (commands_go_on payload user_header variant (as_named is_default) is_default_header fixed degrades decides fixed_reader
-            reader_degrades
-            names most (asked ∷ []) old new state (answer ∷ []) false decides_so answers_so (all_named is_default old) own (asks, tt)
+            (commands_go_on variant typed_terms (as_named is_default) names most (asked ∷ []) old new state (answer ∷ []) false decides_so
+            answers_so (all_named is_default old) own (asks, tt)
             (omega (arith, few)) it
             (answer, new, [], did, (refl, refl), refl)),
-        (step_takes payload user_header types (as_named is_default) is_default_header fixed degrades decides fixed_reader reader_degrades
-            old new
-            answer asked did).buffer,
+        (step_takes typed_terms old new answer asked did).buffer,
       )

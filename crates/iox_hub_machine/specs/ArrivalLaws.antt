@@ -12,8 +12,6 @@ use Rattle.iox_command.specs.DomainValues.declared.degradation.DegradationAction
 use Rattle.iox_command.specs.DomainValues.declared.degradation.DegradationCause.{DegradationCause}
 use Rattle.iox_command.specs.DomainValues.declared.degradation.DegradationCause.TheVariants.{FailedToEstablishConnection}
 use Rattle.iox_command.specs.DomainValues.declared.degradation.DegradationInfo.{DegradationInfo}
-use Rattle.iox_command.specs.NegotiateBase.DescribeBase.Detail.{Detail}
-use Rattle.iox_command.specs.NegotiateBase.DescribeBase.declared.message_type.MessageTypeDetails.{MessageTypeDetails}
 use Rattle.iox_command.specs.declared.command.Command.TheVariants as command
 use Rattle.iox_command.specs.declared.port.PublisherOptions.{PublisherOptions}
 use Rattle.iox_command.specs.declared.port.SubscriberOptions.{SubscriberOptions}
@@ -26,6 +24,7 @@ use Rattle.iox_hub_commands.specs.Agreements.{AreOfOneAgreement}
 use Rattle.iox_hub_commands.specs.Grown.{HaveGrown}
 use Rattle.iox_hub_commands.specs.Naming.{publisher_handlers, subscriber_handler}
 use Rattle.iox_hub_commands.specs.declared.numbered_hub.NumberedHub.{NumberedHub}
+use Rattle.iox_hub_commands.specs.Terms.{Terms}
 use Rattle.iox_hub_machine.specs.ServiceLaws.{FollowsIf}
 use Rattle.iox_machine.specs.Choices.{Choices}
 
@@ -85,31 +84,20 @@ pub record MayCome {T U B D : Type 0} (hub : NumberedHub T U B D) : Type 0 where
   pub agreed : AreOfOneAgreement hub.factories.made hub.hub
   pub counted : (id : DomainId) (ports : ServicePorts T U) → hub_ports id hub.hub ≡ Some ports → CanBeCounted ports
 
--- The two details are those of values and user headers, the types those of the messages; then what is a default value, and a default user
--- header; who decides for a port that names a strategy and actions, and what anybody who decides may answer.
-module _ {T U B D : Type 0} (payload user_header : Detail) (types : MessageTypeDetails) (choices : Choices T)
-    (is_default_header : U → Type 0)
-    (fixed : BackpressureStrategy → Option BackpressureAction → DegradationAction → B)
-    (degrades : B → DegradationCause → DegradationInfo → DegradationAction → Type 0)
-    (decides : B → BackpressureInfo → BackpressureDecision → Type 0)
-    (fixed_reader : DegradationAction → D)
-    (reader_degrades : D → DegradationCause → DegradationInfo → DegradationAction → Type 0) where
+-- The terms of the hub are given, and what may be chosen: the default values are those of the latter.
+module _ {T U B D : Type 0} (terms : Terms T U B D) (choices : Choices T) where
   -- A subscriber of a factory's service comes, or is refused, or the command is skipped. Whatever may be answered by who decides for it may
   -- be chosen for the subscriber of the number that it gets.
   abbrev pub SubscriberComingIsFollowed : Type 0
   SubscriberComingIsFollowed = (names : List (List ℕ)) (factory : ℕ) (options : SubscriberOptions)
-      → FollowsIf payload user_header types choices is_default_header fixed degrades decides fixed_reader reader_degrades names
-      (command.Subscriber factory options)
+      → FollowsIf terms choices names (command.Subscriber factory options)
       (λ old answer. MayCome old × (answer ≡ reply.SubscriberMade old.made.subscribers.next
-      → AnswersAsChosen choices reader_degrades (subscriber_handler fixed_reader options)
-      old.made.subscribers.next options))
+      → AnswersAsChosen choices terms.reader_degrades (subscriber_handler terms.fixed_reader options) old.made.subscribers.next options))
 
   -- A publisher of a factory's service comes, or is refused, or the command is skipped. Whatever may be answered and decided by who decides
   -- for it may be chosen for the publisher of the number that it gets.
   abbrev pub PublisherComingIsFollowed : Type 0
   PublisherComingIsFollowed = (names : List (List ℕ)) (factory : ℕ) (options : PublisherOptions)
-      → FollowsIf payload user_header types choices is_default_header fixed degrades decides fixed_reader reader_degrades names
-      (command.Publisher factory options)
+      → FollowsIf terms choices names (command.Publisher factory options)
       (λ old answer. MayCome old × (answer ≡ reply.PublisherMade old.made.publishers.next
-      → DecidesAsChosen choices degrades decides (publisher_handlers fixed options)
-      old.made.publishers.next options))
+      → DecidesAsChosen choices terms.degrades terms.decides (publisher_handlers terms.fixed options) old.made.publishers.next options))

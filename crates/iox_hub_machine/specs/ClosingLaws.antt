@@ -1,13 +1,5 @@
 -- What a hub does where a factory is closed is what the machine does.
-use Rattle.std.specs.Prelude.{ℕ, List, Option, Ok}
-use Rattle.iox_command.specs.DomainValues.declared.backpressure.BackpressureAction.{BackpressureAction}
-use Rattle.iox_command.specs.DomainValues.declared.backpressure.BackpressureDecision.{BackpressureDecision}
-use Rattle.iox_command.specs.DomainValues.declared.backpressure.BackpressureInfo.{BackpressureInfo}
-use Rattle.iox_command.specs.DomainValues.declared.backpressure_strategy.BackpressureStrategy.{BackpressureStrategy}
-use Rattle.iox_command.specs.DomainValues.declared.degradation.DegradationAction.{DegradationAction}
-use Rattle.iox_command.specs.DomainValues.declared.degradation.DegradationCause.{DegradationCause}
-use Rattle.iox_command.specs.DomainValues.declared.degradation.DegradationInfo.{DegradationInfo}
-use Rattle.iox_command.specs.NegotiateBase.DescribeBase.Detail.{Detail}
+use Rattle.std.specs.Prelude.{ℕ, List, Ok}
 use Rattle.iox_command.specs.NegotiateBase.DescribeBase.declared.message_type.MessageTypeDetails.{MessageTypeDetails}
 use Rattle.iox_command.specs.NegotiateBase.DescribeBase.declared.pattern.MessagingPattern.{MessagingPattern}
 use Rattle.iox_command.specs.declared.command.Command.{Command}
@@ -20,6 +12,7 @@ use Rattle.iox_hub_base.specs.declared.hub.Hub.{Hub}
 use Rattle.iox_hub_commands.specs.Agreements.{AreOfOneAgreement}
 use Rattle.iox_hub_commands.specs.CommandSteps as hub
 use Rattle.iox_hub_commands.specs.declared.numbered_hub.NumberedHub.{NumberedHub}
+use Rattle.iox_hub_commands.specs.Terms.{Terms}
 use Rattle.iox_hub_machine.specs.ServiceLaws.{IsFollowed}
 use Rattle.iox_hub_machine.specs.Services.{HubStandsFor}
 use Rattle.iox_machine.specs.Choices.{Choices}
@@ -36,24 +29,15 @@ IsCome {T} types choices buffer state =
 abbrev pub HasEachOnce : {T U B D : Type 0} → Hub T U B D → Type 0
 HasEachOnce hub = ComesOnce hub.services.domains × ComesOnce hub.factory_counts
 
--- The two details are those of values and user headers, the types those of the messages; then what is a default value, and a default user
--- header; who decides by fixed actions, and what anybody who decides may answer.
-module _ {T U B D : Type 0} (payload user_header : Detail) (types : MessageTypeDetails) (choices : Choices T)
-    (is_default_header : U → Type 0)
-    (fixed : BackpressureStrategy → Option BackpressureAction → DegradationAction → B)
-    (degrades : B → DegradationCause → DegradationInfo → DegradationAction → Type 0)
-    (decides : B → BackpressureInfo → BackpressureDecision → Type 0)
-    (fixed_reader : DegradationAction → D)
-    (reader_degrades : D → DegradationCause → DegradationInfo → DegradationAction → Type 0) where
+-- The terms of the hub are given, and what may be chosen: the default values are those of the latter.
+module _ {T U B D : Type 0} (terms : Terms T U B D) (choices : Choices T) where
   -- A factory is closed, or stays as it is in use. Each service of the hub has one agreement, no number stands twice, and a run of a new
   -- machine led to what the hub stands for.
   abbrev pub ClosingMatches : Type 0
   ClosingMatches = (names : List (List ℕ)) (factory : ℕ) (taken : MessagingPattern → List ℕ → List ℕ) (naming : ℕ → Naming)
       (order : List (ℕ × ServicePorts T U)) (old new : NumberedHub T U B D) (state : State T) (answer : Reply T)
       → HaveOwnHashes names → AreOfOneAgreement old.factories.made old.hub → HasEachOnce old.hub
-      → IsCome types choices old.hub.expired_connection_buffer state
-      → HubStandsFor choices degrades decides reader_degrades names taken naming order old state
-      → hub.Step payload user_header types choices.is_default is_default_header fixed degrades decides fixed_reader reader_degrades
-      (command.Close factory) old (Ok answer) new
-      → IsFollowed payload user_header types choices is_default_header fixed degrades decides fixed_reader reader_degrades names
-      (command.Close factory) old new state answer
+      → IsCome terms.types choices old.hub.expired_connection_buffer state
+      → HubStandsFor choices terms.degrades terms.decides terms.reader_degrades names taken naming order old state
+      → hub.Step (record terms { is_default = choices.is_default }) (command.Close factory) old (Ok answer) new
+      → IsFollowed terms choices names (command.Close factory) old new state answer

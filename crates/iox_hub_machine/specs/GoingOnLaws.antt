@@ -24,6 +24,7 @@ use Rattle.iox_hub_commands.specs.Numbers.{IsNew}
 use Rattle.iox_hub_commands.specs.Reading.{values_under}
 use Rattle.iox_hub_commands.specs.Runs.{IsRun}
 use Rattle.iox_hub_commands.specs.declared.numbered_hub.NumberedHub.{NumberedHub}
+use Rattle.iox_hub_commands.specs.Terms.{Terms}
 use Rattle.iox_hub_machine.specs.ArrivalLaws.{AnswersAsChosen, AnswersAsFixed, DecidesAsChosen, DecidesAsFixed, MayBeNamedLater}
 use Rattle.iox_hub_machine.specs.Ran.{StandsAfter}
 use Rattle.iox_hub_machine.specs.RunLaws.{AsksAmong, all_asked, steps_named}
@@ -105,13 +106,28 @@ module _ {T U B D : Type 0} (types : MessageTypeDetails) (choices : Choices T)
       → AnswersAsChosen choices reader_degrades (subscriber_handler fixed_reader options) old.made.subscribers.next options
   ComesAsChosen other fixed fixed_reader old answer = Unit {0}
 
+  -- the terms on which a command is carried out, where these decide for a port that comes by it
+  abbrev pub decided_terms : Detail → Detail → (U → Type 0) → (BackpressureStrategy → Option BackpressureAction → DegradationAction → B)
+      → (DegradationAction → D) → Terms T U B D
+  decided_terms payload user_header is_default_header fixed fixed_reader = record {
+    payload = payload;
+    user_header = user_header;
+    types = types;
+    is_default = choices.is_default;
+    is_default_header = is_default_header;
+    fixed = fixed;
+    degrades = degrades;
+    decides = decides;
+    fixed_reader = fixed_reader;
+    reader_degrades = reader_degrades;
+  }
+
   -- What each command does, with who decides for a port that comes by it, and what it is replied. Whatever may be decided and answered by
   -- that one may be chosen.
   abbrev pub DecidedStep : Detail → Detail → (U → Type 0) → Decided T B D → NumberedHub T U B D → Result (Reply T) AllocError
       → NumberedHub T U B D → Type 0
   DecidedStep payload user_header is_default_header command old answer new =
-      hub.Step payload user_header types choices.is_default is_default_header command.fixed degrades decides command.fixed_reader
-      reader_degrades command.asked old answer new
+      hub.Step (decided_terms payload user_header is_default_header command.fixed command.fixed_reader) command.asked old answer new
       × ((told : Reply T) → answer ≡ Ok told → ComesAsChosen command.asked command.fixed command.fixed_reader old told)
 
   -- A hub that stands for a state goes on as the machine does from there, whoever decides for the ports that come, where whatever that one
@@ -127,15 +143,8 @@ module _ {T U B D : Type 0} (types : MessageTypeDetails) (choices : Choices T)
       → IsRun (DecidedStep payload user_header is_default_header) commands old replies stopped new
       → RunGoesOn names most old.hub.expired_connection_buffer (asked_of commands) state replies stopped new
 
--- The two details are those of values and user headers, the types those of the messages; then what is a default value, and a default user
--- header; who decides by fixed actions, and what anybody who decides may answer.
-module _ {T U B D : Type 0} (payload user_header : Detail) (types : MessageTypeDetails) (choices : Choices T)
-    (is_default_header : U → Type 0)
-    (fixed : BackpressureStrategy → Option BackpressureAction → DegradationAction → B)
-    (degrades : B → DegradationCause → DegradationInfo → DegradationAction → Type 0)
-    (decides : B → BackpressureInfo → BackpressureDecision → Type 0)
-    (fixed_reader : DegradationAction → D)
-    (reader_degrades : D → DegradationCause → DegradationInfo → DegradationAction → Type 0) where
+-- The terms of the hub are given, and what may be chosen: the default values are those of the latter.
+module _ {T U B D : Type 0} (terms : Terms T U B D) (choices : Choices T) where
   -- A hub that stands for a state goes on as the machine does from there: what it replies to commands, from the first one on or until it
   -- stops, the machine may answer, and the hub stands for what the machine is then, or for what it is after one command more. So it is
   -- where no two services of the names that are asked for share a hash, all commands and steps, with those before the run, are fewer than
@@ -143,11 +152,11 @@ module _ {T U B D : Type 0} (payload user_header : Detail) (types : MessageTypeD
   abbrev pub RunsGoOn : Type 0
   RunsGoOn = (names : List (List ℕ)) (most : ℕ) (commands : List (Command T)) (old new : NumberedHub T U B D) (state : State T)
       (replies : List (Reply T)) (stopped : Bool)
-      → DecidesAsFixed fixed degrades decides → AnswersAsFixed fixed_reader reader_degrades → MayBeNamedLater choices old
+      → DecidesAsFixed terms.fixed terms.degrades terms.decides → AnswersAsFixed terms.fixed_reader terms.reader_degrades
+      → MayBeNamedLater choices old
       → HaveOwnHashes names → AllByRecursion (AsksAmong names) commands
       → most + all_asked commands < 2 ^ 56
-      → StandsAfter types choices degrades decides reader_degrades names most old state
-      → IsRun (hub.Step payload user_header types choices.is_default is_default_header fixed degrades decides fixed_reader reader_degrades)
-      commands old replies stopped new
-      → RunGoesOn types choices degrades decides reader_degrades names most old.hub.expired_connection_buffer commands state replies
-      stopped new
+      → StandsAfter terms.types choices terms.degrades terms.decides terms.reader_degrades names most old state
+      → IsRun (hub.Step (record terms { is_default = choices.is_default })) commands old replies stopped new
+      → RunGoesOn terms.types choices terms.degrades terms.decides terms.reader_degrades names most old.hub.expired_connection_buffer
+      commands state replies stopped new

@@ -42,9 +42,18 @@ module _ {T U B D : Type 0} (choices : Choices T) (is_default_header : U → Typ
       (fixed : BackpressureStrategy → Option BackpressureAction → DegradationAction → B) (fixed_reader : DegradationAction → D)
       (naming : ℕ → Naming) (order : List (ℕ × ServicePorts T U)) (new : NumberedHub T U B D) (state : State T) (answer : Reply T)
       → PortsStandFor choices degrades decides reader_degrades naming order old state
-      → hub.Step payload user_header types choices.is_default is_default_header fixed degrades decides fixed_reader reader_degrades asked
-      old
-      (Ok answer) new
+      → hub.Step (record {
+        payload = payload;
+        user_header = user_header;
+        types = types;
+        is_default = choices.is_default;
+        is_default_header = is_default_header;
+        fixed = fixed;
+        degrades = degrades;
+        decides = decides;
+        fixed_reader = fixed_reader;
+        reader_degrades = reader_degrades;
+      }) asked old (Ok answer) new
       → (naming_then : ℕ → Naming) × (order_then : List (ℕ × ServicePorts T U)) × (services : List (Service T))
       × (keys_of order_then ≡ keys_of order)
       × machine.Step types choices old.hub.expired_connection_buffer asked state answer (answered_with answer services state)

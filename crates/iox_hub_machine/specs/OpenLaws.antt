@@ -1,21 +1,13 @@
 -- What a hub does where a node opens a service, or creates it where none stands, is what the machine does.
-use Rattle.std.specs.Prelude.{ℕ, ◌+◌, ◌^◌, ◌<◌, List, length, Option}
+use Rattle.std.specs.Prelude.{ℕ, ◌+◌, ◌^◌, ◌<◌, List, length}
 use Rattle.std.specs.List.{IsAmong}
-use Rattle.iox_command.specs.DomainValues.declared.backpressure.BackpressureAction.{BackpressureAction}
-use Rattle.iox_command.specs.DomainValues.declared.backpressure.BackpressureDecision.{BackpressureDecision}
-use Rattle.iox_command.specs.DomainValues.declared.backpressure.BackpressureInfo.{BackpressureInfo}
-use Rattle.iox_command.specs.DomainValues.declared.backpressure_strategy.BackpressureStrategy.{BackpressureStrategy}
-use Rattle.iox_command.specs.DomainValues.declared.degradation.DegradationAction.{DegradationAction}
-use Rattle.iox_command.specs.DomainValues.declared.degradation.DegradationCause.{DegradationCause}
-use Rattle.iox_command.specs.DomainValues.declared.degradation.DegradationInfo.{DegradationInfo}
 use Rattle.iox_command.specs.NegotiateBase.DescribeBase.Attributes.{Required}
-use Rattle.iox_command.specs.NegotiateBase.DescribeBase.Detail.{Detail}
-use Rattle.iox_command.specs.NegotiateBase.DescribeBase.declared.message_type.MessageTypeDetails.{MessageTypeDetails}
 use Rattle.iox_command.specs.declared.command.Command.TheVariants as command
 use Rattle.iox_command.specs.declared.service.ServiceOptions.{ServiceOptions}
 use Rattle.iox_command.specs.declared.step.StepBefore.{StepBefore}
 use Rattle.iox_container.specs.NumberTable.{Rises}
 use Rattle.iox_hub_commands.specs.declared.numbered_hub.NumberedHub.{NumberedHub}
+use Rattle.iox_hub_commands.specs.Terms.{Terms}
 use Rattle.iox_hub_machine.specs.ServiceLaws.{Follows}
 use Rattle.iox_negotiate_machine.specs.Laws.{HaveOwnHashes}
 use Rattle.iox_machine.specs.Choices.{Choices}
@@ -27,23 +19,15 @@ pub record HasNumbersFor {T U B D : Type 0} (count : ℕ) (hub : NumberedHub T U
   pub factories : hub.factories.made.next + 1 < 2 ^ 64
   pub locks : hub.hub.table.next + count < 2 ^ 64
 
--- The two details are those of values and user headers, the types those of the messages; then what is a default value, and a default user
--- header; who decides by fixed actions, and what anybody who decides may answer.
-module _ {T U B D : Type 0} (payload user_header : Detail) (types : MessageTypeDetails) (choices : Choices T)
-    (is_default_header : U → Type 0)
-    (fixed : BackpressureStrategy → Option BackpressureAction → DegradationAction → B)
-    (degrades : B → DegradationCause → DegradationInfo → DegradationAction → Type 0)
-    (decides : B → BackpressureInfo → BackpressureDecision → Type 0)
-    (fixed_reader : DegradationAction → D)
-    (reader_degrades : D → DegradationCause → DegradationInfo → DegradationAction → Type 0) where
+-- The terms of the hub are given, and what may be chosen: the default values are those of the latter.
+module _ {T U B D : Type 0} (terms : Terms T U B D) (choices : Choices T) where
   -- A node opens a service by a name that is asked for, as options ask and if it has what is required of attributes, with steps of nodes
   -- outside the hub before its accesses. No two services of the names that are asked for share a hash, and there are numbers left: for the
   -- factory, and for as many locks as these nodes may take.
   abbrev pub OpeningMatches : Type 0
   OpeningMatches = (names : List (List ℕ)) (node : ℕ) (name : List ℕ) (named : ServiceOptions) (required : Required)
       (steps : List StepBefore) → IsAmong names name → HaveOwnHashes names
-      → Follows payload user_header types choices is_default_header fixed degrades decides fixed_reader reader_degrades names
-      (command.Open node name named required steps) (HasNumbersFor (length steps))
+      → Follows terms choices names (command.Open node name named required steps) (HasNumbersFor (length steps))
 
   -- So it is where the node creates the service if none stands, with the required pairs as attributes. There is a number left for its own
   -- lock, too.
@@ -51,5 +35,4 @@ module _ {T U B D : Type 0} (payload user_header : Detail) (types : MessageTypeD
   OpeningOrCreatingMatches = (names : List (List ℕ)) (node : ℕ) (name : List ℕ) (named : ServiceOptions) (required : Required)
       (steps : List StepBefore) → IsAmong names name
       → HaveOwnHashes names
-      → Follows payload user_header types choices is_default_header fixed degrades decides fixed_reader reader_degrades names
-      (command.OpenOrCreate node name named required steps) (HasNumbersFor (length steps + 1))
+      → Follows terms choices names (command.OpenOrCreate node name named required steps) (HasNumbersFor (length steps + 1))

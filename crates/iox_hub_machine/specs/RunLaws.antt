@@ -1,15 +1,6 @@
 -- What a run of a new hub is replied is what a new machine may answer.
-use Rattle.std.specs.Prelude.{ℕ, ◌+◌, ◌^◌, ◌<◌, ◌≡◌, Bool, true, List, [], ◌∷◌, length, Option}
+use Rattle.std.specs.Prelude.{ℕ, ◌+◌, ◌^◌, ◌<◌, ◌≡◌, Bool, true, List, [], ◌∷◌, length}
 use Rattle.std.specs.List.{IsAmong}
-use Rattle.iox_command.specs.DomainValues.declared.backpressure.BackpressureAction.{BackpressureAction}
-use Rattle.iox_command.specs.DomainValues.declared.backpressure.BackpressureDecision.{BackpressureDecision}
-use Rattle.iox_command.specs.DomainValues.declared.backpressure.BackpressureInfo.{BackpressureInfo}
-use Rattle.iox_command.specs.DomainValues.declared.backpressure_strategy.BackpressureStrategy.{BackpressureStrategy}
-use Rattle.iox_command.specs.DomainValues.declared.degradation.DegradationAction.{DegradationAction}
-use Rattle.iox_command.specs.DomainValues.declared.degradation.DegradationCause.{DegradationCause}
-use Rattle.iox_command.specs.DomainValues.declared.degradation.DegradationInfo.{DegradationInfo}
-use Rattle.iox_command.specs.NegotiateBase.DescribeBase.Detail.{Detail}
-use Rattle.iox_command.specs.NegotiateBase.DescribeBase.declared.message_type.MessageTypeDetails.{MessageTypeDetails}
 use Rattle.iox_command.specs.declared.command.Command.{Command}
 use Rattle.iox_command.specs.declared.command.Command.TheVariants as command
 use Rattle.iox_command.specs.declared.reply.Reply.{Reply}
@@ -24,6 +15,7 @@ use Rattle.iox_hub_commands.specs.PortRoom.{HasRoom}
 use Rattle.iox_hub_commands.specs.Room.{StopsInTime}
 use Rattle.iox_hub_commands.specs.Runs.{IsRun, Runs}
 use Rattle.iox_hub_commands.specs.declared.numbered_hub.NumberedHub.{NumberedHub}
+use Rattle.iox_hub_commands.specs.Terms.{Terms}
 use Rattle.iox_hub_machine.specs.ArrivalLaws.{AnswersAsFixed, DecidesAsFixed}
 use Rattle.iox_hub_machine.specs.Services.{HubStandsFor}
 use Rattle.iox_machine.specs.Choices.{as_named}
@@ -69,31 +61,23 @@ abbrev pub StopsIfRoomy : {T U B D : Type 0} → List (Command T) → NumberedHu
 StopsIfRoomy commands old replies stopped new = HasRoom old → HaveGrown old.hub.services.domains → stopped ≡ true
     → StopsInTime commands old (length replies) new
 
--- The two details are those of values and user headers, the types those of the messages; then what is a default value, and a default user
--- header; who decides by fixed actions, and what anybody who decides may answer.
-module _ {T U B D : Type 0} (payload user_header : Detail) (types : MessageTypeDetails) (is_default : T → Type 0)
-    (is_default_header : U → Type 0)
-    (fixed : BackpressureStrategy → Option BackpressureAction → DegradationAction → B)
-    (degrades : B → DegradationCause → DegradationInfo → DegradationAction → Type 0)
-    (decides : B → BackpressureInfo → BackpressureDecision → Type 0)
-    (fixed_reader : DegradationAction → D)
-    (reader_degrades : D → DegradationCause → DegradationInfo → DegradationAction → Type 0) where
+-- The terms of the hub are given.
+module _ {T U B D : Type 0} (terms : Terms T U B D) where
   -- What a hub replied to commands, from the first one on or until it stopped, is what a new machine may answer: to all of them, or, where
   -- it stopped, to the first of them, where a run may stop. So it is where the hub was new, no two services of the names that are asked for
   -- share a hash, commands and their steps are fewer than 2 ^ 56, and whoever is made of fixed actions for a port decides by these.
   abbrev pub AnswersAsMachine : HubConfig → List (Command T) → NumberedHub T U B D → List (Reply T) → Bool → Type 0
   AnswersAsMachine config commands old replies stopped =
-      DecidesAsFixed fixed degrades decides → AnswersAsFixed fixed_reader reader_degrades
+      DecidesAsFixed terms.fixed terms.degrades terms.decides → AnswersAsFixed terms.fixed_reader terms.reader_degrades
       → IsNew config old → HaveOwnHashes (names_in commands)
       → all_asked commands < 2 ^ 56
-      → machine.Answers types (as_named is_default) config.expired_connection_buffer commands stopped replies
+      → machine.Answers terms.types (as_named terms.is_default) config.expired_connection_buffer commands stopped replies
 
   -- So it is of each run that stops only where it may.
   abbrev pub RunAnswers : Type 0
   RunAnswers = (config : HubConfig) (commands : List (Command T)) (old new : NumberedHub T U B D) (replies : List (Reply T))
       (stopped : Bool)
-      → IsRun (hub.Step payload user_header types is_default is_default_header fixed degrades decides fixed_reader reader_degrades)
-      commands old replies stopped new
+      → IsRun (hub.Step terms) commands old replies stopped new
       → StopsIfRoomy commands old replies stopped new
       → AnswersAsMachine config commands old replies stopped
 
@@ -101,15 +85,15 @@ module _ {T U B D : Type 0} (payload user_header : Detail) (types : MessageTypeD
   abbrev pub StandsAsMachine : HubConfig → List (Command T) → NumberedHub T U B D → List (Reply T) → Type 0
   StandsAsMachine config commands new replies =
       (taken : MessagingPattern → List ℕ → List ℕ) × (naming : ℕ → Naming) × (order : List (ℕ × ServicePorts T U)) × (after : State T)
-      × machine.Runs types (as_named is_default) config.expired_connection_buffer commands new_state replies after
-      × HubStandsFor (as_named is_default) degrades decides reader_degrades (names_in commands) taken naming order new after
+      × machine.Runs terms.types (as_named terms.is_default) config.expired_connection_buffer commands new_state replies after
+      × HubStandsFor (as_named terms.is_default) terms.degrades terms.decides terms.reader_degrades (names_in commands) taken naming order
+      new after
 
   -- So it is with each run to its end, by the same premises.
   abbrev pub RunStands : Type 0
   RunStands = (config : HubConfig) (commands : List (Command T)) (old new : NumberedHub T U B D) (replies : List (Reply T))
-      → Runs (hub.Step payload user_header types is_default is_default_header fixed degrades decides fixed_reader reader_degrades)
-      commands old replies new
-      → DecidesAsFixed fixed degrades decides → AnswersAsFixed fixed_reader reader_degrades
+      → Runs (hub.Step terms) commands old replies new
+      → DecidesAsFixed terms.fixed terms.degrades terms.decides → AnswersAsFixed terms.fixed_reader terms.reader_degrades
       → IsNew config old → HaveOwnHashes (names_in commands)
       → all_asked commands < 2 ^ 56
       → StandsAsMachine config commands new replies

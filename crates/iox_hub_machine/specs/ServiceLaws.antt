@@ -1,14 +1,11 @@
 -- What a hub does at a command on nodes and services is what the machine does.
-use Rattle.std.specs.Prelude.{ℕ, ◌+◌, ◌^◌, ◌<◌, List, [], length, Option, Ok}
+use Rattle.std.specs.Prelude.{ℕ, ◌+◌, ◌^◌, ◌<◌, List, [], length, Ok}
 use Rattle.std.specs.List.{IsAmong}
-use Rattle.iox_command.specs.DomainValues.declared.backpressure.BackpressureAction.{BackpressureAction}
 use Rattle.iox_command.specs.DomainValues.declared.backpressure.BackpressureDecision.{BackpressureDecision}
 use Rattle.iox_command.specs.DomainValues.declared.backpressure.BackpressureInfo.{BackpressureInfo}
-use Rattle.iox_command.specs.DomainValues.declared.backpressure_strategy.BackpressureStrategy.{BackpressureStrategy}
 use Rattle.iox_command.specs.DomainValues.declared.degradation.DegradationAction.{DegradationAction}
 use Rattle.iox_command.specs.DomainValues.declared.degradation.DegradationCause.{DegradationCause}
 use Rattle.iox_command.specs.DomainValues.declared.degradation.DegradationInfo.{DegradationInfo}
-use Rattle.iox_command.specs.NegotiateBase.DescribeBase.Detail.{Detail}
 use Rattle.iox_command.specs.NegotiateBase.DescribeBase.declared.message_type.MessageTypeDetails.{MessageTypeDetails}
 use Rattle.iox_command.specs.NegotiateBase.DescribeBase.declared.pattern.MessagingPattern.{MessagingPattern}
 use Rattle.iox_command.specs.declared.command.Command.{Command}
@@ -24,6 +21,7 @@ use Rattle.iox_hub_commands.specs.CommandSteps as hub
 use Rattle.iox_hub_commands.specs.Numbers.{IsNew}
 use Rattle.iox_hub_commands.specs.Steps.{lists_of}
 use Rattle.iox_hub_commands.specs.declared.numbered_hub.NumberedHub.{NumberedHub}
+use Rattle.iox_hub_commands.specs.Terms.{Terms}
 use Rattle.iox_hub_machine.specs.Services.{HubStandsFor}
 use Rattle.iox_machine.specs.Choices.{Choices}
 use Rattle.iox_machine.specs.Run as machine
@@ -53,15 +51,8 @@ NewHubStands T U {B} {D} choices degrades decides reader_degrades = (names : Lis
     → IsNew config hub
     → HubStandsFor choices degrades decides reader_degrades names (λ pattern name. []) (λ service. nameless) [] hub new_state
 
--- The two details are those of values and user headers, the types those of the messages; then what is a default value, and a default user
--- header; who decides by fixed actions, and what anybody who decides may answer.
-module _ {T U B D : Type 0} (payload user_header : Detail) (types : MessageTypeDetails) (choices : Choices T)
-    (is_default_header : U → Type 0)
-    (fixed : BackpressureStrategy → Option BackpressureAction → DegradationAction → B)
-    (degrades : B → DegradationCause → DegradationInfo → DegradationAction → Type 0)
-    (decides : B → BackpressureInfo → BackpressureDecision → Type 0)
-    (fixed_reader : DegradationAction → D)
-    (reader_degrades : D → DegradationCause → DegradationInfo → DegradationAction → Type 0) where
+-- The terms of the hub are given, and what may be chosen: the default values are those of the latter.
+module _ {T U B D : Type 0} (terms : Terms T U B D) (choices : Choices T) where
   -- The machine may be answered so, too, at this command, and the hub stands for what it is then.
   pub record IsFollowed (names : List (List ℕ)) (asked : Command T) (old new : NumberedHub T U B D) (state : State T) (answer : Reply T)
       : Type 0 where
@@ -69,8 +60,8 @@ module _ {T U B D : Type 0} (payload user_header : Detail) (types : MessageTypeD
     pub naming : ℕ → Naming
     pub order : List (ℕ × ServicePorts T U)
     pub after : State T
-    pub step : machine.Step types choices old.hub.expired_connection_buffer asked state answer after
-    pub stands : HubStandsFor choices degrades decides reader_degrades names taken naming order new after
+    pub step : machine.Step terms.types choices old.hub.expired_connection_buffer asked state answer after
+    pub stands : HubStandsFor choices terms.degrades terms.decides terms.reader_degrades names taken naming order new after
 
   -- Where a hub stands for a machine, it and its reply to this command are as is needed, and it does what the command says, the machine may
   -- reply so, too, and the hub stands for what it is then.
@@ -78,10 +69,8 @@ module _ {T U B D : Type 0} (payload user_header : Detail) (types : MessageTypeD
   FollowsIf names asked AreFit = (taken : MessagingPattern → List ℕ → List ℕ) (naming : ℕ → Naming)
       (order : List (ℕ × ServicePorts T U)) (old new : NumberedHub T U B D) (state : State T) (answer : Reply T)
       → AreFit old answer
-      → HubStandsFor choices degrades decides reader_degrades names taken naming order old state
-      → hub.Step payload user_header types choices.is_default is_default_header fixed degrades decides fixed_reader reader_degrades asked
-      old
-      (Ok answer) new
+      → HubStandsFor choices terms.degrades terms.decides terms.reader_degrades names taken naming order old state
+      → hub.Step (record terms { is_default = choices.is_default }) asked old (Ok answer) new
       → IsFollowed names asked old new state answer
 
   -- So it is whatever it replies, where the hub is as is needed.
@@ -103,9 +92,7 @@ module _ {T U B D : Type 0} (payload user_header : Detail) (types : MessageTypeD
   abbrev pub SkippedMatches : Type 0
   SkippedMatches = (names : List (List ℕ)) (asked : Command T) (taken : MessagingPattern → List ℕ → List ℕ) (naming : ℕ → Naming)
       (order : List (ℕ × ServicePorts T U)) (old new : NumberedHub T U B D) (state : State T) → IsOnServices asked
-      → HubStandsFor choices degrades decides reader_degrades names taken naming order old state
-      → hub.Step payload user_header types choices.is_default is_default_header fixed degrades decides fixed_reader reader_degrades asked
-      old
-      (Ok reply.Skipped) new
-      → machine.Step types choices old.hub.expired_connection_buffer asked state reply.Skipped state
-      × HubStandsFor choices degrades decides reader_degrades names taken naming order new state
+      → HubStandsFor choices terms.degrades terms.decides terms.reader_degrades names taken naming order old state
+      → hub.Step (record terms { is_default = choices.is_default }) asked old (Ok reply.Skipped) new
+      → machine.Step terms.types choices old.hub.expired_connection_buffer asked state reply.Skipped state
+      × HubStandsFor choices terms.degrades terms.decides terms.reader_degrades names taken naming order new state

@@ -16,12 +16,10 @@ pub mod runs;
 pub mod typed;
 
 ghost use Rattle.std.specs.Prelude.{Option};
-ghost use Rattle.iox_hub_base.specs.DescribeBase.Detail.{detail};
-ghost use Rattle.iox_hub_base.specs.DescribeBase.declared.type_detail.TypeVariant.TheVariants.{FixedSize};
-ghost use Rattle.iox_hub_commands.specs.Asked.{types_of};
 ghost use Rattle.iox_hub_commands.specs.DomainValues.declared.backpressure.BackpressureAction.{BackpressureAction};
 ghost use Rattle.iox_hub_commands.specs.DomainValues.declared.backpressure_strategy.BackpressureStrategy.{BackpressureStrategy};
 ghost use Rattle.iox_hub_commands.specs.DomainValues.declared.degradation.DegradationAction.{DegradationAction};
+ghost use Rattle.iox_hub_commands.specs.Terms.{terms_of};
 ghost use Rattle.iox_machine.specs.Choices.{Handed, chosen_by};
 ghost use Rattle.iox_hub_machine.specs.ArrivalLaws.{AnswersAsFixed, DecidesAsFixed, SubscriberComingIsFollowed};
 ghost use Rattle.iox_hub_machine.specs.ArrivalLaws.{PublisherComingIsFollowed};
@@ -210,10 +208,9 @@ pub fn making_a_node_matches<
     B: PublisherHandlers,
     D: SubscriberHandler,
 >()
-    ensures { (handed : Handed B D) → NodeMatches (detail FixedSize T.name T.size T.alignment) (detail FixedSize U.name U.size U.alignment)
-        (types_of T.name T.size T.alignment U.name U.size U.alignment) (chosen_by T.is_default (λ handlers. B.decides handlers)
-        (λ handlers. B.degrades handlers) (λ handler. D.degrades handler) handed) U.is_default B.fixed
-        (λ handlers. B.degrades handlers) (λ handlers. B.decides handlers) D.fixed (λ handler. D.degrades handler) }
+    ensures { (handed : Handed B D) → NodeMatches (terms_of T.name T.size T.alignment T.is_default U.name U.size U.alignment U.is_default
+        B.fixed (λ handlers. B.degrades handlers) (λ handlers. B.decides handlers) D.fixed (λ handler. D.degrades handler))
+        (chosen_by T.is_default (λ handlers. B.decides handlers) (λ handlers. B.degrades handlers) (λ handler. D.degrades handler) handed) }
 {}
 
 /// Nodes outside the hub do steps under a name that is asked for: they do to the table of the hub what the machine says, and what the hub
@@ -226,10 +223,9 @@ pub fn steps_of_others_match<
     D: SubscriberHandler,
 >()
     ensures { (handed : Handed B D)
-        → ForeignMatches (detail FixedSize T.name T.size T.alignment) (detail FixedSize U.name U.size U.alignment)
-        (types_of T.name T.size T.alignment U.name U.size U.alignment) (chosen_by T.is_default (λ handlers. B.decides handlers)
-        (λ handlers. B.degrades handlers) (λ handler. D.degrades handler) handed) U.is_default B.fixed
-        (λ handlers. B.degrades handlers) (λ handlers. B.decides handlers) D.fixed (λ handler. D.degrades handler) }
+        → ForeignMatches (terms_of T.name T.size T.alignment T.is_default U.name U.size U.alignment U.is_default B.fixed
+        (λ handlers. B.degrades handlers) (λ handlers. B.decides handlers) D.fixed (λ handler. D.degrades handler))
+        (chosen_by T.is_default (λ handlers. B.decides handlers) (λ handlers. B.degrades handlers) (λ handler. D.degrades handler) handed) }
 {}
 
 /// A node creates, opens, or does either, or a factory is closed, and the hub skips that, since it has no node or no factory of the number:
@@ -241,10 +237,9 @@ pub fn skipped_commands_match<
     D: SubscriberHandler,
 >()
     ensures { (handed : Handed B D)
-        → SkippedMatches (detail FixedSize T.name T.size T.alignment) (detail FixedSize U.name U.size U.alignment)
-        (types_of T.name T.size T.alignment U.name U.size U.alignment) (chosen_by T.is_default (λ handlers. B.decides handlers)
-        (λ handlers. B.degrades handlers) (λ handler. D.degrades handler) handed) U.is_default B.fixed
-        (λ handlers. B.degrades handlers) (λ handlers. B.decides handlers) D.fixed (λ handler. D.degrades handler) }
+        → SkippedMatches (terms_of T.name T.size T.alignment T.is_default U.name U.size U.alignment U.is_default B.fixed
+        (λ handlers. B.degrades handlers) (λ handlers. B.decides handlers) D.fixed (λ handler. D.degrades handler))
+        (chosen_by T.is_default (λ handlers. B.decides handlers) (λ handlers. B.degrades handlers) (λ handler. D.degrades handler) handed) }
 {}
 
 /// Whoever decides for the ports of a hub by fixed actions alone does as these say: what the laws of ports that come ask first.
@@ -275,10 +270,9 @@ pub fn coming_of_a_subscriber_is_followed<
 >()
     ensures { (handed : Handed B D)
         (fixed : BackpressureStrategy → Option BackpressureAction → DegradationAction → B) (fixed_reader : DegradationAction → D)
-        → SubscriberComingIsFollowed (detail FixedSize T.name T.size T.alignment) (detail FixedSize U.name U.size U.alignment)
-        (types_of T.name T.size T.alignment U.name U.size U.alignment) (chosen_by T.is_default (λ handlers. B.decides handlers)
-        (λ handlers. B.degrades handlers) (λ handler. D.degrades handler) handed) U.is_default fixed
-        (λ handlers. B.degrades handlers) (λ handlers. B.decides handlers) fixed_reader (λ handler. D.degrades handler) }
+        → SubscriberComingIsFollowed (terms_of T.name T.size T.alignment T.is_default U.name U.size U.alignment U.is_default fixed
+        (λ handlers. B.degrades handlers) (λ handlers. B.decides handlers) fixed_reader (λ handler. D.degrades handler))
+        (chosen_by T.is_default (λ handlers. B.decides handlers) (λ handlers. B.degrades handlers) (λ handler. D.degrades handler) handed) }
 {}
 
 /// A publisher comes, by a factory of the hub that goes by a number, and gets the next number; or it is refused, where the machine's is; or
@@ -295,10 +289,9 @@ pub fn coming_of_a_publisher_is_followed<
 >()
     ensures { (handed : Handed B D)
         (fixed : BackpressureStrategy → Option BackpressureAction → DegradationAction → B) (fixed_reader : DegradationAction → D)
-        → PublisherComingIsFollowed (detail FixedSize T.name T.size T.alignment) (detail FixedSize U.name U.size U.alignment)
-        (types_of T.name T.size T.alignment U.name U.size U.alignment) (chosen_by T.is_default (λ handlers. B.decides handlers)
-        (λ handlers. B.degrades handlers) (λ handler. D.degrades handler) handed) U.is_default fixed
-        (λ handlers. B.degrades handlers) (λ handlers. B.decides handlers) fixed_reader (λ handler. D.degrades handler) }
+        → PublisherComingIsFollowed (terms_of T.name T.size T.alignment T.is_default U.name U.size U.alignment U.is_default fixed
+        (λ handlers. B.degrades handlers) (λ handlers. B.decides handlers) fixed_reader (λ handler. D.degrades handler))
+        (chosen_by T.is_default (λ handlers. B.decides handlers) (λ handlers. B.degrades handlers) (λ handler. D.degrades handler) handed) }
 {}
 
 /// A publisher that goes by a number lends so many values, none of which is written, and the loan gets the next number; or it is refused.
@@ -363,10 +356,9 @@ pub fn creating_matches<
     D: SubscriberHandler,
 >()
     ensures { (handed : Handed B D)
-        → CreateMatches (detail FixedSize T.name T.size T.alignment) (detail FixedSize U.name U.size U.alignment)
-        (types_of T.name T.size T.alignment U.name U.size U.alignment) (chosen_by T.is_default (λ handlers. B.decides handlers)
-        (λ handlers. B.degrades handlers) (λ handler. D.degrades handler) handed) U.is_default B.fixed
-        (λ handlers. B.degrades handlers) (λ handlers. B.decides handlers) D.fixed (λ handler. D.degrades handler) }
+        → CreateMatches (terms_of T.name T.size T.alignment T.is_default U.name U.size U.alignment U.is_default B.fixed
+        (λ handlers. B.degrades handlers) (λ handlers. B.decides handlers) D.fixed (λ handler. D.degrades handler))
+        (chosen_by T.is_default (λ handlers. B.decides handlers) (λ handlers. B.degrades handlers) (λ handler. D.degrades handler) handed) }
 {}
 
 /// A node opens a service by a name that is asked for, if it meets what is asked: the hub replies as the machine may, and has what the
@@ -381,10 +373,9 @@ pub fn opening_matches<
     D: SubscriberHandler,
 >()
     ensures { (handed : Handed B D)
-        → OpeningMatches (detail FixedSize T.name T.size T.alignment) (detail FixedSize U.name U.size U.alignment)
-        (types_of T.name T.size T.alignment U.name U.size U.alignment) (chosen_by T.is_default (λ handlers. B.decides handlers)
-        (λ handlers. B.degrades handlers) (λ handler. D.degrades handler) handed) U.is_default B.fixed
-        (λ handlers. B.degrades handlers) (λ handlers. B.decides handlers) D.fixed (λ handler. D.degrades handler) }
+        → OpeningMatches (terms_of T.name T.size T.alignment T.is_default U.name U.size U.alignment U.is_default B.fixed
+        (λ handlers. B.degrades handlers) (λ handlers. B.decides handlers) D.fixed (λ handler. D.degrades handler))
+        (chosen_by T.is_default (λ handlers. B.decides handlers) (λ handlers. B.degrades handlers) (λ handler. D.degrades handler) handed) }
 {}
 
 /// So it is where the node creates the service if none stands, with the required pairs as attributes. The premises are those of an opening,
@@ -396,10 +387,9 @@ pub fn opening_or_creating_matches<
     D: SubscriberHandler,
 >()
     ensures { (handed : Handed B D)
-        → OpeningOrCreatingMatches (detail FixedSize T.name T.size T.alignment) (detail FixedSize U.name U.size U.alignment)
-        (types_of T.name T.size T.alignment U.name U.size U.alignment) (chosen_by T.is_default (λ handlers. B.decides handlers)
-        (λ handlers. B.degrades handlers) (λ handler. D.degrades handler) handed) U.is_default B.fixed
-        (λ handlers. B.degrades handlers) (λ handlers. B.decides handlers) D.fixed (λ handler. D.degrades handler) }
+        → OpeningOrCreatingMatches (terms_of T.name T.size T.alignment T.is_default U.name U.size U.alignment U.is_default B.fixed
+        (λ handlers. B.degrades handlers) (λ handlers. B.decides handlers) D.fixed (λ handler. D.degrades handler))
+        (chosen_by T.is_default (λ handlers. B.decides handlers) (λ handlers. B.degrades handlers) (λ handler. D.degrades handler) handed) }
 {}
 
 /// A factory is closed, or is refused as in use: the machine does so, too. With the last factory of a publish-subscribe service its ports
@@ -414,8 +404,7 @@ pub fn closing_matches<
     D: SubscriberHandler,
 >()
     ensures { (handed : Handed B D)
-        → ClosingMatches (detail FixedSize T.name T.size T.alignment) (detail FixedSize U.name U.size U.alignment)
-        (types_of T.name T.size T.alignment U.name U.size U.alignment) (chosen_by T.is_default (λ handlers. B.decides handlers)
-        (λ handlers. B.degrades handlers) (λ handler. D.degrades handler) handed) U.is_default B.fixed
-        (λ handlers. B.degrades handlers) (λ handlers. B.decides handlers) D.fixed (λ handler. D.degrades handler) }
+        → ClosingMatches (terms_of T.name T.size T.alignment T.is_default U.name U.size U.alignment U.is_default B.fixed
+        (λ handlers. B.degrades handlers) (λ handlers. B.decides handlers) D.fixed (λ handler. D.degrades handler))
+        (chosen_by T.is_default (λ handlers. B.decides handlers) (λ handlers. B.degrades handlers) (λ handler. D.degrades handler) handed) }
 {}

@@ -2,6 +2,7 @@
 ghost use Rattle.iox_hub_base.specs.DescribeBase.Detail.{detail};
 ghost use Rattle.iox_hub_base.specs.DescribeBase.declared.type_detail.TypeVariant.TheVariants.{FixedSize};
 ghost use Rattle.iox_hub_commands.specs.Asked.{types_of};
+ghost use Rattle.iox_hub_commands.specs.Terms.{terms_of};
 ghost use Rattle.iox_machine.specs.Choices.{Handed, chosen_by};
 ghost use Rattle.iox_hub_machine.specs.GoingOnLaws.{DecidedRunsGoOn, NewHubBegins, RunsGoOn};
 ghost use Rattle.iox_hub_machine.specs.RunLaws.{RunAnswers, RunStands};
@@ -39,10 +40,9 @@ pub fn runs_go_on<
     B: PublisherHandlers,
     D: SubscriberHandler,
 >()
-    ensures { (handed : Handed B D) → RunsGoOn (detail FixedSize T.name T.size T.alignment) (detail FixedSize U.name U.size U.alignment)
-        (types_of T.name T.size T.alignment U.name U.size U.alignment) (chosen_by T.is_default (λ handlers. B.decides handlers)
-        (λ handlers. B.degrades handlers) (λ handler. D.degrades handler) handed) U.is_default B.fixed
-        (λ handlers. B.degrades handlers) (λ handlers. B.decides handlers) D.fixed (λ handler. D.degrades handler) }
+    ensures { (handed : Handed B D) → RunsGoOn (terms_of T.name T.size T.alignment T.is_default U.name U.size U.alignment U.is_default
+        B.fixed (λ handlers. B.degrades handlers) (λ handlers. B.decides handlers) D.fixed (λ handler. D.degrades handler))
+        (chosen_by T.is_default (λ handlers. B.decides handlers) (λ handlers. B.degrades handlers) (λ handler. D.degrades handler) handed) }
 {}
 
 /// So it goes on whoever decides for the ports that come: who is made of actions, or who is handed in for one command. Whatever may be
@@ -71,9 +71,8 @@ pub fn runs_answer<
     B: PublisherHandlers,
     D: SubscriberHandler,
 >()
-    ensures { RunAnswers (detail FixedSize T.name T.size T.alignment) (detail FixedSize U.name U.size U.alignment)
-        (types_of T.name T.size T.alignment U.name U.size U.alignment) T.is_default U.is_default B.fixed
-        (λ handlers. B.degrades handlers) (λ handlers. B.decides handlers) D.fixed (λ handler. D.degrades handler) }
+    ensures { RunAnswers (terms_of T.name T.size T.alignment T.is_default U.name U.size U.alignment U.is_default B.fixed
+        (λ handlers. B.degrades handlers) (λ handlers. B.decides handlers) D.fixed (λ handler. D.degrades handler)) }
 {}
 
 /// What a hub that replied to all commands stands for is a state to which a new machine comes with the same replies, by the same premises:
@@ -84,7 +83,6 @@ pub fn runs_stand<
     B: PublisherHandlers,
     D: SubscriberHandler,
 >()
-    ensures { RunStands (detail FixedSize T.name T.size T.alignment) (detail FixedSize U.name U.size U.alignment)
-        (types_of T.name T.size T.alignment U.name U.size U.alignment) T.is_default U.is_default B.fixed
-        (λ handlers. B.degrades handlers) (λ handlers. B.decides handlers) D.fixed (λ handler. D.degrades handler) }
+    ensures { RunStands (terms_of T.name T.size T.alignment T.is_default U.name U.size U.alignment U.is_default B.fixed
+        (λ handlers. B.degrades handlers) (λ handlers. B.decides handlers) D.fixed (λ handler. D.degrades handler)) }
 {}

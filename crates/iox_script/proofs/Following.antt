@@ -17,9 +17,6 @@ use Rattle.iox_hub_commands.specs.HubBase.declared.hub.HubConfig.{HubConfig}
 use Rattle.iox_hub_commands.specs.Numbers.{IsNew, numbers_used}
 use Rattle.iox_hub_commands.specs.Runs.{Runs}
 use Rattle.iox_hub_machine.specs.RunLaws.{RunAnswers, all_asked, names_in}
-use Rattle.iox_line.specs.DescribeBase.Detail.{detail}
-use Rattle.iox_line.specs.DescribeBase.declared.type_detail.TypeVariant.TheVariants.{FixedSize}
-use Rattle.iox_line.specs.DomainValues.Actions.{decision_of}
 use Rattle.iox_line.specs.LineFault.{fault_text}
 use Rattle.iox_line.specs.Outcome.{Answers, IsReadAs}
 use Rattle.iox_line.specs.ReplyText.{reply_text}
@@ -28,26 +25,15 @@ use Rattle.iox_line.specs.declared.error.LineError.TheVariants as fault
 use Rattle.iox_script.proofs.Breaking.{due-longer, whole-at_end, whole-by}
 use Rattle.iox_script.proofs.Counted.{asked-heard, asked-whole, commands_among}
 use Rattle.iox_script.specs.Answered.{AnswersAsNewMachine, BeginsAsNewMachine, NewMachineMayReply, reply_lines}
-use Rattle.iox_script.specs.Conversation.{AnswersLine, AnswersRead, IsNewScript, ScriptHub, ScriptStep}
+use Rattle.iox_script.specs.Conversation.{AnswersLine, AnswersRead, IsNewScript, ScriptHub, ScriptStep, script_terms}
 use Rattle.iox_script.specs.declared.script.Script.{Script}
 use Rattle.iox_machine.specs.Choices.{as_named}
 use Rattle.iox_machine.specs.Run as machine
 use Rattle.iox_negotiate_machine.specs.Laws.{HaveOwnHashes}
-use Rattle.iox_hub_commands.specs.declared.handlers.FixedDegradation.{FixedDegradation}
-use Rattle.iox_hub_commands.specs.declared.handlers.FixedHandlers.{FixedHandlers}
 
 -- the law of runs, of hubs that scripts drive
 abbrev pub ScriptRunsAnswer : Type 0
-ScriptRunsAnswer =
-    RunAnswers {T = ℕ} {U = ℕ} {B = FixedHandlers} {D = FixedDegradation}
-    (detail FixedSize (codes "u64") 8 8) (detail FixedSize (codes "u64") 8 8)
-    (types_of (codes "u64") 8 8 (codes "u64") 8 8)
-    (λ value. value ≡ 0) (λ header. header ≡ 0)
-    (λ strategy backpressure degradation. record { strategy = strategy; backpressure = backpressure; degradation = degradation })
-    (λ handlers cause info action. action ≡ handlers.degradation)
-    (λ handlers info decision. decision ≡ decision_of handlers.strategy handlers.backpressure)
-    (λ degradation. record { action = degradation })
-    (λ handler cause info action. action ≡ handler.action)
+ScriptRunsAnswer = RunAnswers script_terms
 
 -- what lines are read as, a run of the commands among them, and the text of its replies and of the faults
 abbrev IsRunOfLines : List (List ℕ) → ScriptHub → List ℕ → ScriptHub → Type 0

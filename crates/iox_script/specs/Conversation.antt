@@ -5,16 +5,14 @@ use Rattle.iox_hub_commands.specs.Command.declared.command.Command.{Command}
 use Rattle.iox_hub_commands.specs.Command.declared.reply.Reply.{Reply}
 use Rattle.iox_conversation.specs.Conversation.{BreaksOff, WritesABeginning}
 use Rattle.iox_conversation.specs.declared.error.ServeError.{ServeError}
-use Rattle.iox_line.specs.DescribeBase.Detail.{detail}
-use Rattle.iox_line.specs.DescribeBase.declared.type_detail.TypeVariant.TheVariants.{FixedSize}
 use Rattle.iox_line.specs.DomainValues.Actions.{decision_of}
 use Rattle.iox_hub_commands.specs.HubBase.declared.hub.HubConfig.{HubConfig}
 use Rattle.iox_hub_commands.specs.declared.handlers.FixedDegradation.{FixedDegradation}
 use Rattle.iox_hub_commands.specs.declared.handlers.FixedHandlers.{FixedHandlers}
-use Rattle.iox_hub_commands.specs.Asked.{types_of}
 use Rattle.iox_hub_commands.specs.Numbers.{IsNew, numbers_used}
 use Rattle.iox_hub_commands.specs.CommandSteps.{Step}
 use Rattle.iox_hub_commands.specs.declared.numbered_hub.NumberedHub.{NumberedHub}
+use Rattle.iox_hub_commands.specs.Terms.{Terms, terms_of}
 use Rattle.iox_line.specs.LineFault.{fault_text}
 use Rattle.iox_line.specs.Outcome.{Answers}
 use Rattle.iox_line.specs.ReplyText.{reply_text}
@@ -25,16 +23,19 @@ use Rattle.iox_script.specs.declared.script.Script.{Script}
 abbrev pub ScriptHub : Type 0
 ScriptHub = NumberedHub ℕ ℕ FixedHandlers FixedDegradation
 
--- what a command does to it: a default value is 0, and so is a default user header
-abbrev pub ScriptStep : Command ℕ → ScriptHub → Result (Reply ℕ) AllocError → ScriptHub → Type 0
-ScriptStep =
-    Step (detail FixedSize (codes "u64") 8 8) (detail FixedSize (codes "u64") 8 8) (types_of (codes "u64") 8 8 (codes "u64") 8 8)
-    (λ value. value ≡ 0) (λ header. header ≡ 0)
+-- its terms: a default value is 0, and so is a default user header
+abbrev pub script_terms : Terms ℕ ℕ FixedHandlers FixedDegradation
+script_terms =
+    terms_of (codes "u64") 8 8 (λ value. value ≡ 0) (codes "u64") 8 8 (λ header. header ≡ 0)
     (λ strategy backpressure degradation. record { strategy = strategy; backpressure = backpressure; degradation = degradation })
     (λ handlers cause info action. action ≡ handlers.degradation)
     (λ handlers info decision. decision ≡ decision_of handlers.strategy handlers.backpressure)
     (λ degradation. record { action = degradation })
     (λ handler cause info action. action ≡ handler.action)
+
+-- what a command does to it
+abbrev pub ScriptStep : Command ℕ → ScriptHub → Result (Reply ℕ) AllocError → ScriptHub → Type 0
+ScriptStep = Step script_terms
 
 -- a command is answered by the reply to it; a line that is none changes nothing, and is answered why
 abbrev pub AnswersRead : Result (Command ℕ) LineError → ScriptHub → List ℕ → ScriptHub → Type 0

@@ -1,6 +1,11 @@
 use Rattle.iox_hub_base.specs.DescribeBase.declared.type_detail.TypeVariant.TheVariants.{Dynamic}
 use Rattle.iox_hub_machine.proofs.OpeningsOrCreations.{openings_or_creations_match}
 use Rattle.iox_hub_machine.proofs.opening_or_creating_matches.Goals as goal
+use Rattle.iox_hub_commands.specs.Terms.{terms_of}
 
 pub returns : goal.returns
-returns g c = λ handed. openings_or_creations_match _ _ Dynamic _ _ _ _ _ _ _
+returns g c = λ handed. openings_or_creations_match Dynamic (terms_of g.T.ZeroCopySend.name g.T.ZeroCopySend.size
+    g.T.ZeroCopySend.alignment (λ value. g.T.Default.is_default value) g.U.ZeroCopySend.name g.U.ZeroCopySend.size
+    g.U.ZeroCopySend.alignment (λ header. g.U.Default.is_default header) g.B.PublisherHandlers.fixed
+    (λ handlers. g.B.Degrades.degrades handlers) (λ handlers. g.B.Decides.decides handlers) g.D.SubscriberHandler.fixed
+    (λ handler. g.D.Degrades.degrades handler)) _

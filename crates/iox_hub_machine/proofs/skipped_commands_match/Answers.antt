@@ -1,5 +1,9 @@
 use Rattle.iox_hub_machine.proofs.Skipping.{skipped_matches}
 use Rattle.iox_hub_machine.proofs.skipped_commands_match.Goals as goal
+use Rattle.iox_hub_commands.specs.Terms.{terms_of}
 
 pub returns : goal.returns
-returns g c = λ handed. skipped_matches _ _ _ _ _ g.B.PublisherHandlers.fixed _ _ g.D.SubscriberHandler.fixed _
+returns g c = λ handed. skipped_matches (terms_of g.T.ZeroCopySend.name g.T.ZeroCopySend.size g.T.ZeroCopySend.alignment
+    (λ value. g.T.Default.is_default value) g.U.ZeroCopySend.name g.U.ZeroCopySend.size g.U.ZeroCopySend.alignment
+    (λ header. g.U.Default.is_default header) g.B.PublisherHandlers.fixed (λ handlers. g.B.Degrades.degrades handlers)
+    (λ handlers. g.B.Decides.decides handlers) g.D.SubscriberHandler.fixed (λ handler. g.D.Degrades.degrades handler)) _

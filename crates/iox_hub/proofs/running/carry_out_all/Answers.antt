@@ -1,9 +1,7 @@
 use Rattle.std.proofs.Common.{arith, rules, ◌+◌, ◌≡◌, [], ◌∷◌, ◌++◌, length, ap, sym, inr, ◌∙◌, append_assoc}
 use Rattle.std.specs.Vec.Iter.{into_iter_items}
 use Rattle.std.proofs.lemmas.List.{length-append}
-use Rattle.iox_hub_commands.specs.DescribeBase.Detail.{detail}
-use Rattle.iox_hub_commands.specs.DescribeBase.declared.type_detail.TypeVariant.TheVariants.{FixedSize}
-use Rattle.iox_hub_commands.specs.Asked.{types_of}
+use Rattle.iox_hub_commands.specs.Terms.{terms_of}
 use Rattle.iox_hub_commands.proofs.PortRooms.{keeps_on}
 use Rattle.iox_hub_commands.proofs.Rooms.{at_seam}
 use Rattle.iox_hub_commands.proofs.RunLemmas.{runs_more}
@@ -20,13 +18,11 @@ loop-command-preserved g c =
       all = append_assoc at.yielded (command ∷ []) _ ∙ rw (← steps) at.invariant.all;
       left = let short = ap length steps in omega (arith, at.invariant.left, c.in-Some.ensures.steps.1, short);
       ran = rw c.push_reserved.ensures.items
-          (runs_more (HandledStep (detail FixedSize g.T.ZeroCopySend.name g.T.ZeroCopySend.size g.T.ZeroCopySend.alignment)
-          (detail FixedSize g.U.ZeroCopySend.name g.U.ZeroCopySend.size g.U.ZeroCopySend.alignment)
-          (types_of g.T.ZeroCopySend.name g.T.ZeroCopySend.size g.T.ZeroCopySend.alignment g.U.ZeroCopySend.name g.U.ZeroCopySend.size
-          g.U.ZeroCopySend.alignment) (λ value. g.T.Default.is_default value) (λ value. g.U.Default.is_default value)
-          g.B.PublisherHandlers.fixed (λ strategy action degrading at_full at_failure. g.B.TakesHandlers.handled strategy action
-          degrading at_full at_failure) (λ handlers. g.B.Degrades.degrades handlers) (λ handlers. g.B.Decides.decides handlers)
-          g.D.SubscriberHandler.fixed (λ handler. g.D.Degrades.degrades handler))
+          (runs_more (HandledStep (terms_of g.T.ZeroCopySend.name g.T.ZeroCopySend.size g.T.ZeroCopySend.alignment
+          (λ value. g.T.Default.is_default value) g.U.ZeroCopySend.name g.U.ZeroCopySend.size g.U.ZeroCopySend.alignment
+          (λ value. g.U.Default.is_default value) g.B.PublisherHandlers.fixed (λ handlers. g.B.Degrades.degrades handlers)
+          (λ handlers. g.B.Decides.decides handlers) g.D.SubscriberHandler.fixed (λ handler. g.D.Degrades.degrades handler))
+          (λ strategy action degrading at_full at_failure. g.B.TakesHandlers.handled strategy action degrading at_full at_failure))
           at.yielded command (c.args.hub.now, c.args.given.now.places.items) (at.hub, at.given.places.items)
           (c.step.new.hub, c.step.new.given.places.items) at.replies.items c.in-Ok-step.reply at.invariant.ran
           c.in-Ok-step.ensures.steps);

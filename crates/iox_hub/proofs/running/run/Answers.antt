@@ -1,6 +1,4 @@
-use Rattle.iox_hub_commands.specs.DescribeBase.Detail.{detail}
-use Rattle.iox_hub_commands.specs.DescribeBase.declared.type_detail.TypeVariant.TheVariants.{FixedSize}
-use Rattle.iox_hub_commands.specs.Asked.{types_of}
+use Rattle.iox_hub_commands.specs.Terms.{terms_of}
 use Rattle.iox_hub_commands.proofs.AsAgreed.{are_as_agreed}
 use Rattle.iox_hub.proofs.RunWords.{goes_on_by_run, grows_by_run, agrees_by_run}
 use Rattle.iox_hub.proofs.TakenRuns.{run_once}
@@ -8,46 +6,39 @@ use Rattle.iox_hub.proofs.running.run.Goals as goal
 
 pub returns-clause-goes_on : goal.returns-clause-goes_on
 returns-clause-goes_on g c =
-    goes_on_by_run (detail FixedSize g.T.ZeroCopySend.name g.T.ZeroCopySend.size g.T.ZeroCopySend.alignment)
-    (detail FixedSize g.U.ZeroCopySend.name g.U.ZeroCopySend.size g.U.ZeroCopySend.alignment)
-    (types_of g.T.ZeroCopySend.name g.T.ZeroCopySend.size g.T.ZeroCopySend.alignment g.U.ZeroCopySend.name g.U.ZeroCopySend.size
-    g.U.ZeroCopySend.alignment) (λ value. g.T.Default.is_default value) (λ value. g.U.Default.is_default value)
-    g.B.PublisherHandlers.fixed (λ strategy action degrading at_full at_failure. g.B.TakesHandlers.handled strategy action degrading
-    at_full at_failure) (λ handlers. g.B.Degrades.degrades handlers) (λ handlers. g.B.Decides.decides handlers)
-    g.D.SubscriberHandler.fixed (λ handler. g.D.Degrades.degrades handler) _ (c.args.hub.now, c.args.given.now.places.items)
+    goes_on_by_run (terms_of g.T.ZeroCopySend.name g.T.ZeroCopySend.size g.T.ZeroCopySend.alignment
+    (λ value. g.T.Default.is_default value) g.U.ZeroCopySend.name g.U.ZeroCopySend.size g.U.ZeroCopySend.alignment
+    (λ value. g.U.Default.is_default value) g.B.PublisherHandlers.fixed (λ handlers. g.B.Degrades.degrades handlers)
+    (λ handlers. g.B.Decides.decides handlers) g.D.SubscriberHandler.fixed (λ handler. g.D.Degrades.degrades handler))
+    (λ strategy action degrading at_full at_failure. g.B.TakesHandlers.handled strategy action degrading at_full at_failure) _
+    (c.args.hub.now, c.args.given.now.places.items)
     (c.carry_out_all.new.hub, c.carry_out_all.new.given.places.items) _ _ c.carry_out_all.ensures.ran
 
 pub returns-clause-grows : goal.returns-clause-grows
 returns-clause-grows g c =
-    grows_by_run (detail FixedSize g.T.ZeroCopySend.name g.T.ZeroCopySend.size g.T.ZeroCopySend.alignment)
-    (detail FixedSize g.U.ZeroCopySend.name g.U.ZeroCopySend.size g.U.ZeroCopySend.alignment)
-    (types_of g.T.ZeroCopySend.name g.T.ZeroCopySend.size g.T.ZeroCopySend.alignment g.U.ZeroCopySend.name g.U.ZeroCopySend.size
-    g.U.ZeroCopySend.alignment) (λ value. g.T.Default.is_default value) (λ value. g.U.Default.is_default value)
-    g.B.PublisherHandlers.fixed (λ strategy action degrading at_full at_failure. g.B.TakesHandlers.handled strategy action degrading
-    at_full at_failure) (λ handlers. g.B.Degrades.degrades handlers) (λ handlers. g.B.Decides.decides handlers)
-    g.D.SubscriberHandler.fixed (λ handler. g.D.Degrades.degrades handler) _ (c.args.hub.now, c.args.given.now.places.items)
+    grows_by_run (terms_of g.T.ZeroCopySend.name g.T.ZeroCopySend.size g.T.ZeroCopySend.alignment (λ value. g.T.Default.is_default value)
+    g.U.ZeroCopySend.name g.U.ZeroCopySend.size g.U.ZeroCopySend.alignment (λ value. g.U.Default.is_default value)
+    g.B.PublisherHandlers.fixed (λ handlers. g.B.Degrades.degrades handlers) (λ handlers. g.B.Decides.decides handlers)
+    g.D.SubscriberHandler.fixed (λ handler. g.D.Degrades.degrades handler)) (λ strategy action degrading at_full
+    at_failure. g.B.TakesHandlers.handled strategy action degrading at_full at_failure) _ (c.args.hub.now, c.args.given.now.places.items)
     (c.carry_out_all.new.hub, c.carry_out_all.new.given.places.items) _ _ c.carry_out_all.ensures.ran
 
 pub returns-clause-one_agreement : goal.returns-clause-one_agreement
 returns-clause-one_agreement g c =
-    agrees_by_run (detail FixedSize g.T.ZeroCopySend.name g.T.ZeroCopySend.size g.T.ZeroCopySend.alignment)
-    (detail FixedSize g.U.ZeroCopySend.name g.U.ZeroCopySend.size g.U.ZeroCopySend.alignment)
-    (types_of g.T.ZeroCopySend.name g.T.ZeroCopySend.size g.T.ZeroCopySend.alignment g.U.ZeroCopySend.name g.U.ZeroCopySend.size
-    g.U.ZeroCopySend.alignment) (λ value. g.T.Default.is_default value) (λ value. g.U.Default.is_default value)
-    g.B.PublisherHandlers.fixed (λ strategy action degrading at_full at_failure. g.B.TakesHandlers.handled strategy action degrading
-    at_full at_failure) (λ handlers. g.B.Degrades.degrades handlers) (λ handlers. g.B.Decides.decides handlers)
-    g.D.SubscriberHandler.fixed (λ handler. g.D.Degrades.degrades handler) _ (c.args.hub.now, c.args.given.now.places.items)
+    agrees_by_run (terms_of g.T.ZeroCopySend.name g.T.ZeroCopySend.size g.T.ZeroCopySend.alignment (λ value. g.T.Default.is_default value)
+    g.U.ZeroCopySend.name g.U.ZeroCopySend.size g.U.ZeroCopySend.alignment (λ value. g.U.Default.is_default value)
+    g.B.PublisherHandlers.fixed (λ handlers. g.B.Degrades.degrades handlers) (λ handlers. g.B.Decides.decides handlers)
+    g.D.SubscriberHandler.fixed (λ handler. g.D.Degrades.degrades handler)) (λ strategy action degrading at_full
+    at_failure. g.B.TakesHandlers.handled strategy action degrading at_full at_failure) _ (c.args.hub.now, c.args.given.now.places.items)
     (c.carry_out_all.new.hub, c.carry_out_all.new.given.places.items) _ _ c.carry_out_all.ensures.ran
 
 pub returns-clause-once : goal.returns-clause-once
 returns-clause-once g c =
-    run_once (detail FixedSize g.T.ZeroCopySend.name g.T.ZeroCopySend.size g.T.ZeroCopySend.alignment)
-    (detail FixedSize g.U.ZeroCopySend.name g.U.ZeroCopySend.size g.U.ZeroCopySend.alignment)
-    (types_of g.T.ZeroCopySend.name g.T.ZeroCopySend.size g.T.ZeroCopySend.alignment g.U.ZeroCopySend.name g.U.ZeroCopySend.size
-    g.U.ZeroCopySend.alignment) (λ value. g.T.Default.is_default value) (λ value. g.U.Default.is_default value)
-    g.B.PublisherHandlers.fixed (λ strategy action degrading at_full at_failure. g.B.TakesHandlers.handled strategy action degrading
-    at_full at_failure) (λ handlers. g.B.Degrades.degrades handlers) (λ handlers. g.B.Decides.decides handlers)
-    g.D.SubscriberHandler.fixed (λ handler. g.D.Degrades.degrades handler) _ (c.args.hub.now, c.args.given.now.places.items)
+    run_once (terms_of g.T.ZeroCopySend.name g.T.ZeroCopySend.size g.T.ZeroCopySend.alignment (λ value. g.T.Default.is_default value)
+    g.U.ZeroCopySend.name g.U.ZeroCopySend.size g.U.ZeroCopySend.alignment (λ value. g.U.Default.is_default value)
+    g.B.PublisherHandlers.fixed (λ handlers. g.B.Degrades.degrades handlers) (λ handlers. g.B.Decides.decides handlers)
+    g.D.SubscriberHandler.fixed (λ handler. g.D.Degrades.degrades handler)) (λ strategy action degrading at_full
+    at_failure. g.B.TakesHandlers.handled strategy action degrading at_full at_failure) _ (c.args.hub.now, c.args.given.now.places.items)
     (c.carry_out_all.new.hub, c.carry_out_all.new.given.places.items) _ _ c.carry_out_all.ensures.ran
 
 pub returns-clause-agreed : goal.returns-clause-agreed

@@ -1,53 +1,46 @@
-use Rattle.iox_hub_commands.specs.DescribeBase.Detail.{detail}
-use Rattle.iox_hub_commands.specs.DescribeBase.declared.type_detail.TypeVariant.TheVariants.{FixedSize}
-use Rattle.iox_hub_commands.specs.Asked.{types_of}
+use Rattle.iox_hub_commands.specs.Terms.{terms_of}
 use Rattle.iox_hub_commands.proofs.AsAgreed.{are_as_agreed}
 use Rattle.iox_hub_commands.proofs.StepChanges.{changes_count}
 use Rattle.iox_hub.proofs.RunWords.{changes_by_step, grows_by_step, apart_by_step, agrees_by_step}
 use Rattle.iox_hub.proofs.stepping.step.Goals as goal
 
 pub returns-clause-one : goal.returns-clause-one
-returns-clause-one g c = changes_by_step (detail FixedSize g.T.ZeroCopySend.name g.T.ZeroCopySend.size g.T.ZeroCopySend.alignment)
-    (detail FixedSize g.U.ZeroCopySend.name g.U.ZeroCopySend.size g.U.ZeroCopySend.alignment)
-    (types_of g.T.ZeroCopySend.name g.T.ZeroCopySend.size g.T.ZeroCopySend.alignment g.U.ZeroCopySend.name g.U.ZeroCopySend.size
-    g.U.ZeroCopySend.alignment) (λ value. g.T.Default.is_default value) (λ value. g.U.Default.is_default value)
-    g.B.PublisherHandlers.fixed (λ strategy action degrading at_full at_failure. g.B.TakesHandlers.handled strategy action degrading
-    at_full at_failure) (λ handlers. g.B.Degrades.degrades handlers) (λ handlers. g.B.Decides.decides handlers)
-    g.D.SubscriberHandler.fixed (λ handler. g.D.Degrades.degrades handler) c.args.command
+returns-clause-one g c = changes_by_step (terms_of g.T.ZeroCopySend.name g.T.ZeroCopySend.size g.T.ZeroCopySend.alignment
+    (λ value. g.T.Default.is_default value) g.U.ZeroCopySend.name g.U.ZeroCopySend.size g.U.ZeroCopySend.alignment
+    (λ value. g.U.Default.is_default value) g.B.PublisherHandlers.fixed (λ handlers. g.B.Degrades.degrades handlers)
+    (λ handlers. g.B.Decides.decides handlers) g.D.SubscriberHandler.fixed (λ handler. g.D.Degrades.degrades handler))
+    (λ strategy action degrading at_full at_failure. g.B.TakesHandlers.handled strategy action degrading at_full at_failure)
+    c.args.command
     (c.args.hub.now, c.args.given.now.places.items) (c.carry_out.new.hub, c.carry_out.new.given.places.items) c.carry_out.result
     c.carry_out.ensures.steps
 
 pub returns-clause-grows : goal.returns-clause-grows
-returns-clause-grows g c = grows_by_step (detail FixedSize g.T.ZeroCopySend.name g.T.ZeroCopySend.size g.T.ZeroCopySend.alignment)
-    (detail FixedSize g.U.ZeroCopySend.name g.U.ZeroCopySend.size g.U.ZeroCopySend.alignment)
-    (types_of g.T.ZeroCopySend.name g.T.ZeroCopySend.size g.T.ZeroCopySend.alignment g.U.ZeroCopySend.name g.U.ZeroCopySend.size
-    g.U.ZeroCopySend.alignment) (λ value. g.T.Default.is_default value) (λ value. g.U.Default.is_default value)
-    g.B.PublisherHandlers.fixed (λ strategy action degrading at_full at_failure. g.B.TakesHandlers.handled strategy action degrading
-    at_full at_failure) (λ handlers. g.B.Degrades.degrades handlers) (λ handlers. g.B.Decides.decides handlers)
-    g.D.SubscriberHandler.fixed (λ handler. g.D.Degrades.degrades handler) c.args.command
+returns-clause-grows g c = grows_by_step (terms_of g.T.ZeroCopySend.name g.T.ZeroCopySend.size g.T.ZeroCopySend.alignment
+    (λ value. g.T.Default.is_default value) g.U.ZeroCopySend.name g.U.ZeroCopySend.size g.U.ZeroCopySend.alignment
+    (λ value. g.U.Default.is_default value) g.B.PublisherHandlers.fixed (λ handlers. g.B.Degrades.degrades handlers)
+    (λ handlers. g.B.Decides.decides handlers) g.D.SubscriberHandler.fixed (λ handler. g.D.Degrades.degrades handler))
+    (λ strategy action degrading at_full at_failure. g.B.TakesHandlers.handled strategy action degrading at_full at_failure)
+    c.args.command
     (c.args.hub.now, c.args.given.now.places.items) (c.carry_out.new.hub, c.carry_out.new.given.places.items) c.carry_out.result
     c.carry_out.ensures.steps
 
 pub returns-clause-apart : goal.returns-clause-apart
-returns-clause-apart g c = apart_by_step (detail FixedSize g.T.ZeroCopySend.name g.T.ZeroCopySend.size g.T.ZeroCopySend.alignment)
-    (detail FixedSize g.U.ZeroCopySend.name g.U.ZeroCopySend.size g.U.ZeroCopySend.alignment)
-    (types_of g.T.ZeroCopySend.name g.T.ZeroCopySend.size g.T.ZeroCopySend.alignment g.U.ZeroCopySend.name g.U.ZeroCopySend.size
-    g.U.ZeroCopySend.alignment) (λ value. g.T.Default.is_default value) (λ value. g.U.Default.is_default value)
-    g.B.PublisherHandlers.fixed (λ strategy action degrading at_full at_failure. g.B.TakesHandlers.handled strategy action degrading
-    at_full at_failure) (λ handlers. g.B.Degrades.degrades handlers) (λ handlers. g.B.Decides.decides handlers)
-    g.D.SubscriberHandler.fixed (λ handler. g.D.Degrades.degrades handler) c.args.command
+returns-clause-apart g c = apart_by_step (terms_of g.T.ZeroCopySend.name g.T.ZeroCopySend.size g.T.ZeroCopySend.alignment
+    (λ value. g.T.Default.is_default value) g.U.ZeroCopySend.name g.U.ZeroCopySend.size g.U.ZeroCopySend.alignment
+    (λ value. g.U.Default.is_default value) g.B.PublisherHandlers.fixed (λ handlers. g.B.Degrades.degrades handlers)
+    (λ handlers. g.B.Decides.decides handlers) g.D.SubscriberHandler.fixed (λ handler. g.D.Degrades.degrades handler))
+    (λ strategy action degrading at_full at_failure. g.B.TakesHandlers.handled strategy action degrading at_full at_failure)
+    c.args.command
     (c.args.hub.now, c.args.given.now.places.items) (c.carry_out.new.hub, c.carry_out.new.given.places.items) c.carry_out.result
     c.carry_out.ensures.steps
 
 pub returns-clause-one_agreement : goal.returns-clause-one_agreement
 returns-clause-one_agreement g c = agrees_by_step
-    (detail FixedSize g.T.ZeroCopySend.name g.T.ZeroCopySend.size g.T.ZeroCopySend.alignment)
-    (detail FixedSize g.U.ZeroCopySend.name g.U.ZeroCopySend.size g.U.ZeroCopySend.alignment)
-    (types_of g.T.ZeroCopySend.name g.T.ZeroCopySend.size g.T.ZeroCopySend.alignment g.U.ZeroCopySend.name g.U.ZeroCopySend.size
-    g.U.ZeroCopySend.alignment) (λ value. g.T.Default.is_default value) (λ value. g.U.Default.is_default value)
-    g.B.PublisherHandlers.fixed (λ strategy action degrading at_full at_failure. g.B.TakesHandlers.handled strategy action degrading
-    at_full at_failure) (λ handlers. g.B.Degrades.degrades handlers) (λ handlers. g.B.Decides.decides handlers)
-    g.D.SubscriberHandler.fixed (λ handler. g.D.Degrades.degrades handler) c.args.command
+    (terms_of g.T.ZeroCopySend.name g.T.ZeroCopySend.size g.T.ZeroCopySend.alignment (λ value. g.T.Default.is_default value)
+    g.U.ZeroCopySend.name g.U.ZeroCopySend.size g.U.ZeroCopySend.alignment (λ value. g.U.Default.is_default value)
+    g.B.PublisherHandlers.fixed (λ handlers. g.B.Degrades.degrades handlers) (λ handlers. g.B.Decides.decides handlers)
+    g.D.SubscriberHandler.fixed (λ handler. g.D.Degrades.degrades handler)) (λ strategy action degrading at_full
+    at_failure. g.B.TakesHandlers.handled strategy action degrading at_full at_failure) c.args.command
     (c.args.hub.now, c.args.given.now.places.items) (c.carry_out.new.hub, c.carry_out.new.given.places.items) c.carry_out.result
     c.carry_out.ensures.steps
 

@@ -1,13 +1,11 @@
 use Rattle.std.proofs.Common.{◌≡◌, ◌+◌, ◌≤◌, ◌++◌, length, vec_len, vec_capacity}
 use Rattle.std.specs.Vec.Iter.{into_iter_items, into_iter_len}
-use Rattle.iox_delivery.specs.DescribeBase.Detail.{detail}
-use Rattle.iox_delivery.specs.DescribeBase.declared.type_detail.TypeVariant.TheVariants.{FixedSize}
-use Rattle.iox_hub_commands.specs.Asked.{types_of}
 use Rattle.iox_hub_commands.specs.Grown.{GrowsOn}
 use Rattle.iox_hub_commands.specs.Numbers.{numbers_used}
 use Rattle.iox_hub_commands.specs.PortRoom.{KeepsRoom}
 use Rattle.iox_hub_commands.specs.Runs.{Runs}
 use Rattle.iox_hub_commands.specs.CommandSteps.{Step}
+use Rattle.iox_hub_commands.specs.Terms.{terms_of}
 use Rattle.iox_hub_commands.proofs.numbered_hub.NumberedHub.carry_out_all.Given as goal
 
 -- what was taken from the list was carried out and replied to
@@ -15,12 +13,11 @@ abbrev pub invariant-loop-command : goal.invariant-loop-command
 invariant-loop-command g l = record {
   all : l.yielded ++ into_iter_items l.command-iterator ≡ into_iter_items l.initial.command-iterator;
   left : into_iter_len l.command-iterator ≡ length (into_iter_items l.command-iterator);
-  ran : Runs (Step (detail FixedSize g.T.ZeroCopySend.name g.T.ZeroCopySend.size g.T.ZeroCopySend.alignment)
-      (detail FixedSize g.U.ZeroCopySend.name g.U.ZeroCopySend.size g.U.ZeroCopySend.alignment)
-      (types_of g.T.ZeroCopySend.name g.T.ZeroCopySend.size g.T.ZeroCopySend.alignment g.U.ZeroCopySend.name g.U.ZeroCopySend.size
-      g.U.ZeroCopySend.alignment) (λ value. g.T.Default.is_default value) (λ value. g.U.Default.is_default value)
-      g.B.PublisherHandlers.fixed (λ handlers. g.B.Degrades.degrades handlers) (λ handlers. g.B.Decides.decides handlers)
-      g.D.SubscriberHandler.fixed (λ handler. g.D.Degrades.degrades handler)) l.yielded l.initial.self l.replies.items l.self;
+  ran : Runs (Step (terms_of g.T.ZeroCopySend.name g.T.ZeroCopySend.size g.T.ZeroCopySend.alignment
+      (λ value. g.T.Default.is_default value) g.U.ZeroCopySend.name g.U.ZeroCopySend.size g.U.ZeroCopySend.alignment
+      (λ value. g.U.Default.is_default value) g.B.PublisherHandlers.fixed (λ handlers. g.B.Degrades.degrades handlers)
+      (λ handlers. g.B.Decides.decides handlers) g.D.SubscriberHandler.fixed (λ handler. g.D.Degrades.degrades handler))) l.yielded
+      l.initial.self l.replies.items l.self;
   counts : numbers_used l.self ≤ numbers_used l.initial.self + length l.yielded;
   answered : vec_len l.replies ≡ length l.yielded;
   room : length (into_iter_items l.initial.command-iterator) ≤ vec_capacity l.replies;
