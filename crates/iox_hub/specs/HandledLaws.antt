@@ -1,8 +1,6 @@
 -- What a run with handlers comes to, in the words of the machine of `iox_machine`.
-use Rattle.std.specs.Prelude.{ℕ, ◌≡◌, ◌^◌, ◌<◌, Bool, true, false, List, length, map, Option, ◌++◌, drop}
-use Rattle.std.specs.List.{AllByRecursion}
+use Rattle.std.specs.Prelude.{ℕ, ◌≡◌, ◌^◌, ◌<◌, Bool, true, List, length, map, Option}
 use Rattle.iox_hub_commands.specs.Command.declared.reply.Reply.{Reply}
-use Rattle.iox_hub_commands.specs.Command.declared.reply.Reply.TheVariants as reply
 use Rattle.iox_hub_commands.specs.DescribeBase.declared.pattern.MessagingPattern.{MessagingPattern}
 use Rattle.iox_hub_commands.specs.Domain.declared.ports.service_ports.ServicePorts.{ServicePorts}
 use Rattle.iox_hub_commands.specs.DomainValues.declared.backpressure.BackpressureAction.{BackpressureAction}
@@ -19,8 +17,9 @@ use Rattle.iox_domain_machine.specs.Naming.{Naming}
 use Rattle.iox_hub_machine.specs.ArrivalLaws.{AnswersAsFixed, DecidesAsFixed}
 use Rattle.iox_hub_machine.specs.RunLaws.{all_asked, names_in}
 use Rattle.iox_hub_machine.specs.Services.{HubStandsFor}
+use Rattle.iox_hub.specs.HandledAnswers.{AnswersWithHandlers}
 use Rattle.iox_hub.specs.Room.{StopsInTime}
-use Rattle.iox_hub.specs.Turns.{answered_in, asked_in, finds_handlers, handed_in, turns, without_places}
+use Rattle.iox_hub.specs.Turns.{answered_in, asked_in, handed_in, turns, without_places}
 use Rattle.iox_hub.specs.declared.given.GivenHandler.{GivenHandler}
 use Rattle.iox_hub.specs.declared.handled_command.HandledCommand.{HandledCommand}
 use Rattle.iox_hub.specs.Steps.{HandledStep}
@@ -32,30 +31,14 @@ use Rattle.iox_negotiate_machine.specs.Laws.{HaveOwnHashes}
 -- The terms of the hub are given, and who decides by handlers that are handed in.
 module _ {T U B D P : Type 0} (terms : Terms T U B D)
     (handled : BackpressureStrategy → Option BackpressureAction → DegradationAction → Option P → Option D → B) where
-  -- What a hub replied to commands, where these handlers lay at their places at first, is what a new machine may answer where those were
-  -- handed in who were: to all commands, or, where the run stopped, to the first of them, where a run may stop. A command that doesn't
-  -- find a handler that it names is skipped, and the machine isn't asked it. So it is where the hub was new, no two services of the names
-  -- that are asked for share a hash, commands and their steps are fewer than 2 ^ 56, and whoever is made of fixed actions for a port
-  -- decides by these.
-  abbrev pub AnswersWithHandlers : HubConfig → List (HandledCommand T) → NumberedHub T U B D → List (Option (GivenHandler P D))
-      → List (Reply T) → Bool → Type 0
-  AnswersWithHandlers config commands old given replies stopped =
-      let plain = map (λ command. without_places command) commands in
-      let left = map (λ command. without_places command) (drop (length replies) commands) in
-      let all = turns commands replies given in
-      DecidesAsFixed terms.fixed terms.degrades terms.decides → AnswersAsFixed terms.fixed_reader terms.reader_degrades
-      → IsNew config old → HaveOwnHashes (names_in plain) → all_asked plain < 2 ^ 56
-      → machine.Answers terms.types (chosen_by terms.is_default terms.decides terms.degrades terms.reader_degrades
-      (handed_in handled all)) config.expired_connection_buffer (asked_in all ++ left) stopped (answered_in all)
-      × AllByRecursion (λ turn. finds_handlers turn.command turn.given ≡ false → turn.answer ≡ reply.Skipped) all
-
-  -- So it is of each run that stops only where it may.
+  -- Each run of a new hub that stops only where it may is answered as a new machine may answer.
   abbrev pub HandledRunsAnswer : Type 0
   HandledRunsAnswer = (config : HubConfig) (commands : List (HandledCommand T))
       (old new : NumberedHub T U B D × List (Option (GivenHandler P D))) (replies : List (Reply T)) (stopped : Bool)
       → IsRun (HandledStep terms handled) commands old replies stopped new
       → (HasRoom old.0 → HaveGrown old.0.hub.services.domains → stopped ≡ true → StopsInTime commands old (length replies) new)
-      → AnswersWithHandlers config commands old.0 old.1 replies stopped
+      → AnswersWithHandlers terms.types terms.is_default terms.fixed handled terms.degrades terms.decides terms.fixed_reader
+      terms.reader_degrades config commands old.0 old.1 replies stopped
 
   -- What a hub that replied to commands stands for is a state to which a new machine comes with the same replies, where those were handed
   -- in who were. So what is so of each state that a run of the machine leads to, is so of what such a hub stands for.

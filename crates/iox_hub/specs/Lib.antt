@@ -5,6 +5,7 @@ pub mod Taking
 pub mod Room
 pub mod RunLaws
 pub mod Turns
+pub mod HandledAnswers
 pub mod HandledLaws
 pub mod Recorded
 pub mod RecordedCalls

@@ -2,13 +2,14 @@
 ghost use Rattle.std.specs.Prelude.{◌≡◌, ◌+◌, ◌<◌, ◌≤◌, ◌^◌, true, length};
 ghost use Rattle.iox_hub_commands.specs.Agreements.{AreOfOneAgreement};
 ghost use Rattle.iox_hub_commands.specs.Grown.{GrowsOn, HaveGrown, AreAsAgreed};
+ghost use Rattle.iox_hub_commands.specs.Asked.{types_of};
 ghost use Rattle.iox_hub_commands.specs.HubBase.declared.hub.HubConfig.{HubConfig};
 ghost use Rattle.iox_hub_commands.specs.Lives.{NumbersGoOn};
 ghost use Rattle.iox_hub_commands.specs.Numbers.{numbers_used};
 ghost use Rattle.iox_hub_commands.specs.PortRoom.{HasRoom, KeepsRoom};
 ghost use Rattle.iox_hub_commands.specs.Runs.{IsRun};
 ghost use Rattle.iox_hub_commands.specs.Terms.{terms_of};
-ghost use Rattle.iox_hub.specs.HandledLaws.{AnswersWithHandlers};
+ghost use Rattle.iox_hub.specs.HandledAnswers.{AnswersWithHandlers};
 ghost use Rattle.iox_hub.specs.Room.{StopsInTime};
 ghost use Rattle.iox_hub.specs.Steps.{HandledStep};
 ghost use Rattle.iox_hub.specs.Taking.{TakesOnce, taken};
@@ -63,10 +64,10 @@ pub fn run<
     // Just the places that commands name which are replied to, and not skipped, are emptied; each held a handler, and no two are the same.
     ensures once { TakesOnce (taken commands.entry.items result.replies.items) given.old.places.items given.new.places.items }
     // What a new hub replies is what a new machine may answer, where those were handed in who were, by the premises in the definition.
-    ensures answers { (config : HubConfig) → AnswersWithHandlers (terms_of T.name T.size T.alignment T.is_default U.name U.size
-        U.alignment U.is_default B.fixed (λ handlers. B.degrades handlers) (λ handlers. B.decides handlers) D.fixed
-        (λ handler. D.degrades handler)) (λ strategy action degrading at_full at_failure. B.handled strategy action degrading at_full
-        at_failure) config commands.entry.items hub.old given.old.places.items result.replies.items result.stopped }
+    ensures answers { (config : HubConfig) → AnswersWithHandlers (types_of T.name T.size T.alignment U.name U.size U.alignment) T.is_default
+        B.fixed (λ strategy action degrading at_full at_failure. B.handled strategy action degrading at_full at_failure)
+        (λ handlers. B.degrades handlers) (λ handlers. B.decides handlers) D.fixed (λ handler. D.degrades handler) config
+        commands.entry.items hub.old given.old.places.items result.replies.items result.stopped }
 {
     runs_with_handlers_answer::<T, U, B, D, P>();
     carry_out_all(hub, alloc, commands, given)
