@@ -55,7 +55,7 @@ pub(crate) fn run<K: Opening>(
 {
     let mut made = 0;
     while made < most {
-        if lane.stage().is_over() {
+        if lane.port().call().is_over() {
             return lane.go_on(0);
         }
         made += stride(words, seat, sizes, lane, most - made);

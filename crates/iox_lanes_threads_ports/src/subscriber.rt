@@ -53,7 +53,7 @@ fn settle(lane: &mut SubscriberLane)
     ensures lane { lane.new ≡ settled lane.old }
     ensures idle { subscriber_is_idle lane.new.port.call ≡ true }
 {
-    if lane.stage().is_over() {
+    if lane.port().call().is_over() {
         lane.go_on(0, 0);
     }
 }

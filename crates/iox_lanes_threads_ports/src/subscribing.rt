@@ -52,7 +52,7 @@ pub(crate) fn finish<K: Opening>(
     ensures over { subscriber_is_over lane.new.port.call ≡ true }
 {
     stride_on(words, seat, sizes, lane);
-    while !lane.stage().is_over() {
+    while !lane.port().call().is_over() {
         step(words, seat, sizes, lane);
     }
 }
@@ -76,7 +76,7 @@ pub(crate) fn run_on<R: Wait, K: Opening>(
     ensures over { subscriber_is_over lane.new.port.call ≡ true }
 {
     for _ in rt.forever() {
-        if lane.stage().is_over() {
+        if lane.port().call().is_over() {
             return;
         }
         receive_on(words, seat, sizes, lane);

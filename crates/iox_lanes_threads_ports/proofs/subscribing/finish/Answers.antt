@@ -25,7 +25,7 @@ loop-seat-preserved g c =
     = ap (λ (s : Service). s.sizes) run.seat.service ∙ c.requires.seat.1 in
     let near = nearer (port_of c.loop-seat.seat.me).service.sizes c.loop-seat.lane c.step.ensures.steps.0
     (subst IsSmall (sym same) c.requires.table.2) run.stands.within c.loop-seat.invariant.3
-    (sym (c.is_over.ensures ∙ ap subscriber_is_over c.stage.ensures) ∙ c.loop-seat-test.true) in (
+    (sym (c.is_over.ensures ∙ ap subscriber_is_over (c.call.ensures ∙ ap (λ port. port.call) c.port.ensures)) ∙ c.loop-seat-test.true) in (
       c.step.ensures.table.0 ∙ c.loop-seat.invariant.0,
       c.step.ensures.table.1 ∙ c.loop-seat.invariant.1,
       subscribes_on (port_of c.args.seat.now.me) c.args.lane.now c.loop-seat.seat.me c.loop-seat.lane c.step.new.seat.me c.step.new.lane
@@ -40,5 +40,5 @@ loop-seat-smaller g c =
     = ap (λ (s : Service). s.sizes) run.seat.service ∙ c.requires.seat.1 in
     let near = nearer (port_of c.loop-seat.seat.me).service.sizes c.loop-seat.lane c.step.ensures.steps.0
     (subst IsSmall (sym same) c.requires.table.2) run.stands.within c.loop-seat.invariant.3
-    (sym (c.is_over.ensures ∙ ap subscriber_is_over c.stage.ensures) ∙ c.loop-seat-test.true) in
+    (sym (c.is_over.ensures ∙ ap subscriber_is_over (c.call.ensures ∙ ap (λ port. port.call) c.port.ensures)) ∙ c.loop-seat-test.true) in
     subst (λ (l : SubscriberLaneState). steps_left l.port.call < steps_left c.loop-seat.lane.port.call) (sym c.step.ensures.steps.3) near.1
