@@ -83,10 +83,9 @@ impl PublisherLane {
     pub fn fits(&self, step: &Move) -> bool
         ensures { result ≡ publisher_fits self.now step.now }
     {
-        let is_idle = self.port.call().is_idle();
         match step {
-            Move::Begin(call) => is_idle && self.may(call),
-            Move::GoOn => !is_idle,
+            Move::Begin(call) => self.port.call().is_idle() && self.may(call),
+            Move::GoOn => !self.port.call().is_idle(),
         }
     }
 
