@@ -42,6 +42,16 @@ module _ {L C S : Type 0} (kind : LaneKind L C) (stage : S → C) (asks : S → 
       (goes_on lane state answer keeps (subst (λ (s : S). AsksWord (asks s)) is asked)
       ∙ ap (λ (s : S). kind.called (stage s) lane) (sym is)) on
 
+  -- behind the first of two accesses a call stands at the second
+  pub stands_second : (lane : L) (me mid : Me ℕ View) (state next : S) (answer : ℕ) → MakesTwo asks takes state → next ≡ takes state answer
+      → StridesOn kind 1 me (kind.called (stage state) lane) mid (kind.after answer (kind.called (stage state) lane))
+      → AsksWord (asks next) × StridesOn kind 1 me (kind.called (stage state) lane) mid (kind.called (stage next) lane)
+  stands_second lane me mid state next answer two is on =
+      let asked : AsksWord (asks next) = subst (λ (s : S). AsksWord (asks s)) (sym is) (two.second answer) in (
+        asked,
+        strides_to lane (kind.called (stage state) lane) me mid 1 state next answer two.keeps asked is on,
+      )
+
 -- what a pop or a push that isn't over behind two accesses does
 module _ {S : Type 0} (asks : S → Access) (takes : S → ℕ → S) (over : S → Bool) (begun seen found : S) (a b : ℕ) where
   pub found_more : RunsAhead asks takes over begun → seen ≡ takes begun a → found ≡ takes seen b → over found ≡ false

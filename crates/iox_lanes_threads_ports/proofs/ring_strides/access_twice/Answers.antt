@@ -1,39 +1,41 @@
-use Rattle.std.proofs.Common.{sym, subst}
-use Rattle.iox_lanes_threads_ports.specs.Strides.{AsksWord}
-use Rattle.iox_lanes_threads_ports.proofs.RingStriding.{strides_along, strides_to}
+use Rattle.iox_lanes_threads_ports.proofs.RingStriding.{stands_second, strides_along}
 use Rattle.iox_lanes_threads_ports.proofs.Striding.{stride_next}
 use Rattle.iox_lanes_threads_ports.proofs.ring_strides.access_twice.Goals as goal
 
-pub access_at-first-requires : goal.access_at-first-requires
-access_at-first-requires g c = record { may = c.requires.may; asks = c.requires.two.first }
+pub access_at-first-requires-clause-asks : goal.access_at-first-requires-clause-asks
+access_at-first-requires-clause-asks g c = c.requires.two.first
 
-pub access_at-second-requires : goal.access_at-second-requires
-access_at-second-requires g c =
-    let kind = g.L.Ahead.kind in
-    let stage = g.C.RingCall.stage c.args.call in
-    let asked = subst (λ state. AsksWord (g.S.End.asks state)) (sym c.take-next.ensures) (c.requires.two.second c.access_at-first.result) in
-    let on = strides_to kind stage g.S.End.asks g.S.End.takes (λ lane state answer. g.met.C.RingCall.goes_on lane c.args.call state answer)
-    c.args.lane.now (kind.called (stage c.args.state) c.args.lane.now) c.args.seat.now.me c.access_at-first.new.seat.me 1 c.args.state
-    c.take-next.result c.access_at-first.result c.requires.two.keeps asked c.take-next.ensures c.access_at-first.ensures.strode in
-    record {
-      may = stride_next c.goes_ahead.ensures c.args.words.now.table_id c.args.seat.now.table_id c.access_at-first.new.seat.table_id
-          c.args.seat.now.me c.access_at-first.new.seat.me c.args.sizes.now (kind.called (stage c.args.state) c.args.lane.now)
-          (kind.called (stage c.take-next.result) c.args.lane.now) ((g.C.RingCall.ring c.args.call).cells) 1 c.requires.may
-          c.access_at-first.ensures.table.0 on;
-      asks = asked;
-    }
+pub access_at-second-requires-clause-asks : goal.access_at-second-requires-clause-asks
+access_at-second-requires-clause-asks g c =
+    (stands_second g.L.Ahead.kind (g.C.RingCall.stage c.args.call) g.S.End.asks g.S.End.takes
+    (λ lane state answer. g.met.C.RingCall.goes_on lane c.args.call state answer) c.args.lane.now c.args.seat.now.me
+    c.access_at-first.new.seat.me c.args.state c.take-next.result c.access_at-first.result c.requires.two c.take-next.ensures
+    c.access_at-first.ensures.strode).0
+
+pub access_at-second-requires-clause-may : goal.access_at-second-requires-clause-may
+access_at-second-requires-clause-may g c =
+    stride_next c.goes_ahead.ensures c.args.words.now.table_id c.args.seat.now.table_id c.access_at-first.new.seat.table_id
+    c.args.seat.now.me c.access_at-first.new.seat.me c.args.sizes.now
+    (g.L.Ahead.kind.called (g.C.RingCall.stage c.args.call c.args.state) c.args.lane.now)
+    (g.L.Ahead.kind.called (g.C.RingCall.stage c.args.call c.take-next.result) c.args.lane.now)
+    ((g.C.RingCall.ring c.args.call).cells) 1 c.requires.may c.access_at-first.ensures.table.0
+    (stands_second g.L.Ahead.kind (g.C.RingCall.stage c.args.call) g.S.End.asks g.S.End.takes
+    (λ lane state answer. g.met.C.RingCall.goes_on lane c.args.call state answer) c.args.lane.now c.args.seat.now.me
+    c.access_at-first.new.seat.me c.args.state c.take-next.result c.access_at-first.result c.requires.two c.take-next.ensures
+    c.access_at-first.ensures.strode).1
 
 pub returns-clause-second : goal.returns-clause-second
 returns-clause-second g c = (c.access_at-first.result, c.take-next.ensures)
 
 pub returns-clause-strode : goal.returns-clause-strode
 returns-clause-strode g c =
-    let kind = g.L.Ahead.kind in
-    let stage = g.C.RingCall.stage c.args.call in
-    let asked = subst (λ state. AsksWord (g.S.End.asks state)) (sym c.take-next.ensures) (c.requires.two.second c.access_at-first.result) in
-    let on = strides_to kind stage g.S.End.asks g.S.End.takes (λ lane state answer. g.met.C.RingCall.goes_on lane c.args.call state answer)
-    c.args.lane.now (kind.called (stage c.args.state) c.args.lane.now) c.args.seat.now.me c.access_at-first.new.seat.me 1 c.args.state
-    c.take-next.result c.access_at-first.result c.requires.two.keeps asked c.take-next.ensures c.access_at-first.ensures.strode in
-    strides_along kind 1 1 c.args.seat.now.me c.access_at-first.new.seat.me c.access_at-second.new.seat.me
-    (kind.called (stage c.args.state) c.args.lane.now) (kind.called (stage c.take-next.result) c.args.lane.now)
-    (kind.after c.access_at-second.result (kind.called (stage c.take-next.result) c.args.lane.now)) on c.access_at-second.ensures.strode
+    strides_along g.L.Ahead.kind 1 1 c.args.seat.now.me c.access_at-first.new.seat.me c.access_at-second.new.seat.me
+    (g.L.Ahead.kind.called (g.C.RingCall.stage c.args.call c.args.state) c.args.lane.now)
+    (g.L.Ahead.kind.called (g.C.RingCall.stage c.args.call c.take-next.result) c.args.lane.now)
+    (g.L.Ahead.kind.after c.access_at-second.result
+    (g.L.Ahead.kind.called (g.C.RingCall.stage c.args.call c.take-next.result) c.args.lane.now))
+    (stands_second g.L.Ahead.kind (g.C.RingCall.stage c.args.call) g.S.End.asks g.S.End.takes
+    (λ lane state answer. g.met.C.RingCall.goes_on lane c.args.call state answer) c.args.lane.now c.args.seat.now.me
+    c.access_at-first.new.seat.me c.args.state c.take-next.result c.access_at-first.result c.requires.two c.take-next.ensures
+    c.access_at-first.ensures.strode).1
+    c.access_at-second.ensures.strode
