@@ -5,6 +5,14 @@ use Rattle.iox_lanes_threads_ports.proofs.Striding.{strode_begun, stride_begun, 
 use Rattle.iox_lanes_threads_ports.proofs.RingStriding.{found_more, strides_to}
 use Rattle.iox_lanes_threads_ports.proofs.ring_strides.ring_stride.Goals as goal
 
+pub access_twice-seen-requires-clause-may : goal.access_twice-seen-requires-clause-may
+access_twice-seen-requires-clause-may g c =
+    stride_begun c.goes_ahead.ensures c.args.words.now.table_id c.args.seat.now.table_id c.args.seat.now.me c.args.sizes.now c.args.lane.now
+    (g.C.RingCall.stage c.args.call c.args.begun) ((g.C.RingCall.ring c.args.call).cells) c.requires.may c.requires.call
+
+pub access_twice-seen-requires-clause-two : goal.access_twice-seen-requires-clause-two
+access_twice-seen-requires-clause-two g c = c.requires.runs.two
+
 pub access_twice-last-requires-clause-two : goal.access_twice-last-requires-clause-two
 access_twice-last-requires-clause-two g c =
     let more = found_more g.S.End.asks g.S.End.takes g.S.End.over c.args.begun c.access_twice-seen.result.0 c.take-found.result
