@@ -67,7 +67,7 @@ class CratePage:
         for place in self.crate.places:
             found[place.name] = f"#{place.anchor}"
             for _, it in place.impls:
-                for member in it.members if not it.trait else ():
+                for member in (one for one in it.members if one.is_public and not it.trait):
                     calls.setdefault(member.name, []).append(f"#{place.anchor}.{member.name}")
                     found[f"{place.name}::{member.name}"] = f"#{place.anchor}.{member.name}"
             for member in (it for it in place.item.members if it.kind == "fn"):
