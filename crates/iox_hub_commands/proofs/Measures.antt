@@ -1,7 +1,7 @@
 -- What is counted of the ports of all open services, what each call of a port makes of that, and what becomes of it as a domain
 -- goes on, comes or goes.
 use Rattle.std.proofs.Common.{arith, ◌≡◌, ◌∙◌, ◌+◌, ◌≤◌, ℕ, Bool, true, false, List, [], ◌∷◌, Option, None, Some, Result, Ok, Err}
-use Rattle.std.proofs.Common.{if◌then◌else◌, option_map, refl, sym, ap, subst}
+use Rattle.std.proofs.Common.{if◌then◌else◌, refl, sym, ap, subst}
 use Rattle.std.proofs.lemmas.List.Sums.{sum_by-cons}
 use Rattle.std.proofs.lemmas.Map.Entries.{sum_by-set_value, sum_by-remove_entry}
 use Rattle.std.proofs.lemmas.Map.Views.{All-values-set_value, All-map-remove_entry, All-values-insert_entry, IfSome-lookup_from_All}

@@ -1,18 +1,16 @@
 -- Factories of one service carry the same, and its domain serves them.
-use Rattle.std.proofs.Common.{◌≡◌, ℕ, Bool, true, List, Option, Some, refl, sym, ap}
+use Rattle.std.proofs.Common.{◌≡◌, ℕ, Some, sym}
 use Rattle.std.specs.Prelude.{nat_eq}
 use Rattle.std.specs.Ordering.{nat_cmp}
 use Rattle.std.specs.BTreeMap.{is_at}
 use Rattle.std.proofs.lemmas.Map.Lookups.{exact_unsigned}
 use Rattle.iox_delivery.specs.DescribeSettings.declared.static_config.Settings.TheVariants.{PublishSubscribe}
 use Rattle.iox_hub_base.specs.declared.hub.Hub.{Hub}
-use Rattle.iox_hub_base.specs.Open.{presence_of}
-use Rattle.iox_hub_base.specs.declared.presence.Presence.{Presence}
 use Rattle.iox_delivery.specs.Container.NumberTable.{value_at}
 use Rattle.iox_hub_commands.specs.ServicesTables.{FactoryTable}
 use Rattle.iox_hub_commands.specs.declared.services.made.MadeFactory.{MadeFactory}
 use Rattle.iox_negotiate.proofs.Changes.{equal-of}
-use Rattle.iox_negotiate.proofs.Maps.{Among, among, among-all}
+use Rattle.iox_negotiate.proofs.Maps.{among, among-all}
 use Rattle.iox_hub_commands.specs.Agreements.{IsAgreement, AreOfOneAgreement, agreed_in}
 use Rattle.iox_hub_commands.specs.AgreementLaws.{service_of, carried_by, FactoriesAgree, DomainsServe, AgreementIsOne}
 

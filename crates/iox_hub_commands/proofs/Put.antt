@@ -23,7 +23,7 @@ use Rattle.iox_domain.specs.Handling.{kept_degrades, kept_decides}
 use Rattle.iox_domain.specs.Lending.{LoansIf, LoansOne, passes_port, written_in}
 use Rattle.iox_domain.specs.Ports.{AtPublisher, with_publisher}
 use Rattle.iox_domain.specs.PortsPublishing.{is_blocked, is_free, SendsOne}
-use Rattle.iox_domain.specs.Putting.{with_values, SendsLent, PutsValues, PutsIf, PutsOne}
+use Rattle.iox_domain.specs.Putting.{with_values, SendsLent, PutsIf, PutsOne}
 use Rattle.iox_domain.specs.States.{with_ports, publisher_handlers_in}
 use Rattle.iox_domain.specs.Steps.{LoansBy, PutsBy, SendsBy}
 use Rattle.iox_domain.specs.declared.domain_id.DomainId.{DomainId}
@@ -33,14 +33,14 @@ use Rattle.iox_domain.proofs.Homely.{put_is_there, same_stays}
 use Rattle.iox_domain.proofs.Lent.{still_there}
 use Rattle.iox_domain.proofs.Numbered.{same_set}
 use Rattle.iox_domain.proofs.Putting.{lender_stands}
-use Rattle.iox_delivery.specs.Holding.{publisher_found, publisher_stands, publisher_blocked}
+use Rattle.iox_delivery.specs.Holding.{publisher_stands, publisher_blocked}
 use Rattle.iox_delivery.specs.Lent.{IsReady}
 use Rattle.iox_delivery.specs.Publishing.{changed_at}
 use Rattle.iox_delivery.specs.Slices.{SendsValues}
 use Rattle.iox_delivery.specs.declared.port_id.PortId.{PortId}
 use Rattle.iox_delivery.proofs.Filled.{written_is_ready}
 use Rattle.iox_delivery.proofs.Lent.{stepped}
-use Rattle.iox_hub_commands.specs.Calls.{AtPort, Puts, ready, may_lend}
+use Rattle.iox_hub_commands.specs.Calls.{AtPort, Puts, ready}
 
 left_of : (a b : Bool) → (a && b) ≡ true → a ≡ true
 left_of true b both = refl

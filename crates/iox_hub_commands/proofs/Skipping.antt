@@ -1,5 +1,5 @@
 -- A call at a number that stands for nothing is skipped, whatever memory there is.
-use Rattle.std.proofs.Common.{arith, ◌≡◌, ◌≤◌, ℕ, Option, None, Some, Result, Ok, Err, refl}
+use Rattle.std.proofs.Common.{arith, ◌≡◌, ℕ, Option, None, Some, Result, Ok, Err, refl}
 use Rattle.std.specs.Prelude.{IsSome, OnErr}
 use Rattle.iox_delivery.specs.DomainValues.declared.degradation.DegradationAction.{DegradationAction}
 use Rattle.iox_delivery.specs.DomainValues.declared.degradation.DegradationInfo.{DegradationInfo}

@@ -1,5 +1,5 @@
 -- A factory that is closed in the table is never answered to be in use.
-use Rattle.std.proofs.Common.{◌≡◌, ℕ, List, [], ◌∷◌, Result, Ok, Err, sym}
+use Rattle.std.proofs.Common.{◌≡◌, ℕ, List, [], ◌∷◌, Result, Err}
 use Rattle.iox_hub_base.specs.DescribeBase.declared.hash.ServiceHash.{ServiceHash}
 use Rattle.iox_hub_base.specs.declared.hub.Hub.{Hub}
 use Rattle.iox_hub_base.specs.Negotiate.Factory.{segment_removed, RemovesSegment, RemovalGoes, Removes, LeaveGoes, Closes}
