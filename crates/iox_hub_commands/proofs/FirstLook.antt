@@ -46,11 +46,14 @@ use Rattle.iox_hub_commands.specs.Creating.{CreatesAgreed, CreatesAs, CreatesNum
 use Rattle.iox_hub_commands.specs.Either.{EitherAs, EitherJudged, EitherNumbered}
 use Rattle.iox_hub_commands.specs.Opening.{OpensAs, OpensNumbered}
 use Rattle.iox_hub_commands.specs.Refusing.{IsUncreated, create_refused, either_refused, open_absent, open_locked, either_locked}
+use Rattle.iox_hub_commands.specs.OpeningCalls.{ByCall, CallsNumbered, OpensUnlessLacking, told_of}
 use Rattle.iox_hub_commands.specs.Refusing.{first_look, open_told, create_told, either_told}
 use Rattle.iox_hub_commands.specs.ServicesNumbering.{GetsNumber}
 use Rattle.iox_hub_commands.specs.ServicesTables.{FactoryTable}
 use Rattle.iox_hub_commands.specs.Steps.{PublishesInForm, acts_first, from, last_access, list_before, lists_of, step_of}
 use Rattle.iox_hub_commands.specs.declared.services.asked.ServiceAsked.{ServiceAsked}
+use Rattle.iox_hub_commands.specs.declared.services.opening_call.OpeningCall.{OpeningCall}
+use Rattle.iox_hub_commands.specs.declared.services.opening_call.OpeningCall.TheVariants as opening
 use Rattle.iox_machine.specs.Asked.{settings_of}
 use Rattle.iox_negotiate.specs.Asked.{IsRefusal}
 use Rattle.iox_negotiate_table.specs.Contents.{entry_at}
@@ -350,12 +353,16 @@ answers {one} {other} same = cc
 pub none_told : {told : Option Refusal} {why : Refusal} → None ≡ told → Some why ≡ told → ⊥
 none_told {told} {why} none some = let same : None ≡ Some why = none ∙ sym some in cc
 
+-- what is told is one thing
+pub one_told : {told : Option Refusal} {one other : Refusal} → Some one ≡ told → Some other ≡ told → one ≡ other
+one_told some also = answers (some ∙ sym also)
+
 module _ {T U B D : Type 0} (payload user_header : Detail) (types : MessageTypeDetails) (asked : ServiceAsked) (steps : List StepBefore)
     (table : FactoryTable) (hub new : Hub T U B D) (answer : Refusal)
     (formed : AllByRecursion (AllByRecursion PublishesInForm) (lists_of asked.name types steps)) (same : new ≡ hub) where
   module _ (attributes : Required) where
     -- What a first look tells who opens is what the call comes to, and nothing else happens.
-    pub unopened_at_first_look : Some answer ≡ open_told asked.options (first_look asked steps hub)
+    unopened_at_first_look : Some answer ≡ open_told asked.options (first_look asked steps hub)
         → OpensNumbered true payload user_header types asked attributes steps table hub (Some (Err answer)) table new
     unopened_at_first_look told = among (first_look asked steps hub) refl told
       where
@@ -388,7 +395,7 @@ module _ {T U B D : Type 0} (payload user_header : Detail) (types : MessageTypeD
         among (Some state.Described) finds told = absurd cc
 
     -- So is what it tells who opens or creates.
-    pub neither_at_first_look : (refused : Option CreateFailure) → IsUncreated (settings_of types asked.options) refused
+    neither_at_first_look : (refused : Option CreateFailure) → IsUncreated (settings_of types asked.options) refused
         → HasForm (agreed_of asked.name asked.options types attributes.pairs)
         → Some answer ≡ either_told asked.options refused (first_look asked steps hub)
         → EitherNumbered true payload user_header types asked attributes steps table hub (Some (Err answer)) table new
@@ -428,9 +435,9 @@ module _ {T U B D : Type 0} (payload user_header : Detail) (types : MessageTypeD
 
   module _ (attributes : List Attribute) where
     -- So is what it tells who creates, where the settings aren't refused.
-    pub uncreated_at_first_look : IsUncreated (settings_of types asked.options) None
+    uncreated_at_first_look : IsUncreated (settings_of types asked.options) None
         → HasForm (agreed_of asked.name asked.options types attributes)
-        → Some answer ≡ create_told asked.options (first_look asked steps hub)
+        → Some answer ≡ create_told asked.options None (first_look asked steps hub)
         → CreatesNumbered true payload user_header types asked attributes steps table hub (Some (Err answer)) table new
     uncreated_at_first_look accepted agreed told = among (first_look asked steps hub) refl told
       where
@@ -453,7 +460,7 @@ module _ {T U B D : Type 0} (payload user_header : Detail) (types : MessageTypeD
           ),
         )
 
-        among : (found : Option HashState) → first_look asked steps hub ≡ found → Some answer ≡ create_told asked.options found
+        among : (found : Option HashState) → first_look asked steps hub ≡ found → Some answer ≡ create_told asked.options None found
             → CreatesNumbered true payload user_header types asked attributes steps table hub (Some (Err answer)) table new
         among None finds told = absurd cc
         among (Some state.Absent) finds told = absurd cc
@@ -467,3 +474,41 @@ module _ {T U B D : Type 0} (payload user_header : Detail) (types : MessageTypeD
           inr (accepted, finds, refl),
           (ap (λ (it : Refusal). Some (Err it)) (answers told), refl, same),
         )
+
+  -- So is what it tells whoever calls, and what the settings tell.
+  pub told_at_first_look : (call : OpeningCall) (refused : Option CreateFailure) → IsUncreated (settings_of types asked.options) refused
+      → ByCall call (λ attributes. HasForm (agreed_of asked.name asked.options types attributes)) (λ attributes. Unit {0})
+      (λ attributes. HasForm (agreed_of asked.name asked.options types attributes.pairs))
+      → Some answer ≡ told_of call asked.options refused (first_look asked steps hub)
+      → CallsNumbered call true payload user_header types asked steps table hub (Some (Err answer)) table new
+  told_at_first_look (opening.Create attributes) (Some failure) is agreed told = (
+    Some failure,
+    inl is,
+    (ap (λ (it : Refusal). Some (Err it)) (answers told), refl, same),
+  )
+  told_at_first_look (opening.Create attributes) None accepted agreed told = uncreated_at_first_look attributes.now accepted agreed told
+  told_at_first_look (opening.Open attributes) refused is agreed told = unopened_at_first_look attributes told
+  told_at_first_look (opening.OpenOrCreate attributes) refused is agreed told = neither_at_first_look attributes refused is agreed told
+
+module _ {T U B D : Type 0} (payload user_header : Detail) (types : MessageTypeDetails) (asked : ServiceAsked) (steps : List StepBefore)
+    (table : FactoryTable) (hub : Hub T U B D) where
+  -- Where nothing is told, the call goes on.
+  pub goes_on : (answer : Option (Result ℕ Refusal)) (after : FactoryTable) (new : Hub T U B D) (call : OpeningCall)
+      (refused : Option CreateFailure) → IsUncreated (settings_of types asked.options) refused
+      → None ≡ told_of call asked.options refused (first_look asked steps hub)
+      → OpensUnlessLacking call payload user_header types asked steps table hub answer after new
+      → CallsNumbered call true payload user_header types asked steps table hub answer after new
+  goes_on answer after new (opening.Create attributes) (Some failure) is none does = absurd cc
+  goes_on answer after new (opening.Create attributes) None accepted none does = (
+    None,
+    (accepted, λ stands. none_told none (sym (ap (λ found. create_told asked.options None found) stands))),
+    does,
+  )
+  goes_on answer after new (opening.Open attributes) refused is none does = does
+  goes_on answer after new (opening.OpenOrCreate attributes) refused is none does = does
+
+  -- Where the node isn't there, nothing happens.
+  pub is_skipped : (call : OpeningCall) → CallsNumbered call false payload user_header types asked steps table hub None table hub
+  is_skipped (opening.Create attributes) = (refl, refl, refl)
+  is_skipped (opening.Open attributes) = (refl, refl, refl)
+  is_skipped (opening.OpenOrCreate attributes) = (refl, refl, refl)

@@ -23,11 +23,11 @@ tells settings failure.SubscriberBufferMustBeLargerThanHistorySize is = inr (ref
 tells settings failure.OutOfMemory is = absurd is
 
 -- settings that are refused aren't accepted
-pub not_accepted : (settings : Settings) (told : CreateFailure) → IsUncreated settings (Some told) → IsUncreated settings None → ⊥
+not_accepted : (settings : Settings) (told : CreateFailure) → IsUncreated settings (Some told) → IsUncreated settings None → ⊥
 not_accepted settings told is accepted = ⊎_elim (λ beyond. beyond.1 accepted.0) (λ long. accepted.1 long.2) (tells settings told is)
 
 -- they are refused for one reason
-pub one_reason : (settings : Settings) (one other : CreateFailure) → IsUncreated settings (Some one) → IsUncreated settings (Some other)
+one_reason : (settings : Settings) (one other : CreateFailure) → IsUncreated settings (Some one) → IsUncreated settings (Some other)
     → one ≡ other
 one_reason settings one other is also = ⊎_elim
     (λ beyond. ⊎_elim (λ beyond_too. rw (beyond.0, beyond_too.0) refl) (λ long. absurd (beyond.1 long.1)) (tells settings other also))
@@ -35,7 +35,9 @@ one_reason settings one other is also = ⊎_elim
     (tells settings one is)
 
 -- whether they are refused is one thing
-pub one_refusal : (settings : Settings) (one : Option CreateFailure) (other : CreateFailure) → IsUncreated settings one
-    → IsUncreated settings (Some other) → one ≡ Some other
-one_refusal settings None other is also = absurd (not_accepted settings other also is)
-one_refusal settings (Some one) other is also = ap (λ it. Some it) (one_reason settings one other is also)
+pub one_refusal : (settings : Settings) (one other : Option CreateFailure) → IsUncreated settings one → IsUncreated settings other
+    → one ≡ other
+one_refusal settings None None is also = refl
+one_refusal settings None (Some other) is also = absurd (not_accepted settings other also is)
+one_refusal settings (Some one) None is also = absurd (not_accepted settings one is also)
+one_refusal settings (Some one) (Some other) is also = ap (λ it. Some it) (one_reason settings one other is also)

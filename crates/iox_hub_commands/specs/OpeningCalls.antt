@@ -1,6 +1,7 @@
--- What the calls that create and open services have in common: all that follows where their first look tells no refusal.
-use Rattle.std.specs.Prelude.{ℕ, ◌≡◌, List, Option, Some, Result}
+-- What the calls that create and open services have in common: their first look, and all that follows where it tells no refusal.
+use Rattle.std.specs.Prelude.{ℕ, ◌≡◌, Bool, List, Option, Some, Result}
 use Rattle.std.specs.declared.alloc.AllocError.{AllocError}
+use Rattle.iox_command.specs.NegotiateBase.declared.failure.CreateFailure.{CreateFailure}
 use Rattle.iox_command.specs.declared.refusal.Refusal.{Refusal}
 use Rattle.iox_command.specs.declared.service.ServiceOptions.{ServiceOptions}
 use Rattle.iox_command.specs.declared.step.StepBefore.{StepBefore}
@@ -8,11 +9,13 @@ use Rattle.iox_hub_base.specs.DescribeBase.Attributes.{Required}
 use Rattle.iox_hub_base.specs.DescribeBase.Detail.{Detail}
 use Rattle.iox_hub_base.specs.DescribeBase.declared.attribute.Attribute.{Attribute}
 use Rattle.iox_hub_base.specs.DescribeBase.declared.message_type.MessageTypeDetails.{MessageTypeDetails}
+use Rattle.iox_hub_base.specs.declared.hub.HashState.{HashState}
 use Rattle.iox_hub_base.specs.declared.hub.Hub.{Hub}
 use Rattle.iox_negotiate_table.specs.declared.step.ForeignStep.{ForeignStep}
-use Rattle.iox_hub_commands.specs.Creating.{CreatesAs, CreatesPrepared, create_lacking}
-use Rattle.iox_hub_commands.specs.Either.{EitherAs, EitherPrepared, either_lacking}
-use Rattle.iox_hub_commands.specs.Opening.{OpensAs, OpensPrepared, open_lacking}
+use Rattle.iox_hub_commands.specs.Creating.{CreatesAs, CreatesNumbered, CreatesPrepared, create_lacking}
+use Rattle.iox_hub_commands.specs.Either.{EitherAs, EitherNumbered, EitherPrepared, either_lacking}
+use Rattle.iox_hub_commands.specs.Opening.{OpensAs, OpensNumbered, OpensPrepared, open_lacking}
+use Rattle.iox_hub_commands.specs.Refusing.{create_told, either_told, open_told}
 use Rattle.iox_hub_commands.specs.ServicesNumbering.{Prepares}
 use Rattle.iox_hub_commands.specs.ServicesTables.{FactoryTable}
 use Rattle.iox_hub_commands.specs.declared.services.asked.ServiceAsked.{ServiceAsked}
@@ -50,3 +53,17 @@ OpensUnlessLacking call payload user_header types asked steps table old answer a
     (λ attributes. OpensPrepared prepared payload user_header types asked attributes roomier old reply after new)
     (λ attributes. EitherPrepared prepared payload user_header types asked attributes roomier old reply after new)
     × (answer ≡ Some reply)
+
+-- why a call comes to nothing, if settings that are refused so, or a first look that finds this, tell it with no memory
+abbrev pub told_of : OpeningCall → ServiceOptions → Option CreateFailure → Option HashState → Option Refusal
+told_of (opening.Create attributes) named refused found = create_told named refused found
+told_of (opening.Open attributes) named refused found = open_told named found
+told_of (opening.OpenOrCreate attributes) named refused found = either_told named refused found
+
+-- A call is made for the service that is asked for, and its factory gets a number. Nothing happens where the node isn't there.
+abbrev pub CallsNumbered : {T U B D : Type 0} → OpeningCall → Bool → Detail → Detail → MessageTypeDetails → ServiceAsked → List StepBefore
+    → FactoryTable → Hub T U B D → Option (Result ℕ Refusal) → FactoryTable → Hub T U B D → Type 0
+CallsNumbered call is_there payload user_header types asked steps table old answer after new = ByCall call
+    (λ attributes. CreatesNumbered is_there payload user_header types asked attributes steps table old answer after new)
+    (λ attributes. OpensNumbered is_there payload user_header types asked attributes steps table old answer after new)
+    (λ attributes. EitherNumbered is_there payload user_header types asked attributes steps table old answer after new)

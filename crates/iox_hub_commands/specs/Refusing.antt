@@ -72,11 +72,13 @@ open_told named (Some state.Absent) = Some (open_absent named)
 open_told named (Some state.Locked) = Some (open_locked named)
 open_told named found = None
 
--- why nothing is created, if a first look that finds this tells it: another is about to create the service, or it stands
-abbrev pub create_told : ServiceOptions → Option HashState → Option Refusal
-create_told named (Some state.Locked) = Some (create_refused named uncreated.HangsInCreation)
-create_told named (Some state.Described) = Some (create_refused named uncreated.AlreadyExists)
-create_told named found = None
+-- why nothing is created, if settings that are refused so tell it; or a first look that finds that another is about to create the
+-- service, or that it stands
+abbrev pub create_told : ServiceOptions → Option CreateFailure → Option HashState → Option Refusal
+create_told named (Some failure) found = Some (create_refused named failure)
+create_told named None (Some state.Locked) = Some (create_refused named uncreated.HangsInCreation)
+create_told named None (Some state.Described) = Some (create_refused named uncreated.AlreadyExists)
+create_told named None found = None
 
 -- Why nothing is created, if that is told before any memory is asked for: these settings can't be; or they can, and a first look that
 -- finds this finds that the service stands. Nothing is told just where these settings can be, and it doesn't find that.

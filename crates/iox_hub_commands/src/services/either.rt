@@ -13,8 +13,6 @@ ghost use Rattle.iox_hub_commands.specs.Refusing.{IsUncreated, either_locked, ei
 use crate::services::asked::ServiceAsked;
 use crate::services::factories::Factories;
 use crate::services::opening_call::OpeningCall;
-use crate::services::refusing::neither_at_first_look;
-use crate::services::requests::{agreed_has_form, message_types, steps_have_form};
 use iox_command::{Refusal, ServiceOptions, StepBefore};
 use iox_describe_base::{AttributeVerifier, ZeroCopySend};
 use iox_hub_base::Hub;
@@ -57,48 +55,13 @@ impl Factories {
         ensures locked_first { is_node asked.now.node hub.old.nodes ≡ true → first_look asked.now steps.now hub.old ≡ Some Locked
             → (result ≡ Some (Err (either_locked asked.now.options))) × (self.new.made ≡ self.old.made) × (hub.new ≡ hub.old) }
     {
-        if !hub.has_node(asked.node) {
-            return None;
-        }
-        Some(self.either_there(alloc, hub, asked, attributes, steps))
-    }
-
-    // The same, where the node is there.
-    fn either_there<T: Words + ZeroCopySend, U: Copy + ZeroCopySend, B: Drop, D: Drop>(
-        &mut self,
-        alloc: Global,
-        hub: &mut Hub<T, U, B, D>,
-        asked: &ServiceAsked,
-        attributes: AttributeVerifier,
-        steps: &[StepBefore],
-    ) -> Result<u64, Refusal>
-        requires number { self.old.made.next + 1 < 2 ^ 64 }
-        ensures either { EitherNumbered true (detail FixedSize T.name T.size T.alignment)
-            (detail FixedSize U.name U.size U.alignment) (types_of T.name T.size T.alignment U.name U.size U.alignment) asked.now
-            attributes steps.now self.old.made hub.old (Some result) self.new.made hub.new }
-        ensures settings_first { (failure : CreateFailure)
-            → IsUncreated (settings_of (types_of T.name T.size T.alignment U.name U.size U.alignment) asked.now.options) (Some failure)
-            → first_look asked.now steps.now hub.old ≡ Some Absent
-            → (result ≡ Err (either_refused asked.now.options failure)) × (self.new.made ≡ self.old.made) × (hub.new ≡ hub.old) }
-        ensures locked_first { first_look asked.now steps.now hub.old ≡ Some Locked
-            → (result ≡ Err (either_locked asked.now.options)) × (self.new.made ≡ self.old.made) × (hub.new ≡ hub.old) }
-    {
-        match neither_at_first_look(hub, asked, steps) {
-            Some(refusal) => {
-                let types = message_types::<T, U>();
-                steps_have_form(&asked.name, &types, steps);
-                let pairs = attributes.attributes();
-                agreed_has_form(&asked.name, &asked.options, &types, pairs);
-                Err(refusal)
-            }
-            None => self.looked(
-                alloc,
-                hub,
-                asked,
-                OpeningCall::OpenOrCreate(attributes),
-                steps,
-            ),
-        }
+        self.called(
+            alloc,
+            hub,
+            asked,
+            OpeningCall::OpenOrCreate(attributes),
+            steps,
+        )
     }
 }
 

@@ -7,13 +7,11 @@ ghost use Rattle.iox_hub_commands.specs.Asked.{types_of};
 ghost use Rattle.iox_command.specs.declared.refusal.Refusal.{Refusal};
 ghost use Rattle.iox_hub_base.specs.declared.hub.HashState.TheVariants.{Absent, Locked};
 ghost use Rattle.iox_hub_commands.specs.Opening.{OpensNumbered, open_lacking};
-ghost use Rattle.iox_hub_commands.specs.Refusing.{first_look, open_absent, open_locked, open_told};
+ghost use Rattle.iox_hub_commands.specs.Refusing.{first_look, open_absent, open_locked};
 
 use crate::services::asked::ServiceAsked;
 use crate::services::factories::Factories;
 use crate::services::opening_call::OpeningCall;
-use crate::services::refusing::unopened_at_first_look;
-use crate::services::requests::{message_types, steps_have_form};
 use iox_command::{Refusal, ServiceOptions, StepBefore};
 use iox_describe_base::{AttributeVerifier, ZeroCopySend};
 use iox_hub_base::Hub;
@@ -49,35 +47,7 @@ impl Factories {
         ensures locked_first { is_node asked.now.node hub.old.nodes ≡ true → first_look asked.now steps.now hub.old ≡ Some Locked
             → (result ≡ Some (Err (open_locked asked.now.options))) × (self.new.made ≡ self.old.made) × (hub.new ≡ hub.old) }
     {
-        if !hub.has_node(asked.node) {
-            return None;
-        }
-        Some(self.open_there(alloc, hub, asked, attributes, steps))
-    }
-
-    // The same, where the node is there.
-    fn open_there<T: Words + ZeroCopySend, U: Copy + ZeroCopySend, B: Drop, D: Drop>(
-        &mut self,
-        alloc: Global,
-        hub: &mut Hub<T, U, B, D>,
-        asked: &ServiceAsked,
-        attributes: AttributeVerifier,
-        steps: &[StepBefore],
-    ) -> Result<u64, Refusal>
-        requires number { self.old.made.next + 1 < 2 ^ 64 }
-        ensures opens { OpensNumbered true (detail FixedSize T.name T.size T.alignment) (detail FixedSize U.name U.size U.alignment)
-            (types_of T.name T.size T.alignment U.name U.size U.alignment) asked.now attributes steps.now self.old.made hub.old
-            (Some result) self.new.made hub.new }
-        ensures told_first { (refusal : Refusal) → Some refusal ≡ open_told asked.now.options (first_look asked.now steps.now hub.old)
-            → (result ≡ Err refusal) × (self.new.made ≡ self.old.made) × (hub.new ≡ hub.old) }
-    {
-        match unopened_at_first_look(hub, asked, steps) {
-            Some(refusal) => {
-                steps_have_form(&asked.name, &message_types::<T, U>(), steps);
-                Err(refusal)
-            }
-            None => self.looked(alloc, hub, asked, OpeningCall::Open(attributes), steps),
-        }
+        self.called(alloc, hub, asked, OpeningCall::Open(attributes), steps)
     }
 }
 

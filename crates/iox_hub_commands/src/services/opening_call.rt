@@ -1,15 +1,23 @@
-//! What the calls that create and open services have in common: all that follows where their first look tells no refusal.
-ghost use Rattle.std.specs.Prelude.{◌≡◌, ◌<◌, ◌+◌, ◌^◌, ℕ, Result, Some, length};
+//! What the calls that create and open services have in common: their first look, and all that follows where it tells no refusal.
+ghost use Rattle.std.specs.Prelude.{◌≡◌, ◌<◌, ◌+◌, ◌^◌, ℕ, true, Option, Result, Some, Err, length};
+ghost use Rattle.std.specs.List.{AllByRecursion};
 ghost use Rattle.std.specs.Result.{result_map_both};
+ghost use Rattle.iox_command.specs.NegotiateBase.declared.failure.CreateFailure.{CreateFailure};
 ghost use Rattle.iox_command.specs.declared.refusal.Refusal.{Refusal};
 ghost use Rattle.iox_hub_base.specs.DescribeBase.Detail.{detail};
 ghost use Rattle.iox_hub_base.specs.DescribeBase.Hash.{service_hash_of};
 ghost use Rattle.iox_hub_base.specs.DescribeBase.declared.type_detail.TypeVariant.TheVariants.{FixedSize};
+ghost use Rattle.iox_hub_base.specs.Hubs.{is_node};
 ghost use Rattle.iox_hub_base.specs.OfPattern.{CreatesOfPattern, OpensJudged, EitherOfPattern};
 ghost use Rattle.iox_hub_commands.specs.Asked.{types_of};
-ghost use Rattle.iox_hub_commands.specs.OpeningCalls.{ByCall, OpensByCall, OpensUnlessLacking, lacking_of};
+ghost use Rattle.iox_hub_commands.specs.Asking.{agreed_of};
+ghost use Rattle.iox_hub_commands.specs.OpeningCalls.{ByCall, CallsNumbered, OpensByCall, OpensUnlessLacking, lacking_of, told_of};
+ghost use Rattle.iox_hub_commands.specs.Refusing.{IsUncreated, first_look};
 ghost use Rattle.iox_hub_commands.specs.ServicesNumbering.{GetsNumber, Numbers};
 ghost use Rattle.iox_hub_commands.specs.ServicesTables.{FactoryTable};
+ghost use Rattle.iox_hub_commands.specs.Steps.{PublishesInForm, lists_of};
+ghost use Rattle.iox_machine.specs.Asked.{settings_of};
+ghost use Rattle.iox_negotiate_table.specs.Describe.Within.{HasForm};
 
 use crate::services::asked::ServiceAsked;
 use crate::services::creating::create_lacking;
@@ -18,12 +26,14 @@ use crate::services::factories::Factories;
 use crate::services::kinds::CommandPattern;
 use crate::services::made::MadeFactory;
 use crate::services::opening::open_lacking;
-use crate::services::requests::message_types;
+use crate::services::refusing::{create_told, either_told, first_look, open_told, uncreated};
+use crate::services::requests::{agreed_has_form, message_types, steps_have_form};
 use iox_command::{Refusal, ServiceOptions, StepBefore};
 use iox_describe::pattern::{Event, PublishSubscribe, RequestResponse};
 use iox_describe_base::{AttributeSpecifier, AttributeVerifier, ZeroCopySend};
-use iox_hub_base::{Hub, HubBuilder, PortFactory};
+use iox_hub_base::{HashState, Hub, HubBuilder, PortFactory};
 use iox_negotiate::{Builder, ServiceBuilder};
+use iox_negotiate_base::CreateFailure;
 use iox_negotiate_table::StepList;
 use iox_queues_base::Words;
 use std::alloc::Global;
@@ -50,11 +60,106 @@ impl<'a> OpeningCall<'a> {
             OpeningCall::OpenOrCreate(_) => either_lacking(options),
         }
     }
+
+    // Why it comes to nothing, if settings that are refused so, or a first look that finds this, tell it.
+    fn told(
+        &self,
+        options: &ServiceOptions,
+        refused: Option<CreateFailure>,
+        found: Option<HashState>,
+    ) -> Option<Refusal>
+        ensures { result ≡ told_of self.now options.now refused found }
+    {
+        match self {
+            OpeningCall::Create(_) => create_told(options, refused, found),
+            OpeningCall::Open(_) => open_told(options, found),
+            OpeningCall::OpenOrCreate(_) => either_told(options, refused, found),
+        }
+    }
+
+    // Why it comes to nothing, if the settings or the first look tell it, unless a step is named before that look. Nothing changes, and
+    // it is told whatever memory there is. Settings are held by value here, and no longer once deeper calls are made.
+    #[inline(never)]
+    fn refusal_at_first_look<T: Copy + ZeroCopySend, U: Copy + ZeroCopySend, B: Drop, D: Drop>(
+        &self,
+        hub: &mut Hub<T, U, B, D>,
+        asked: &ServiceAsked,
+        steps: &[StepBefore],
+    ) -> Option<Refusal>
+        ensures told { (refused : Option CreateFailure)
+            × IsUncreated (settings_of (types_of T.name T.size T.alignment U.name U.size U.alignment) asked.now.options) refused
+            × (result ≡ told_of self.now asked.now.options refused (first_look asked.now steps.now hub.old)) }
+        ensures same { hub.new ≡ hub.old }
+    {
+        let refused = uncreated::<T, U>(&asked.options);
+        let found = first_look(hub, asked, steps);
+        self.told(&asked.options, refused, found)
+    }
+
+    // What the steps publish, and what would be agreed of a service that the call creates, has the form of a description, which is told
+    // of each. It takes no memory.
+    fn asked_has_form<T: ZeroCopySend, U: ZeroCopySend>(
+        &self,
+        asked: &ServiceAsked,
+        steps: &[StepBefore],
+    )
+        ensures steps { AllByRecursion (AllByRecursion PublishesInForm) (lists_of asked.now.name
+            (types_of T.name T.size T.alignment U.name U.size U.alignment) steps.now) }
+        ensures agreed { ByCall self.now
+            (λ attributes. HasForm (agreed_of asked.now.name asked.now.options
+            (types_of T.name T.size T.alignment U.name U.size U.alignment) attributes))
+            (λ attributes. Unit {0})
+            (λ attributes. HasForm (agreed_of asked.now.name asked.now.options
+            (types_of T.name T.size T.alignment U.name U.size U.alignment) attributes.pairs)) }
+    {
+        let types = message_types::<T, U>();
+        steps_have_form(&asked.name, &types, steps);
+        match self {
+            OpeningCall::Create(attributes) => {
+                agreed_has_form(&asked.name, &asked.options, &types, attributes)
+            }
+            OpeningCall::Open(_) => {}
+            OpeningCall::OpenOrCreate(attributes) => {
+                agreed_has_form(&asked.name, &asked.options, &types, attributes.attributes())
+            }
+        }
+    }
 }
 
 impl Factories {
-    // The call for a service that is asked for, where the node is there, and the first look doesn't tell a refusal.
-    pub(crate) fn looked<T: Words + ZeroCopySend, U: Copy + ZeroCopySend, B: Drop, D: Drop>(
+    // The call for a service that is asked for. None, and nothing happens, where the hub has no node of the number.
+    pub(crate) fn called<T: Words + ZeroCopySend, U: Copy + ZeroCopySend, B: Drop, D: Drop>(
+        &mut self,
+        alloc: Global,
+        hub: &mut Hub<T, U, B, D>,
+        asked: &ServiceAsked,
+        call: OpeningCall<'_>,
+        steps: &[StepBefore],
+    ) -> Option<Result<u64, Refusal>>
+        requires { self.old.made.next + 1 < 2 ^ 64 }
+        ensures calls { CallsNumbered call.entry (is_node asked.now.node hub.old.nodes) (detail FixedSize T.name T.size T.alignment)
+            (detail FixedSize U.name U.size U.alignment) (types_of T.name T.size T.alignment U.name U.size U.alignment) asked.now
+            steps.now self.old.made hub.old result self.new.made hub.new }
+        ensures told_first { is_node asked.now.node hub.old.nodes ≡ true → (refusal : Refusal)
+            → ((refused : Option CreateFailure)
+            → IsUncreated (settings_of (types_of T.name T.size T.alignment U.name U.size U.alignment) asked.now.options) refused
+            → Some refusal ≡ told_of call.entry asked.now.options refused (first_look asked.now steps.now hub.old))
+            → (result ≡ Some (Err refusal)) × (self.new.made ≡ self.old.made) × (hub.new ≡ hub.old) }
+    {
+        if !hub.has_node(asked.node) {
+            return None;
+        }
+        match call.refusal_at_first_look(hub, asked, steps) {
+            Some(refusal) => {
+                call.asked_has_form::<T, U>(asked, steps);
+                Some(Err(refusal))
+            }
+            None => Some(self.looked(alloc, hub, asked, call, steps)),
+        }
+    }
+
+    // The same, where the node is there, and the first look doesn't tell a refusal.
+    fn looked<T: Words + ZeroCopySend, U: Copy + ZeroCopySend, B: Drop, D: Drop>(
         &mut self,
         alloc: Global,
         hub: &mut Hub<T, U, B, D>,

@@ -134,7 +134,7 @@ fn either_locked(options: &ServiceOptions) -> Refusal
 }
 
 // What the first look of a call finds, unless a step is named before it.
-fn first_look<T: Copy, U: Copy, B: Drop, D: Drop>(
+pub(crate) fn first_look<T: Copy, U: Copy, B: Drop, D: Drop>(
     hub: &mut Hub<T, U, B, D>,
     asked: &ServiceAsked,
     steps: &[StepBefore],
@@ -148,70 +148,37 @@ fn first_look<T: Copy, U: Copy, B: Drop, D: Drop>(
     Some(hub.state_under(asked.options.pattern(), &asked.name))
 }
 
-/// Why nothing is opened, if the first look tells it: no step is named before it, and it finds that no service stands, or that another is
-/// about to create it. Nothing changes, and it is told whatever memory there is.
-/// Example: `let refusal = unopened_at_first_look(&mut hub, &asked, &[]);`
-pub fn unopened_at_first_look<T: Copy, U: Copy, B: Drop, D: Drop>(
-    hub: &mut Hub<T, U, B, D>,
-    asked: &ServiceAsked,
-    steps: &[StepBefore],
-) -> Option<Refusal>
-    ensures told { result ≡ open_told asked.now.options (first_look asked.now steps.now hub.old) }
-    ensures same { hub.new ≡ hub.old }
+// Why nothing is opened, if a first look that finds this tells it.
+pub(crate) fn open_told(options: &ServiceOptions, found: Option<HashState>) -> Option<Refusal>
+    ensures { result ≡ open_told options.now found }
 {
-    match first_look(hub, asked, steps) {
-        Some(HashState::Absent) => Some(open_absent(&asked.options)),
-        Some(HashState::Locked) => Some(open_locked(&asked.options)),
+    match found {
+        Some(HashState::Absent) => Some(open_absent(options)),
+        Some(HashState::Locked) => Some(open_locked(options)),
         Some(HashState::Described) | None => None,
     }
 }
 
-/// Why nothing is created, if the first look tells it: no step is named before it, and it finds that another is about to create the
-/// service, or that it stands. Nothing changes, and it is told whatever memory there is.
-/// Example: `let refusal = uncreated_at_first_look(&mut hub, &asked, &[]);`
-pub fn uncreated_at_first_look<T: Copy, U: Copy, B: Drop, D: Drop>(
-    hub: &mut Hub<T, U, B, D>,
-    asked: &ServiceAsked,
-    steps: &[StepBefore],
+// Why nothing is created, if settings that are refused so, or a first look that finds this, tell it.
+pub(crate) fn create_told(
+    options: &ServiceOptions,
+    refused: Option<CreateFailure>,
+    found: Option<HashState>,
 ) -> Option<Refusal>
-    ensures told { result ≡ create_told asked.now.options (first_look asked.now steps.now hub.old) }
-    ensures same { hub.new ≡ hub.old }
+    ensures { result ≡ create_told options.now refused found }
 {
-    match first_look(hub, asked, steps) {
-        Some(HashState::Locked) => Some(create_refused(
-            &asked.options,
-            CreateFailure::HangsInCreation,
-        )),
-        Some(HashState::Described) => Some(create_refused(
-            &asked.options,
-            CreateFailure::AlreadyExists,
-        )),
+    if let Some(failure) = refused {
+        return Some(create_refused(options, failure));
+    }
+    match found {
+        Some(HashState::Locked) => Some(create_refused(options, CreateFailure::HangsInCreation)),
+        Some(HashState::Described) => Some(create_refused(options, CreateFailure::AlreadyExists)),
         Some(HashState::Absent) | None => None,
     }
 }
 
-/// Why nothing is opened or created, if the first look tells it: no step is named before it, and it finds that no service stands, and none
-/// is created with the settings that are asked for; or that another is about to create it. Nothing changes, and it is told whatever memory
-/// there is.
-/// Example: `let refusal = neither_at_first_look(&mut hub, &asked, &[]);`
-// Settings are held by value here, and no longer once deeper calls are made.
-#[inline(never)]
-pub fn neither_at_first_look<T: Copy + ZeroCopySend, U: Copy + ZeroCopySend, B: Drop, D: Drop>(
-    hub: &mut Hub<T, U, B, D>,
-    asked: &ServiceAsked,
-    steps: &[StepBefore],
-) -> Option<Refusal>
-    ensures told { (refused : Option CreateFailure)
-        × IsUncreated (settings_of (types_of T.name T.size T.alignment U.name U.size U.alignment) asked.now.options) refused
-        × (result ≡ either_told asked.now.options refused (first_look asked.now steps.now hub.old)) }
-    ensures same { hub.new ≡ hub.old }
-{
-    let found = first_look(hub, asked, steps);
-    either_told(&asked.options, uncreated::<T, U>(&asked.options), found)
-}
-
 // Why nothing is opened or created, if a first look that finds this tells it, where it is so that these settings are refused.
-fn either_told(
+pub(crate) fn either_told(
     options: &ServiceOptions,
     refused: Option<CreateFailure>,
     found: Option<HashState>,

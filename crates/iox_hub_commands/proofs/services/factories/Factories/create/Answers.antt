@@ -1,20 +1,26 @@
-use Rattle.std.proofs.Common.{◌∙◌, sym, ap, Some}
+use Rattle.std.proofs.Common.{◌∙◌, None, Some, sym, ap}
+use Rattle.iox_command.specs.NegotiateBase.declared.failure.CreateFailure.TheVariants as uncreated
+use Rattle.iox_hub_commands.specs.Refusing.{create_refused, create_told, first_look}
+use Rattle.iox_hub_commands.proofs.Uncreated.{one_refusal}
 use Rattle.iox_hub_commands.proofs.services.factories.Factories.create.Goals as goal
-
-pub returns-clause-creates : goal.returns-clause-creates
-returns-clause-creates g c = rw (sym c.has_node.ensures ∙ c.if-not-has_node.false) c.create_there.ensures.creates
 
 pub returns-clause-settings_first : goal.returns-clause-settings_first
 returns-clause-settings_first g c is_there failure is =
-    let told = c.create_there.ensures.settings_first failure is in
-    (ap (λ reply. Some reply) told.0, told.1, told.2)
+    let options = c.args.asked.now.options in
+    c.called.ensures.told_first is_there (create_refused options failure)
+    (λ refused so. sym (ap (λ it. create_told options it (first_look c.args.asked.now c.args.steps.now c.args.hub.now))
+    (one_refusal _ refused (Some failure) so is)))
 
 pub returns-clause-locked_first : goal.returns-clause-locked_first
 returns-clause-locked_first g c is_there accepted finds =
-    let told = c.create_there.ensures.locked_first accepted finds in
-    (ap (λ reply. Some reply) told.0, told.1, told.2)
+    let options = c.args.asked.now.options in
+    c.called.ensures.told_first is_there (create_refused options uncreated.HangsInCreation)
+    (λ refused so. sym (ap (λ it. create_told options it (first_look c.args.asked.now c.args.steps.now c.args.hub.now))
+    (one_refusal _ refused None so accepted) ∙ ap (λ found. create_told options None found) finds))
 
 pub returns-clause-standing_first : goal.returns-clause-standing_first
 returns-clause-standing_first g c is_there accepted finds =
-    let told = c.create_there.ensures.standing_first accepted finds in
-    (ap (λ reply. Some reply) told.0, told.1, told.2)
+    let options = c.args.asked.now.options in
+    c.called.ensures.told_first is_there (create_refused options uncreated.AlreadyExists)
+    (λ refused so. sym (ap (λ it. create_told options it (first_look c.args.asked.now c.args.steps.now c.args.hub.now))
+    (one_refusal _ refused None so accepted) ∙ ap (λ found. create_told options None found) finds))

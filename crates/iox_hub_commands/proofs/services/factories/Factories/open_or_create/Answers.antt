@@ -1,15 +1,17 @@
-use Rattle.std.proofs.Common.{◌∙◌, sym, ap, Some}
+use Rattle.std.proofs.Common.{◌∙◌, Some, sym, ap}
+use Rattle.iox_hub_commands.specs.Refusing.{either_locked, either_refused, either_told, first_look}
+use Rattle.iox_hub_commands.proofs.Uncreated.{one_refusal}
 use Rattle.iox_hub_commands.proofs.services.factories.Factories.open_or_create.Goals as goal
-
-pub returns-clause-either : goal.returns-clause-either
-returns-clause-either g c = rw (sym c.has_node.ensures ∙ c.if-not-has_node.false) c.either_there.ensures.either
 
 pub returns-clause-settings_first : goal.returns-clause-settings_first
 returns-clause-settings_first g c is_there failure is finds =
-    let told = c.either_there.ensures.settings_first failure is finds in
-    (ap (λ reply. Some reply) told.0, told.1, told.2)
+    let options = c.args.asked.now.options in
+    c.called.ensures.told_first is_there (either_refused options failure)
+    (λ refused so. sym (ap (λ it. either_told options it (first_look c.args.asked.now c.args.steps.now c.args.hub.now))
+    (one_refusal _ refused (Some failure) so is) ∙ ap (λ found. either_told options (Some failure) found) finds))
 
 pub returns-clause-locked_first : goal.returns-clause-locked_first
 returns-clause-locked_first g c is_there finds =
-    let told = c.either_there.ensures.locked_first finds in
-    (ap (λ reply. Some reply) told.0, told.1, told.2)
+    let options = c.args.asked.now.options in
+    c.called.ensures.told_first is_there (either_locked options)
+    (λ refused so. sym (ap (λ found. either_told options refused found) finds))
