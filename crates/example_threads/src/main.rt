@@ -8,8 +8,8 @@
 ghost use Rattle.std.specs.Prelude.{◌≡◌, ◌≤◌, IfSome};
 
 use iox_lanes::{
-    LanePublisher, LaneSizes, LaneSubscriber, LaneThreads, Lanes, LoanAnswer, Receipt, RingKind,
-    end, open_threads,
+    LaneMachine, LanePublisher, LaneSizes, LaneSubscriber, LaneThreads, LoanAnswer, Receipt,
+    RingKind, end, open_threads,
 };
 use std::alloc::{AllocError, Global};
 use std::sync::Wait;
@@ -171,7 +171,7 @@ fn run<R: Threads + Wait + Sync>(
 }
 
 fn report<R: Threads + Wait + Sync>(rt: &R, alloc: Global) -> Result<String, AllocError> {
-    let lanes = Lanes::new(alloc, sizes())?;
+    let lanes = LaneMachine::new(alloc, sizes())?;
     match open_threads(alloc, 1, lanes) {
         Ok(threads) => run(rt, alloc, threads),
         Err(_) => Err(AllocError),

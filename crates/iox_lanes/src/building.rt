@@ -33,7 +33,7 @@ use iox_domain_ports::reading::{limit_at, waiting_at};
 use iox_domain_ports::{PublisherPort, SubscriberPort};
 use iox_lanes_base::calls::Route;
 use iox_lanes_base::words::SlotWord;
-use iox_lanes_machine::{Found, LaneSizes, Lanes};
+use iox_lanes_machine::{Found, LaneMachine, LaneSizes};
 use iox_lanes_opening::leaving::words::middle_count;
 use iox_lanes_opening::refusals::deciding::would_fail;
 use iox_queues_base::Words;
@@ -258,7 +258,7 @@ fn find_publisher<T: Words, U: Words>(
 }
 
 // The number of a publisher's first slot in the lanes.
-fn first_slot(lanes: &Lanes, place: usize) -> u64
+fn first_slot(lanes: &LaneMachine, place: usize) -> u64
     ensures { result ≡ first_slot (slice_get lanes.now.publishers place) }
 {
     match lanes.publishers().get(place) {
@@ -563,7 +563,7 @@ fn find_order(
 
 // The place at which a subscriber of the lanes has the connection from the publisher of this number; the largest number where it has
 // none.
-fn route_place(lanes: &Lanes, place: usize, publishers: &[u64], number: u64) -> u64
+fn route_place(lanes: &LaneMachine, place: usize, publishers: &[u64], number: u64) -> u64
     ensures { result ≡ route_place lanes.now publishers.now number (slice_get lanes.now.subscribers place) }
 {
     let Some(lane) = lanes.subscribers().get(place) else {
@@ -575,7 +575,12 @@ fn route_place(lanes: &Lanes, place: usize, publishers: &[u64], number: u64) -> 
     }
 }
 
-fn route_from(lanes: &Lanes, publishers: &[u64], number: u64, routes: &[Route]) -> Option<usize>
+fn route_from(
+    lanes: &LaneMachine,
+    publishers: &[u64],
+    number: u64,
+    routes: &[Route],
+) -> Option<usize>
     ensures { result ≡ position (leads_here lanes.now publishers.now number) routes.now }
 {
     routes
@@ -584,7 +589,7 @@ fn route_from(lanes: &Lanes, publishers: &[u64], number: u64, routes: &[Route]) 
 }
 
 // Whether a connection leads from the publisher of this number.
-fn leads_here(lanes: &Lanes, publishers: &[u64], number: u64, route: Route) -> bool
+fn leads_here(lanes: &LaneMachine, publishers: &[u64], number: u64, route: Route) -> bool
     ensures { result ≡ leads_here lanes.now publishers.now number route }
 {
     let Some(link) = lanes.links().get(route.connection as usize) else {

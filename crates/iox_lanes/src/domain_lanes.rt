@@ -16,8 +16,8 @@ ghost use Rattle.iox_lanes.specs.Sized.{AreSized};
 
 use crate::building::build;
 use iox_domain::Domain;
-use iox_lanes_laws::messages::RecordedLanes;
-use iox_lanes_machine::Lanes;
+use iox_lanes_laws::messages::Lanes;
+use iox_lanes_machine::LaneMachine;
 use iox_lanes_opening::refusals::{IntoLanesError, refusal};
 use iox_queues_base::Words;
 use std::alloc::{AllocError, Global};
@@ -29,7 +29,7 @@ use std::alloc::{AllocError, Global};
 pub struct DomainLanes<T, U> {
     /// The lanes: a publisher and a subscriber for each that the domain lists, in the order of their places there. They keep their
     /// messages, each under its number.
-    pub lanes: RecordedLanes,
+    pub lanes: Lanes,
     /// The domain, as it was.
     pub domain: Domain<T, U>,
     /// The numbers of the publishers in the domain, by their places in the lanes.
@@ -54,7 +54,7 @@ pub struct Refused<T, U> {
 /// What lanes are made of.
 #[derive(Drop)]
 pub(crate) struct Opened<T> {
-    pub(crate) lanes: Lanes,
+    pub(crate) lanes: LaneMachine,
     pub(crate) publishers: Vec<u64>,
     pub(crate) subscribers: Vec<u64>,
     pub(crate) connections: Vec<usize>,
@@ -64,7 +64,7 @@ pub(crate) struct Opened<T> {
 // The same, of which the messages are kept.
 #[derive(Drop)]
 struct Recorded<T> {
-    lanes: RecordedLanes,
+    lanes: Lanes,
     publishers: Vec<u64>,
     subscribers: Vec<u64>,
     connections: Vec<usize>,
@@ -75,7 +75,7 @@ struct Recorded<T> {
 /// connection, the slots, loans and history of each publisher, whether its sends fail at a full mailbox, what waits at each
 /// connection, the words of each message, and the order in which each subscriber goes over its connections.
 ///
-/// The lanes are such as `Lanes::new` makes them and what they found leaves, and nobody is inside a call: so each law of lanes
+/// The lanes are such as `LaneMachine::new` makes them and what they found leaves, and nobody is inside a call: so each law of lanes
 /// holds of them. Their sizes are those that the service agreed on: its buffer, one message at least, its borrow limit and its
 /// history; they have as many loans and slots for each publisher as the one has that has most. There are fewer than 2^64 slots.
 ///
@@ -197,7 +197,7 @@ fn with_messages<T: Words>(alloc: Global, opened: Opened<T>) -> Result<Recorded<
         connections,
         one,
     } = opened;
-    match RecordedLanes::with_found(alloc, lanes) {
+    match Lanes::with_found(alloc, lanes) {
         Ok(lanes) => Ok(Recorded {
             lanes,
             publishers,

@@ -1,7 +1,7 @@
 //! Lanes before their first step, to which nothing happened but that something was found.
 ghost use Rattle.std.specs.Prelude.{◌≡◌, ◌<◌, ◌^◌, IfOk, OnOk, length};
 
-use iox_lanes_machine::{Found, LaneSizes, Lanes};
+use iox_lanes_machine::{Found, LaneMachine, LaneSizes};
 use std::alloc::{AllocError, Global};
 use std::marker::Model;
 
@@ -9,7 +9,7 @@ use std::marker::Model;
 #[derive(Drop)]
 pub(crate) struct NewLanes {
     sizes: LaneSizes,
-    lanes: Lanes,
+    lanes: LaneMachine,
 }
 
 impl Model for NewLanes {
@@ -44,7 +44,7 @@ impl NewLanes {
         if sizes.subscribers >= 1 << 61 {
             return Err(AllocError);
         }
-        let lanes = Lanes::new(alloc, sizes)?;
+        let lanes = LaneMachine::new(alloc, sizes)?;
         // So few words that each has a number.
         let _words = lanes.table().words();
         Ok(NewLanes { sizes, lanes })
@@ -62,7 +62,7 @@ impl NewLanes {
     }
 
     /// The lanes so far.
-    pub fn lanes(&self) -> &Lanes
+    pub fn lanes(&self) -> &LaneMachine
         ensures { result.now ≡ self.now.lanes }
     {
         &self.lanes
@@ -70,7 +70,7 @@ impl NewLanes {
 
     /// The lanes, which came from where they were made; nobody is inside a call.
     #[tactic(auto, using(crate::proofs::Found::came))]
-    pub fn into_lanes(self) -> Lanes
+    pub fn into_lanes(self) -> LaneMachine
         ensures came { CameTo result }
         ensures between { AllBetween result }
         ensures found { WasFound self.sizes result }

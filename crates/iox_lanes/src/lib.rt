@@ -9,8 +9,8 @@
 //! - [`threads`]: the ports of a domain in threads of their own.
 //! - [`laws`]: what holds of lanes and of the domain beside them.
 //!
-//! Named again is what a program on lanes needs: [`Lanes`], [`RecordedLanes`], [`Message`], [`Party`], [`Call`], [`Move`], what a step
-//! answers ([`Stepped`]) and a send ([`Delivery`]), what stands in an order ([`Placed`], [`PlacedMessage`], [`Act`]), [`Positions`],
+//! Named again is what a program on lanes needs: [`Lanes`] over their [`LaneMachine`], [`Message`], [`Party`], [`Call`], [`Move`], what a
+//! step answers ([`Stepped`]) and a send ([`Delivery`]), what stands in an order ([`Placed`], [`PlacedMessage`], [`Act`]), [`Positions`],
 //! [`Words`], [`FewWords`], [`values_in`], [`WithSequence`], and for threads [`open_threads`], [`LanePublisher`], [`LaneSubscriber`].
 //!
 //! First calls:
@@ -39,8 +39,8 @@ pub mod threads;
 pub use domain_lanes::{DomainLanes, Refused, into_lanes};
 pub use into_domain_error::IntoDomainError;
 pub use iox_lanes_base::calls::{Delivery, Receipt};
-pub use iox_lanes_laws::messages::{Message, PlacedMessage, RecordedLanes};
-pub use iox_lanes_machine::{LaneSizes, Lanes, Link, Positions, Unrest};
+pub use iox_lanes_laws::messages::{Lanes, Message, PlacedMessage};
+pub use iox_lanes_machine::{LaneMachine, LaneSizes, Link, Positions, Unrest};
 pub use iox_lanes_opening::refusals::IntoLanesError;
 pub use iox_lanes_parties::publisher::LoanAnswer;
 pub use iox_lanes_parties::{

@@ -17,7 +17,7 @@ use crate::domain_lanes::DomainLanes;
 use crate::into_domain_error::IntoDomainError;
 use iox_domain::Domain;
 use iox_domain_ports::{PublisherPort, Publishers};
-use iox_lanes_machine::{Lanes, Unrest};
+use iox_lanes_machine::{LaneMachine, Unrest};
 use iox_lanes_opening::leaving::words::middle_count;
 use iox_lanes_opening::leaving::{LeftPublisher, restore};
 use iox_lanes_parties::PublisherLane;
@@ -132,7 +132,7 @@ fn count(numbers: &[u64]) -> usize
 }
 
 // Whether the words of the lanes are those of values of `T` and user headers of `U`.
-fn has_words<T: Words, U: Words>(lanes: &Lanes, numbered: bool) -> bool
+fn has_words<T: Words, U: Words>(lanes: &LaneMachine, numbered: bool) -> bool
     ensures whole { OnTrue result (IsWhole T.WORDS (middle_count numbered U.WORDS) lanes.now.table) }
     ensures not { result ≡ false → lanes.now.table.sizes.payload_words ≡ T.WORDS → lanes.now.table.sizes.user_header_words ≡
         (middle_count numbered U.WORDS) → ⊥ }
@@ -152,7 +152,7 @@ fn has_words<T: Words, U: Words>(lanes: &Lanes, numbered: bool) -> bool
 // each has its own in its slot.
 #[derive(Clone, Copy)]
 struct LeftLanes<'a> {
-    lanes: &'a Lanes,
+    lanes: &'a LaneMachine,
     numbered: bool,
     readers: usize,
     indices: &'a [usize],
@@ -227,7 +227,7 @@ fn restore_port<T: Words, U: Words>(
 }
 
 // The lane at a place, if there is one.
-fn lane_at(lanes: &Lanes, place: usize) -> Option<&PublisherLane>
+fn lane_at(lanes: &LaneMachine, place: usize) -> Option<&PublisherLane>
     ensures { option_copied result ≡ slice_get lanes.now.publishers place }
 {
     lanes.publishers().get(place)
@@ -235,7 +235,7 @@ fn lane_at(lanes: &Lanes, place: usize) -> Option<&PublisherLane>
 
 // The row of a publisher's connections, of the indices of all, and the number of its first one.
 fn row_at<'a>(
-    lanes: &Lanes,
+    lanes: &LaneMachine,
     place: usize,
     readers: usize,
     indices: &'a [usize],
@@ -255,7 +255,7 @@ fn row_at<'a>(
 
 // A publisher gets what the lanes leave of a lane.
 fn restore_lane<T: Words, U: Words>(
-    lanes: &Lanes,
+    lanes: &LaneMachine,
     numbered: bool,
     from: u64,
     row: &[usize],

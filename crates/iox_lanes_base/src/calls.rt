@@ -8,7 +8,7 @@
 //! - [`publisher`]: a loan, a write, a send and the dropping of a loan.
 //! - [`subscriber`]: a receive, a read and a release.
 //!
-//! First calls, of a write of one word; `Lanes` of `iox_lanes_machine` makes them with the words of a service.
+//! First calls, of a write of one word; `LaneMachine` of `iox_lanes_machine` makes them with the words of a service.
 //!
 //! ```
 //! let mut call = PublisherCall::write(&[word], slot);

@@ -8,7 +8,7 @@
 //! - [`sizes`]: how many there are, and the number of each in a table.
 //! - [`table`]: the table.
 //!
-//! First calls. `Lanes` of `iox_lanes_machine` makes them.
+//! First calls. `LaneMachine` of `iox_lanes_machine` makes them.
 //!
 //! ```
 //! let mut table = WordTable::new(alloc, sizes)?;

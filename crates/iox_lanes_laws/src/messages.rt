@@ -1,9 +1,9 @@
 //! The messages that are sent on lanes: what each is as its send begins, and that a read gives just that.
 //!
-//! [`RecordedLanes`] keep each message as it is when its send begins, under a number of its own:
+//! [`Lanes`] keep each message as it is when its send begins, under a number of its own:
 //!
 //! ```
-//! let mut lanes = RecordedLanes::new(alloc, lanes);
+//! let mut lanes = Lanes::new(alloc, lanes);
 //! lanes.step(Party::Publisher(0), &Move::Begin(Call::Send { loan }));
 //! let sent = lanes.message(0);
 //! let put = lanes.order_at(connection, 0);
@@ -29,7 +29,7 @@ ghost use Rattle.iox_lanes_laws.specs.WholeMessages.{ReadsGiveWhatWasSent, UsedS
 
 pub use message::Message;
 pub use placed_message::PlacedMessage;
-pub use recorded::RecordedLanes;
+pub use recorded::Lanes;
 
 /// From where nobody is inside a call, whatever steps follow and wherever parties stop: a read gives just the words of the last
 /// message whose send began in its slot, header, user header and payload, as they were when that send began; of a slot in which
@@ -66,7 +66,7 @@ pub fn orders_follow_numbers()
 {}
 
 /// And each of these messages has a number, where the ones that were found before the first step were kept then
-/// (`RecordedLanes::with_found`): each that was found to wait, and each that is put, left out or taken by an order, by its moment. So
+/// (`Lanes::with_found`): each that was found to wait, and each that is put, left out or taken by an order, by its moment. So
 /// it is as long as at most 2^63 steps were made.
 pub fn orders_have_numbers()
     ensures { OrdersHaveNumbers }
@@ -74,7 +74,7 @@ pub fn orders_have_numbers()
 
 /// A run of lanes that keep messages is a run of the lanes alone: of just those entries that were made, in their order, as many as it
 /// answers. The messages whose sends these began are kept behind the others. A step is a run of one entry, and a run with one that
-/// goes on from there is one run: so whatever calls of `RecordedLanes::step` and `RecordedLanes::run` were made, together they are a run
+/// goes on from there is one run: so whatever calls of `Lanes::step` and `Lanes::run` were made, together they are a run
 /// that the laws on lanes ask for.
 pub fn recorded_runs_run_lanes()
     ensures steps { RecordedStepsAreRuns }
@@ -83,7 +83,7 @@ pub fn recorded_runs_run_lanes()
 {}
 
 /// A run that answers as many as it has entries left none out: each of them fitted where its turn came and was made, and that is all
-/// that happened. So it is of `Lanes::run` and of `RecordedLanes::run`. Where it answers fewer, some didn't fit or found no memory.
+/// that happened. So it is of `LaneMachine::run` and of `Lanes::run`. Where it answers fewer, some didn't fit or found no memory.
 pub fn full_runs_leave_none_out()
     ensures lanes { FullRunsGo }
     ensures recorded { FullRunsAreRecorded }

@@ -36,7 +36,7 @@ pub fn used_slots_keep_messages()
 /// last one from before the first step is that of a message which it sent since, and which was lost here, once: a push to the full ring
 /// let it go as the oldest, or its own push was refused. Each other one was given before, and was lost here just where it was found to
 /// wait. So it is whatever was run from before the first step on, where the messages that were found then were kept
-/// (`RecordedLanes::with_found`), for a publisher whose last number was below 2^63, where headers have room for a number, where the
+/// (`Lanes::with_found`), for a publisher whose last number was below 2^63, where headers have room for a number, where the
 /// numbers of what was found to wait went up to that last one at most, and as long as at most 2^63 steps were made.
 pub fn gaps_are_missed()
     ensures { GapsAreMissed }

@@ -14,18 +14,18 @@ use std::marker::Model;
 /// order that the caller wants, and any of them may stop anywhere.
 ///
 /// A port's own data stand still but at its own steps, and each step touches at most one shared word. This port's own.
-pub struct Lanes {
+pub struct LaneMachine {
     pub(crate) state: State,
 }
 
 /// Said here once, so that no crate above proves it anew.
-impl Drop for Lanes {
+impl Drop for LaneMachine {
     fn drop(self) {
-        let Lanes { state: _ } = self;
+        let LaneMachine { state: _ } = self;
     }
 }
 
-impl Model for Lanes {
+impl Model for LaneMachine {
     ghost use Rattle.iox_lanes_machine.specs.World.{World};
 
     ghost Value = { World };
@@ -38,19 +38,19 @@ impl Model for Lanes {
     ghost invariant = { λ l. IsKept (world_of l.state) };
 }
 
-impl Lanes {
+impl LaneMachine {
     ghost use Rattle.iox_lanes_machine.specs.State.{world_of};
 
     // What they are made of.
     pub(crate) fn into_state(self) -> State
         ensures { world_of result ≡ self }
     {
-        let Lanes { state } = self;
+        let LaneMachine { state } = self;
         state
     }
 }
 
-impl Lanes {
+impl LaneMachine {
     ghost use Rattle.iox_lanes_machine.specs.World.{RunsTo, StepsTo};
     ghost use Rattle.iox_lanes_machine.specs.Apart.{StaysApart};
     ghost use Rattle.iox_lanes_machine.specs.Made.{start};
@@ -76,7 +76,7 @@ impl Lanes {
     /// Lanes of these sizes, on which nothing was done yet: each publisher has a connection to each subscriber, numbered
     /// publisher by publisher. It fails only where an allocation fails; no memory has room for buffers of 2^61 messages, for the
     /// rings of as many samples given back, or for as many subscribers.
-    pub fn new(alloc: Global, sizes: LaneSizes) -> Result<Lanes, AllocError>
+    pub fn new(alloc: Global, sizes: LaneSizes) -> Result<LaneMachine, AllocError>
         requires { 0 < sizes.buffer }
         ensures { IfOk result (λ made. made ≡ start sizes) }
     {
@@ -93,7 +93,7 @@ impl Lanes {
             return Err(AllocError);
         };
         let state = State::new(alloc, &sizes, &table)?;
-        Ok(Lanes { state })
+        Ok(LaneMachine { state })
     }
 
     /// This is found before the first step: a message that waits, a sample that was given back, the newest of a history, what a

@@ -19,7 +19,7 @@ pub fn reads_give_what_stood()
 
 /// A read of a sample gives, word for word, what was last stored there: through any steps of which none may change a word of its
 /// slot, be it of the header, the user header or the payload, to the end of the read; as long as at most 2^63 steps were made.
-/// What a write and a send leave there, `Lanes::step` says.
+/// What a write and a send leave there, `LaneMachine::step` says.
 pub fn reads_give_what_was_stored()
     ensures { ReadsGiveWhatWasStored }
 {}

@@ -17,7 +17,7 @@
 //! First calls:
 //!
 //! ```
-//! let mut lanes = Lanes::new(alloc, sizes)?;
+//! let mut lanes = LaneMachine::new(alloc, sizes)?;
 //! lanes.step(party, &step);
 //! lanes.run(&schedule);
 //! let order = lanes.order(connection);
@@ -39,7 +39,7 @@ mod state;
 pub mod waiting;
 
 pub use found::Found;
-pub use lanes::Lanes;
+pub use lanes::LaneMachine;
 pub use link::{Link, Positions};
 pub use resting::Unrest;
 pub use sizes::LaneSizes;

@@ -8,12 +8,12 @@ ghost use Rattle.iox_lanes_machine.specs.Owned.{HistoriesAreOwn, MailHasRoom, Ma
 ghost use Rattle.iox_lanes_machine.specs.Slots.{SlotsInRows};
 ghost use Rattle.iox_lanes_machine.specs.Together.{HoldTogether};
 
-use crate::lanes::Lanes;
+use crate::lanes::LaneMachine;
 use crate::state::State;
 use iox_lanes_base::words::WordTable;
 use iox_lanes_parties::{PublisherLane, SubscriberLane};
 
-impl Lanes {
+impl LaneMachine {
     /// The shared words.
     pub fn table(&self) -> &WordTable
         ensures { result.now ≡ self.now.table }

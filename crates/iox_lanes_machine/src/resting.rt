@@ -7,7 +7,7 @@ ghost use Rattle.iox_lanes_machine.specs.LanesParties.PublisherKeeping.{loan_of}
 ghost use Rattle.iox_lanes_machine.specs.LanesParties.Parties.{is_out, is_borrowed, place_of};
 ghost use Rattle.iox_lanes_machine.specs.Resting.{AllBetween, NoneOut, IsUnrest};
 
-use crate::lanes::Lanes;
+use crate::lanes::LaneMachine;
 use iox_lanes_parties::{Call, Move, PublisherLane, SubscriberLane};
 
 /// Why lanes can't be handed on: what a party is at, or has.
@@ -93,7 +93,7 @@ fn have_samples(lanes: &[SubscriberLane], slots: u64) -> bool
     false
 }
 
-impl Lanes {
+impl LaneMachine {
     /// Why these lanes can't be handed on, where they can't: a party is inside a call, or none is and a loan or a sample is out.
     /// None where all parties stand between calls and nothing is out.
     pub fn unrest(&self) -> Option<Unrest>

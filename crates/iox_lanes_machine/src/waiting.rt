@@ -12,7 +12,7 @@ ghost use Rattle.iox_lanes_machine.specs.Rings.{sent_word};
 ghost use Rattle.iox_lanes_machine.specs.State.{world_of};
 
 use crate::found::cells;
-use crate::lanes::Lanes;
+use crate::lanes::LaneMachine;
 use crate::state::State;
 use iox_lanes_base::words::{ConnectionRing, SharedWord};
 use iox_queues_steps::Word;
@@ -60,7 +60,7 @@ impl State {
     }
 }
 
-impl Lanes {
+impl LaneMachine {
     /// How many messages wait at a connection: as many as lie between the positions of its ring, and no more than may wait there.
     ///
     /// Where its publisher and its subscriber are between calls, and at most 2^63 steps were made, just these wait there by its

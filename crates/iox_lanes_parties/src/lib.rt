@@ -10,7 +10,7 @@
 //! - [`with_sequence`]: a user header behind the number of its message.
 //! - [`publisher_lane`], [`subscriber_lane`]: a port with the call that it began last.
 //!
-//! First calls, of a subscriber that is connected to nobody; `Lanes` of `iox_lanes_machine` makes them with the words of a service.
+//! First calls, of a subscriber that is connected to nobody; `LaneMachine` of `iox_lanes_machine` makes them with the words of a service.
 //!
 //! ```
 //! let mut lane = SubscriberLane::new(port);

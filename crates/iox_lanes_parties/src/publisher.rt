@@ -3,7 +3,7 @@
 //! - [`slot_book`]: what its slots are used for.
 //! - [`lane_publisher`]: the publisher.
 //!
-//! First calls, of a loan of a publisher that nobody is connected to; `Lanes` of `iox_lanes_machine` makes them with the words of
+//! First calls, of a loan of a publisher that nobody is connected to; `LaneMachine` of `iox_lanes_machine` makes them with the words of
 //! a service.
 //!
 //! ```

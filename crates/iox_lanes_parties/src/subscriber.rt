@@ -2,7 +2,7 @@
 //!
 //! - [`lane_subscriber`]: the subscriber.
 //!
-//! First calls, of the first access of a read; `Lanes` of `iox_lanes_machine` makes them with the words of a service.
+//! First calls, of the first access of a read; `LaneMachine` of `iox_lanes_machine` makes them with the words of a service.
 //!
 //! ```
 //! let mut subscriber = LaneSubscriber::new(alloc, &[], 4, ONE_WORD, 4, 1)?;

@@ -1,7 +1,7 @@
 //! A schedule that lanes run at once: how many of its entries are made.
 use crate::answers::hold;
 use crate::stepping::new_lanes;
-use iox_lanes::{Call, Entry, LaneSizes, Lanes, Move, Party, RecordedLanes, RingKind};
+use iox_lanes::{Call, Entry, LaneMachine, LaneSizes, Lanes, Move, Party, RingKind};
 use std::alloc::{AllocError, Global};
 
 // One message may wait, and more are refused.
@@ -53,17 +53,17 @@ fn ask_all(alloc: Global, schedule: &mut Vec<Entry>) -> Result<(), AllocError> {
 // A loan has 4 steps, a write 3, a send 12 where there is room, and 10 where there is none, a receive 6 and a release 6.
 const MADE: usize = 4 + 3 + 12 + 4 + 3 + 10 + 6 + 6;
 
-fn run(lanes: &mut Lanes, schedule: &[Entry]) -> usize {
+fn run(lanes: &mut LaneMachine, schedule: &[Entry]) -> usize {
     lanes.run(schedule)
 }
 
-fn run_recorded(lanes: &mut RecordedLanes, schedule: &[Entry]) -> usize {
+fn run_recorded(lanes: &mut Lanes, schedule: &[Entry]) -> usize {
     lanes.run(schedule)
 }
 
 // Whether lanes make so many entries of it, and so do lanes that keep messages.
 fn both_make(alloc: Global, schedule: &[Entry]) -> Result<bool, AllocError> {
-    let alone = run(&mut Lanes::new(alloc, SIZES)?, schedule);
+    let alone = run(&mut LaneMachine::new(alloc, SIZES)?, schedule);
     let recorded = run_recorded(&mut new_lanes(alloc, SIZES)?, schedule);
     Ok([alone, recorded] == [MADE, MADE])
 }

@@ -1,7 +1,9 @@
 //! How the ports of a domain in threads end: all together, and not where one is missing or is another board's.
 use crate::domain::Numbers;
 use iox_lanes::threads::{self, DomainThreads, end, end_together};
-use iox_lanes::{DomainLanes, EndError, LanePublisher, LaneSizes, Lanes, RingKind, open_threads};
+use iox_lanes::{
+    DomainLanes, EndError, LaneMachine, LanePublisher, LaneSizes, RingKind, open_threads,
+};
 use std::alloc::{AllocError, Global};
 
 // The ports of a domain of numbers.
@@ -34,7 +36,7 @@ const ALONE: LaneSizes = LaneSizes {
 
 // The publisher of a board of this number.
 fn another(alloc: Global, board: u64) -> Result<Option<LanePublisher>, AllocError> {
-    match open_threads(alloc, board, Lanes::new(alloc, ALONE)?) {
+    match open_threads(alloc, board, LaneMachine::new(alloc, ALONE)?) {
         Ok(mut threads) => Ok(threads.publishers.pop()),
         Err(_) => Err(AllocError),
     }

@@ -1,8 +1,8 @@
 //! What is known of the ports of lanes beside them: what was written and sent, and a plain mailbox for each connection.
 use crate::stepping::{last_call, order, words_read};
 use iox_lanes::{
-    Act, Answer, Call, CallName, FinishedCall, Link, LoanAnswer, Move, Party, Placed, PopAnswer,
-    PushAnswer, Receipt, RecordedLanes, RingKind,
+    Act, Answer, Call, CallName, FinishedCall, Lanes, Link, LoanAnswer, Move, Party, Placed,
+    PopAnswer, PushAnswer, Receipt, RingKind,
 };
 use std::alloc::{AllocError, Global};
 
@@ -91,7 +91,7 @@ fn ended(known: &mut Known, call: &FinishedCall, word: Option<&u64>) -> bool {
 }
 
 /// Whether the call that ended last read what it should, if it read.
-pub(crate) fn is_answered(known: &mut Known, lanes: &RecordedLanes) -> bool {
+pub(crate) fn is_answered(known: &mut Known, lanes: &Lanes) -> bool {
     match last_call(lanes) {
         Some(call) => ended(known, &call, words_read(lanes).last()),
         None => false,
@@ -161,7 +161,7 @@ fn room_of(link: &Link) -> Room {
 }
 
 /// Whether all are.
-pub(crate) fn are_mailboxes(alloc: Global, lanes: &RecordedLanes) -> Result<bool, AllocError> {
+pub(crate) fn are_mailboxes(alloc: Global, lanes: &Lanes) -> Result<bool, AllocError> {
     for (connection, link) in lanes.lanes().links().iter().enumerate() {
         let order = order(lanes, connection as u64);
         if !is_mailbox(&mut Vec::new(alloc), room_of(link), order)? {

@@ -2,8 +2,7 @@
 use crate::stepping::{step, whole, whole_counted};
 use crate::worlds::{Pace, Told};
 use iox_lanes::{
-    Answer, Call, LoanAnswer, Move, Party, Receipt, RecordedLanes, SendAnswer, Stepped,
-    WithSequence,
+    Answer, Call, Lanes, LoanAnswer, Move, Party, Receipt, SendAnswer, Stepped, WithSequence,
 };
 use std::alloc::{AllocError, Global};
 
@@ -27,7 +26,7 @@ pub(crate) fn told(answer: SendAnswer) -> Told {
 }
 
 // What comes of a loan that is written so and sent.
-fn send_loan(lanes: &mut RecordedLanes, party: Party, loan: u64, write: Call) -> Told {
+fn send_loan(lanes: &mut Lanes, party: Party, loan: u64, write: Call) -> Told {
     if whole(lanes, party, write) != Some(Answer::Written) {
         return Told::Otherwise;
     }
@@ -40,7 +39,7 @@ fn send_loan(lanes: &mut RecordedLanes, party: Party, loan: u64, write: Call) ->
 /// What comes of a value that the publisher at a place sends.
 pub(crate) fn send(
     alloc: Global,
-    lanes: &mut RecordedLanes,
+    lanes: &mut Lanes,
     place: usize,
     value: u64,
 ) -> Result<Told, AllocError> {
@@ -53,7 +52,7 @@ pub(crate) fn send(
 }
 
 // The answer of a call that has no more than so many steps.
-fn within(lanes: &mut RecordedLanes, party: Party, call: Call, most: u64) -> Option<Answer> {
+fn within(lanes: &mut Lanes, party: Party, call: Call, most: u64) -> Option<Answer> {
     let (answer, steps) = whole_counted(lanes, party, call)?;
     if steps <= most { Some(answer) } else { None }
 }
@@ -61,7 +60,7 @@ fn within(lanes: &mut RecordedLanes, party: Party, call: Call, most: u64) -> Opt
 /// Whether a value that the publisher at a place sends gets a slot and goes out, each within so many steps.
 pub(crate) fn paces(
     alloc: Global,
-    lanes: &mut RecordedLanes,
+    lanes: &mut Lanes,
     place: usize,
     value: u64,
     pace: Pace,
@@ -77,28 +76,23 @@ pub(crate) fn paces(
 }
 
 /// Whether the subscriber at a place receives a message, and keeps it.
-pub(crate) fn borrows(lanes: &mut RecordedLanes, place: usize) -> bool {
+pub(crate) fn borrows(lanes: &mut Lanes, place: usize) -> bool {
     let received = whole(lanes, Party::Subscriber(place), Call::Receive);
     matches!(received, Some(Answer::Received(Receipt::Taken { .. })))
 }
 
 // The message that is kept under a number.
-fn kept(lanes: &RecordedLanes, number: usize) -> Option<(u64, u64)> {
+fn kept(lanes: &Lanes, number: usize) -> Option<(u64, u64)> {
     Some(numbered(lanes.message(number)?.values()?))
 }
 
 /// Whether this message is kept under a number.
-pub(crate) fn knows(lanes: &RecordedLanes, number: usize, wanted: (u64, u64)) -> bool {
+pub(crate) fn knows(lanes: &Lanes, number: usize, wanted: (u64, u64)) -> bool {
     kept(lanes, number) == Some(wanted)
 }
 
 /// Whether an entry of a connection's order puts or takes the message of this number, or else none.
-pub(crate) fn orders(
-    lanes: &RecordedLanes,
-    connection: u64,
-    at: usize,
-    wanted: Option<usize>,
-) -> bool {
+pub(crate) fn orders(lanes: &Lanes, connection: u64, at: usize, wanted: Option<usize>) -> bool {
     match lanes.order_at(connection, at) {
         Some(entry) => entry.number == wanted,
         None => false,
@@ -106,23 +100,23 @@ pub(crate) fn orders(
 }
 
 /// Whether the publisher at a place lends a slot.
-pub(crate) fn lends(lanes: &mut RecordedLanes, place: usize) -> bool {
+pub(crate) fn lends(lanes: &mut Lanes, place: usize) -> bool {
     whole(lanes, Party::Publisher(place), Call::LoanUninit).is_some()
 }
 
 /// Whether the subscriber at a place begins to receive.
-pub(crate) fn begins(lanes: &mut RecordedLanes, place: usize) -> bool {
+pub(crate) fn begins(lanes: &mut Lanes, place: usize) -> bool {
     let begin = Move::Begin(Call::Receive);
     step(lanes, Party::Subscriber(place), &begin) == Stepped::Went
 }
 
 // The message that a read gave from there on.
-fn message(lanes: &RecordedLanes, from: usize) -> Option<(u64, u64)> {
+fn message(lanes: &Lanes, from: usize) -> Option<(u64, u64)> {
     Some(numbered(lanes.values(from)?))
 }
 
 // Whether a sample is read as this message, and given back.
-fn takes(lanes: &mut RecordedLanes, party: Party, sample: u64, wanted: Option<(u64, u64)>) -> bool {
+fn takes(lanes: &mut Lanes, party: Party, sample: u64, wanted: Option<(u64, u64)>) -> bool {
     let Some(Answer::Read { from }) = whole(lanes, party, Call::Read { sample }) else {
         return false;
     };
@@ -132,7 +126,7 @@ fn takes(lanes: &mut RecordedLanes, party: Party, sample: u64, wanted: Option<(u
 }
 
 /// Whether the subscriber at a place receives this message and gives it back, or else nothing.
-pub(crate) fn gets(lanes: &mut RecordedLanes, place: usize, wanted: Option<(u64, u64)>) -> bool {
+pub(crate) fn gets(lanes: &mut Lanes, place: usize, wanted: Option<(u64, u64)>) -> bool {
     let party = Party::Subscriber(place);
     match whole(lanes, party, Call::Receive) {
         Some(Answer::Received(Receipt::Taken { slot, .. })) => takes(lanes, party, slot, wanted),

@@ -1,6 +1,6 @@
 //! Messages that lanes keep, beside what a read gives.
 use crate::stepping::{new_lanes, whole, words_read};
-use iox_lanes::{Call, LaneSizes, Party, RecordedLanes, RingKind};
+use iox_lanes::{Call, LaneSizes, Lanes, Party, RingKind};
 use std::alloc::{AllocError, Global};
 use std::process::Abort;
 
@@ -22,21 +22,21 @@ const PUBLISHER: Party = Party::Publisher(0);
 const SUBSCRIBER: Party = Party::Subscriber(0);
 
 // Whether a message is sent in a slot.
-fn sends(lanes: &mut RecordedLanes, slot: u64, write: Call) -> bool {
+fn sends(lanes: &mut Lanes, slot: u64, write: Call) -> bool {
     whole(lanes, PUBLISHER, Call::LoanUninit).is_some()
         && whole(lanes, PUBLISHER, write).is_some()
         && whole(lanes, PUBLISHER, Call::Send { loan: slot }).is_some()
 }
 
 // Whether it is received, read and given up.
-fn takes(lanes: &mut RecordedLanes, slot: u64) -> bool {
+fn takes(lanes: &mut Lanes, slot: u64) -> bool {
     whole(lanes, SUBSCRIBER, Call::Receive).is_some()
         && whole(lanes, SUBSCRIBER, Call::Read { sample: slot }).is_some()
         && whole(lanes, SUBSCRIBER, Call::Release { sample: slot }).is_some()
 }
 
 // Whether the message of a number stands as it was sent, and was read so.
-fn is_kept(lanes: &RecordedLanes, number: u64) -> bool {
+fn is_kept(lanes: &Lanes, number: u64) -> bool {
     let words = [0, 0, 1, 5, number];
     let from = (number as usize).saturating_mul(5);
     match lanes.message(number as usize) {
@@ -50,7 +50,7 @@ fn is_kept(lanes: &RecordedLanes, number: u64) -> bool {
 }
 
 // Whether the connection's order has the message of a number as it is put, and as it is taken.
-fn is_placed(lanes: &RecordedLanes, number: u64) -> bool {
+fn is_placed(lanes: &Lanes, number: u64) -> bool {
     let put = (number as usize).saturating_mul(2);
     match lanes.order_at(0, put.saturating_add(1)) {
         Some(taken) => {
@@ -61,7 +61,7 @@ fn is_placed(lanes: &RecordedLanes, number: u64) -> bool {
 }
 
 // Whether the message of a number is sent in the first slot or the second, by turns, and read and kept.
-fn keeps(alloc: Global, lanes: &mut RecordedLanes, number: u64) -> Result<bool, AllocError> {
+fn keeps(alloc: Global, lanes: &mut Lanes, number: u64) -> Result<bool, AllocError> {
     let slot = number % 2;
     let write = Call::write(alloc, slot, &number, &5u8)?;
     let goes = sends(lanes, slot, write) && takes(lanes, slot);
@@ -69,7 +69,7 @@ fn keeps(alloc: Global, lanes: &mut RecordedLanes, number: u64) -> Result<bool, 
 }
 
 // Whether so many are.
-fn keep(alloc: Global, lanes: &mut RecordedLanes, count: u64) -> Result<bool, AllocError> {
+fn keep(alloc: Global, lanes: &mut Lanes, count: u64) -> Result<bool, AllocError> {
     for number in 0..count {
         if !keeps(alloc, lanes, number)? {
             return Ok(false);

@@ -4,7 +4,7 @@ ghost use Rattle.std.specs.Prelude.{◌≡◌};
 use crate::answers::hold;
 use crate::known::{Known, NOTHING, SLOTS, are_mailboxes, begun, is_answered, kept, last_at};
 use crate::stepping::{new_lanes, step};
-use iox_lanes::{Call, LaneSizes, Move, Party, RecordedLanes, RingKind, Stepped};
+use iox_lanes::{Call, LaneSizes, Lanes, Move, Party, RingKind, Stepped};
 use std::alloc::{AllocError, Global};
 
 // Two publishers, and three subscribers at each connection of which two messages may wait.
@@ -96,7 +96,7 @@ fn asked(alloc: Global, known: &mut Known, party: Party, value: u64) -> Result<C
 }
 
 // A party begins this call, if it fits.
-fn begin(known: &mut Known, lanes: &mut RecordedLanes, party: Party, call: Call) {
+fn begin(known: &mut Known, lanes: &mut Lanes, party: Party, call: Call) {
     let entry = Move::Begin(call);
     if step(lanes, party, &entry) == Stepped::Went {
         begun(known, &entry);
@@ -104,7 +104,7 @@ fn begin(known: &mut Known, lanes: &mut RecordedLanes, party: Party, call: Call)
 }
 
 // One entry by chance; whether what it gave is right.
-fn goes(alloc: Global, known: &mut Known, lanes: &mut RecordedLanes) -> Result<bool, AllocError> {
+fn goes(alloc: Global, known: &mut Known, lanes: &mut Lanes) -> Result<bool, AllocError> {
     let party = party(drawn(known));
     match step(lanes, party, &Move::GoOn) {
         Stepped::Finished => Ok(is_answered(known, lanes)),
@@ -121,7 +121,7 @@ fn goes(alloc: Global, known: &mut Known, lanes: &mut RecordedLanes) -> Result<b
 const ENTRIES: u64 = 1_000_000;
 
 // Whether each entry goes right, a thousandth of them reads and more.
-fn all_go(alloc: Global, lanes: &mut RecordedLanes) -> Result<bool, AllocError> {
+fn all_go(alloc: Global, lanes: &mut Lanes) -> Result<bool, AllocError> {
     let mut known = NOTHING;
     for _ in 0..ENTRIES {
         if !goes(alloc, &mut known, lanes)? {
@@ -132,7 +132,7 @@ fn all_go(alloc: Global, lanes: &mut RecordedLanes) -> Result<bool, AllocError> 
 }
 
 // Whether lanes on which nothing was done go right.
-fn go_on(alloc: Global, lanes: &mut RecordedLanes) -> Result<bool, AllocError> {
+fn go_on(alloc: Global, lanes: &mut Lanes) -> Result<bool, AllocError> {
     Ok(all_go(alloc, lanes)? && are_mailboxes(alloc, lanes)?)
 }
 

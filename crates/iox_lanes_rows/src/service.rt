@@ -2,8 +2,8 @@
 ghost use Rattle.std.specs.Prelude.{◌≡◌, ◌<◌};
 
 use iox_lanes::{
-    LanePublisher, LaneSizes, LaneSubscriber, LaneThreads, Lanes, LoanAnswer, RingKind, SendAnswer,
-    end, open_threads,
+    LaneMachine, LanePublisher, LaneSizes, LaneSubscriber, LaneThreads, LoanAnswer, RingKind,
+    SendAnswer, end, open_threads,
 };
 use std::alloc::{AllocError, Global};
 
@@ -26,7 +26,7 @@ fn sizes(kind: RingKind, buffer: u64) -> LaneSizes
 }
 
 // The ports of lanes in threads.
-fn started(alloc: Global, lanes: Lanes) -> Result<LaneThreads, AllocError> {
+fn started(alloc: Global, lanes: LaneMachine) -> Result<LaneThreads, AllocError> {
     match open_threads(alloc, 1, lanes) {
         Ok(threads) => Ok(threads),
         Err(_) => Err(AllocError),
@@ -37,7 +37,7 @@ fn started(alloc: Global, lanes: Lanes) -> Result<LaneThreads, AllocError> {
 pub(crate) fn opened(alloc: Global, kind: RingKind, buffer: u64) -> Result<LaneThreads, AllocError>
     requires { 0 < buffer }
 {
-    started(alloc, Lanes::new(alloc, sizes(kind, buffer))?)
+    started(alloc, LaneMachine::new(alloc, sizes(kind, buffer))?)
 }
 
 /// The first two ports.

@@ -2,39 +2,39 @@
 ghost use Rattle.std.specs.Prelude.{◌<◌};
 
 use iox_lanes::{
-    Answer, Call, FinishedCall, LaneSizes, Lanes, Move, Party, Placed, RecordedLanes, Stepped,
+    Answer, Call, FinishedCall, LaneMachine, LaneSizes, Lanes, Move, Party, Placed, Stepped,
 };
 use std::alloc::{AllocError, Global};
 
 /// Lanes of these sizes, on which nothing was done yet.
-pub(crate) fn new_lanes(alloc: Global, sizes: LaneSizes) -> Result<RecordedLanes, AllocError>
+pub(crate) fn new_lanes(alloc: Global, sizes: LaneSizes) -> Result<Lanes, AllocError>
     requires { 0 < sizes.buffer }
 {
-    Ok(RecordedLanes::new(alloc, Lanes::new(alloc, sizes)?))
+    Ok(Lanes::new(alloc, LaneMachine::new(alloc, sizes)?))
 }
 
 /// Makes a step.
-pub(crate) fn step(lanes: &mut RecordedLanes, party: Party, entry: &Move) -> Stepped {
+pub(crate) fn step(lanes: &mut Lanes, party: Party, entry: &Move) -> Stepped {
     lanes.step(party, entry)
 }
 
 /// The call that ended last.
-pub(crate) fn last_call(lanes: &RecordedLanes) -> Option<FinishedCall> {
+pub(crate) fn last_call(lanes: &Lanes) -> Option<FinishedCall> {
     lanes.finished().last().copied()
 }
 
 /// The words of all reads.
-pub(crate) fn words_read(lanes: &RecordedLanes) -> &[u64] {
+pub(crate) fn words_read(lanes: &Lanes) -> &[u64] {
     lanes.lanes().words_read()
 }
 
 /// The order of a connection.
-pub(crate) fn order(lanes: &RecordedLanes, connection: u64) -> &[Placed] {
+pub(crate) fn order(lanes: &Lanes, connection: u64) -> &[Placed] {
     lanes.order(connection)
 }
 
 // Makes a step, and once more where it found no memory, by which nothing has changed.
-fn step_again(lanes: &mut RecordedLanes, party: Party, entry: &Move) -> Stepped {
+fn step_again(lanes: &mut Lanes, party: Party, entry: &Move) -> Stepped {
     match step(lanes, party, entry) {
         Stepped::NoMemory => step(lanes, party, entry),
         stepped => stepped,
@@ -42,7 +42,7 @@ fn step_again(lanes: &mut RecordedLanes, party: Party, entry: &Move) -> Stepped 
 }
 
 // Goes on inside a call up to its end, and gives its answer and how many steps it has, its begin among them.
-fn rest(lanes: &mut RecordedLanes, party: Party) -> Option<(Answer, u64)> {
+fn rest(lanes: &mut Lanes, party: Party) -> Option<(Answer, u64)> {
     for steps in 2..1000 {
         if step_again(lanes, party, &Move::GoOn) == Stepped::Finished {
             return Some((last_call(lanes)?.answer, steps));
@@ -52,11 +52,7 @@ fn rest(lanes: &mut RecordedLanes, party: Party) -> Option<(Answer, u64)> {
 }
 
 /// Makes a whole call, and gives its answer and how many steps it has.
-pub(crate) fn whole_counted(
-    lanes: &mut RecordedLanes,
-    party: Party,
-    call: Call,
-) -> Option<(Answer, u64)> {
+pub(crate) fn whole_counted(lanes: &mut Lanes, party: Party, call: Call) -> Option<(Answer, u64)> {
     match step_again(lanes, party, &Move::Begin(call)) {
         Stepped::Went => rest(lanes, party),
         _ => None,
@@ -64,6 +60,6 @@ pub(crate) fn whole_counted(
 }
 
 /// Makes a whole call, and gives its answer.
-pub(crate) fn whole(lanes: &mut RecordedLanes, party: Party, call: Call) -> Option<Answer> {
+pub(crate) fn whole(lanes: &mut Lanes, party: Party, call: Call) -> Option<Answer> {
     Some(whole_counted(lanes, party, call)?.0)
 }

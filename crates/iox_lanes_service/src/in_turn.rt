@@ -21,7 +21,7 @@ use crate::seen::Seen;
 use crate::turn::{Turn, take_turn};
 use iox_domain_values::{LoanError, ReceiveError, SendError};
 use iox_lanes_base::calls::Receipt;
-use iox_lanes_machine::{LaneSizes, Lanes};
+use iox_lanes_machine::{LaneMachine, LaneSizes};
 use iox_lanes_parties::publisher::LoanAnswer;
 use iox_lanes_parties::{Answer, Call, Party, SendAnswer};
 use iox_queues_base::Words;
@@ -79,7 +79,7 @@ pub enum RanOut {
 /// That what was asked and answered is a run of the machine says `answers_as_machine`. This port's own.
 #[derive(Drop)]
 pub struct LanesInTurn {
-    lanes: Lanes,
+    lanes: LaneMachine,
     // What ran out within a call, after which none is made.
     ran_out: Option<RanOut>,
     history: TurnHistory,
@@ -125,7 +125,7 @@ impl LanesInTurn {
             return Err(AllocError);
         }
         Ok(LanesInTurn {
-            lanes: Lanes::new(alloc, sizes)?,
+            lanes: LaneMachine::new(alloc, sizes)?,
             ran_out: None,
             history: TurnHistory::told(&sizes, &(), &()),
         })
@@ -523,7 +523,7 @@ fn behind(words: &[u64], count: usize) -> &[u64]
 }
 
 // The words of the payload that a read gave, behind header and user header.
-fn payload_read(lanes: &Lanes, from: usize) -> &[u64]
+fn payload_read(lanes: &LaneMachine, from: usize) -> &[u64]
     ensures { result.now ≡ drop lanes.now.table.sizes.user_header_words (drop 3 (drop from lanes.now.read)) }
 {
     let words = behind(lanes.words_read(), from);

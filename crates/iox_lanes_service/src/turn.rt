@@ -7,7 +7,7 @@ ghost use Rattle.iox_lanes_machine.specs.World.{fits};
 ghost use Rattle.iox_lanes_service.specs.Turning.{StoppedBy, TakesTurn};
 
 use crate::in_turn::RanOut;
-use iox_lanes_machine::Lanes;
+use iox_lanes_machine::LaneMachine;
 use iox_lanes_parties::{Answer, Call, Move, Party};
 use iox_queues_steps::Stepped;
 
@@ -26,7 +26,7 @@ pub(crate) enum Turn {
 }
 
 // A party inside a call goes on to its end, with which one call more ended; or what ran out before.
-fn goes_to_end(lanes: &mut Lanes, party: Party) -> Result<(), RanOut>
+fn goes_to_end(lanes: &mut LaneMachine, party: Party) -> Result<(), RanOut>
     requires { fits lanes.old party Move.GoOn ≡ true }
     ensures { MatchResult result
         (λ done. ((more : ℕ) × GoesToEnd party more lanes.old lanes.new)
@@ -45,7 +45,7 @@ fn goes_to_end(lanes: &mut Lanes, party: Party) -> Result<(), RanOut>
 }
 
 /// A whole call of a party, which no other call overlaps.
-pub(crate) fn take_turn(lanes: &mut Lanes, party: Party, asking: Call) -> Turn
+pub(crate) fn take_turn(lanes: &mut LaneMachine, party: Party, asking: Call) -> Turn
     requires came { CameTo lanes.old }
     requires between { AllBetween lanes.old }
     ensures { TakesTurn lanes.old party asking result lanes.new }

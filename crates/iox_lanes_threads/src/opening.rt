@@ -8,11 +8,11 @@ ghost use Rattle.iox_lanes_threads.specs.Threads.{RefusesToOpen, OpenedAs};
 use crate::errors::OpenError;
 use crate::room::Room;
 use crate::threads::LaneThreads;
-use iox_lanes_machine::{Lanes, Unrest};
+use iox_lanes_machine::{LaneMachine, Unrest};
 use std::alloc::{AllocError, Global};
 
 // Why the lanes may not be opened, memory aside.
-fn refusal(lanes: &Lanes) -> Option<OpenError>
+fn refusal(lanes: &LaneMachine) -> Option<OpenError>
     ensures some { IfSome result (λ error. RefusesToOpen error lanes.now) }
     ensures none { IfNone result (MayOpen lanes.now) }
 {
@@ -35,8 +35,8 @@ fn refusal(lanes: &Lanes) -> Option<OpenError>
 pub fn open_threads(
     alloc: Global,
     board: u64,
-    lanes: Lanes,
-) -> Result<LaneThreads, (OpenError, Lanes)>
+    lanes: LaneMachine,
+) -> Result<LaneThreads, (OpenError, LaneMachine)>
     ensures opened { IfOk result (λ threads. MayOpen lanes × OpenedAs board lanes threads) }
     ensures own { IfOk result (λ threads. ArePublishersOf threads.board threads.publishers.items
         × AreSubscribersOf threads.board threads.subscribers.items) }

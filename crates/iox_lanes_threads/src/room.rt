@@ -19,7 +19,7 @@ use crate::subscriber::LaneSubscriber;
 use crate::table::{Share, next_seat, open_table};
 use crate::threads::{Board, LaneThreads};
 use iox_lanes_base::words::TableSizes;
-use iox_lanes_machine::Lanes;
+use iox_lanes_machine::LaneMachine;
 use iox_lanes_parties::{Move, PublisherLane, SubscriberLane};
 use iox_lanes_threads_ports::{ThreadedPublisher, ThreadedSubscriber, write_room};
 use iox_lanes_threads_rule::WordSeat;
@@ -29,7 +29,7 @@ use std::snapshot::Snapshot;
 /// What the ports of lanes need in threads: their words, a share of them for each, and room for the ports themselves.
 pub(crate) struct Room {
     // The lanes as they were.
-    of: Snapshot<Lanes>,
+    of: Snapshot<LaneMachine>,
     words: Share,
     home: WordSeat,
     sizes: TableSizes,
@@ -134,7 +134,7 @@ struct PublisherNeeds {
 
 // All publishers with their seats, in the room for them.
 fn seat_publishers(
-    of: &Snapshot<Lanes>,
+    of: &Snapshot<LaneMachine>,
     board: u64,
     home: &mut WordSeat,
     sizes: TableSizes,
@@ -173,7 +173,7 @@ fn seat_publishers(
 
 // All subscribers likewise.
 fn seat_subscribers(
-    of: &Snapshot<Lanes>,
+    of: &Snapshot<LaneMachine>,
     board: u64,
     mut shares: Vec<Share>,
     home: &mut WordSeat,
@@ -203,7 +203,7 @@ fn seat_subscribers(
 
 impl Room {
     /// Room for the ports of these lanes. It fails only where an allocation fails.
-    pub(crate) fn new(alloc: Global, lanes: &Lanes) -> Result<Room, AllocError>
+    pub(crate) fn new(alloc: Global, lanes: &LaneMachine) -> Result<Room, AllocError>
         requires { MayOpen lanes.now }
         ensures { IfOk result (λ room. IsRoomFor lanes.now room) }
     {
@@ -229,7 +229,7 @@ impl Room {
     }
 
     /// The ports of these lanes with their seats, on a board of this number.
-    pub(crate) fn seat(self, board: u64, lanes: Lanes) -> LaneThreads
+    pub(crate) fn seat(self, board: u64, lanes: LaneMachine) -> LaneThreads
         requires room { IsRoomFor lanes self }
         requires may { MayOpen lanes }
         ensures { OpenedAs board lanes result }

@@ -4,7 +4,7 @@ ghost use Rattle.iox_lanes_threads_ports.specs.LanesThreadsRule.Acts.{first_port
 ghost use Rattle.iox_lanes_threads_ports.specs.LanesThreadsRule.Seats.{others_wait, IsWaiting};
 ghost use Rattle.iox_lanes_threads.specs.Opening.{ports_of, Fitting, WaitsFor};
 
-use iox_lanes_machine::Lanes;
+use iox_lanes_machine::LaneMachine;
 use iox_lanes_threads_rule::{Opening, WordSeat, Words, give_out};
 use std::alloc::{AllocError, Global};
 use std::marker::Model;
@@ -14,7 +14,7 @@ use std::sync::Arc;
 /// The lanes whose words a table started from. It has no bytes.
 #[derive(Drop)]
 pub struct OpenedFrom {
-    lanes: Snapshot<Lanes>,
+    lanes: Snapshot<LaneMachine>,
 }
 
 impl Opening for OpenedFrom {
@@ -69,7 +69,7 @@ impl Share {
 /// A table that starts from the words of lanes, with a seat at which all their ports wait. It fails only where an allocation fails.
 pub(crate) fn open_table(
     alloc: Global,
-    lanes: &Lanes,
+    lanes: &LaneMachine,
 ) -> Result<(Words<OpenedFrom>, WordSeat), AllocError>
     requires { Fitting lanes.now }
     ensures { IfOk result (λ made. (made.1.table_id ≡ made.0.table_id)

@@ -5,13 +5,18 @@ mod said;
 mod viewing;
 mod words;
 
-use iox_lanes_machine::Lanes;
+use iox_lanes_machine::LaneMachine;
 use std::alloc::Global;
 use std::io;
 use words::word;
 
 // Prints a line of lanes with its answer.
-fn serve_line(rt: &HostRuntime, alloc: Global, lanes: &mut Lanes, line: &str) -> io::Result<()> {
+fn serve_line(
+    rt: &HostRuntime,
+    alloc: Global,
+    lanes: &mut LaneMachine,
+    line: &str,
+) -> io::Result<()> {
     let mut words = line.split_whitespace();
     let first = word(&mut words);
     let answer = viewing::answer(alloc, lanes, first, &mut words)?;
@@ -19,7 +24,12 @@ fn serve_line(rt: &HostRuntime, alloc: Global, lanes: &mut Lanes, line: &str) ->
 }
 
 // Prints each line of lanes with its answer.
-fn serve_lanes(rt: &HostRuntime, alloc: Global, lanes: &mut Lanes, lines: &str) -> io::Result<()> {
+fn serve_lanes(
+    rt: &HostRuntime,
+    alloc: Global,
+    lanes: &mut LaneMachine,
+    lines: &str,
+) -> io::Result<()> {
     for line in lines.lines() {
         serve_line(rt, alloc, lanes, line)?;
     }

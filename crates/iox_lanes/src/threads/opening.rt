@@ -8,13 +8,13 @@ ghost use Rattle.iox_lanes.specs.Opened.{IsOpened};
 use crate::DomainLanes;
 use crate::threads::threads::{DomainBoard, DomainThreads};
 use iox_domain::Domain;
-use iox_lanes_laws::messages::RecordedLanes;
+use iox_lanes_laws::messages::Lanes;
 use iox_lanes_threads::{LaneThreads, OpenError};
 use iox_queues_base::Words;
 use std::alloc::Global;
 
 /// Threads take over from the lanes of a domain, as `open_threads` of `iox_lanes_threads` has it, and the board keeps the domain
-/// as it was when the lanes began. In threads no message is kept (`RecordedLanes`); those that the lanes kept go.
+/// as it was when the lanes began. In threads no message is kept (`Lanes`); those that the lanes kept go.
 ///
 /// The board has this number, by which it knows its ports: whoever opens two gives them two. The lanes come back as they were
 /// where a party is inside a call (`PartyInCall`), a loan or a sample is out (`SamplesOut`), more than 2^63 steps were made
@@ -44,7 +44,7 @@ pub fn open_threads<T: Words, U: Words>(
         Ok(threads) => Ok(with(threads, domain, publishers)),
         Err((error, lanes)) => {
             let lanes = DomainLanes {
-                lanes: RecordedLanes::of_parts(alloc, lanes, messages),
+                lanes: Lanes::of_parts(alloc, lanes, messages),
                 domain,
                 publishers,
                 subscribers,

@@ -9,7 +9,7 @@ ghost use Rattle.iox_lanes_laws.specs.Numbered.{with_number};
 
 use crate::messages::message::Message;
 use crate::messages::placed_message::PlacedMessage;
-use iox_lanes_machine::{Lanes, Positions};
+use iox_lanes_machine::{LaneMachine, Positions};
 use iox_lanes_parties::publisher::SlotBook;
 use iox_lanes_parties::{Call, Entry, FinishedCall, Move, Party, PublisherLane, values_in};
 use iox_queues_base::Words;
@@ -20,13 +20,13 @@ use std::marker::Model;
 /// Lanes with the messages that were sent on them since they were handed in: each has the next number as its send begins, from 0 on,
 /// behind those that were found. This port's own.
 #[derive(Drop)]
-pub struct RecordedLanes {
+pub struct Lanes {
     alloc: Global,
-    lanes: Lanes,
+    lanes: LaneMachine,
     messages: Vec<Message>,
 }
 
-impl Model for RecordedLanes {
+impl Model for Lanes {
     ghost use Rattle.iox_lanes_laws.specs.Recorded.{RecordState};
 
     ghost Value = { RecordState };
@@ -34,7 +34,7 @@ impl Model for RecordedLanes {
     ghost view = { λ r. record { lanes = r.lanes; messages = r.messages.items } };
 }
 
-impl RecordedLanes {
+impl Lanes {
     ghost use Rattle.iox_lanes_laws.specs.Messages.{begun_messages, message_of};
     ghost use Rattle.iox_lanes_laws.specs.Recorded.{RecordsTo, RecordsRun};
     ghost use Rattle.iox_lanes_laws.specs.RecordedSteps.{AllFollow, MakesStep};
@@ -61,19 +61,19 @@ impl RecordedLanes {
     ghost use Rattle.iox_lanes_machine.specs.World.{fits};
 
     /// These lanes, of which no message is kept yet. It takes no memory.
-    pub fn new(alloc: Global, lanes: Lanes) -> RecordedLanes
+    pub fn new(alloc: Global, lanes: LaneMachine) -> Lanes
         ensures { result ≡ record { lanes = lanes; messages = [] } }
     {
-        RecordedLanes {
+        Lanes {
             alloc,
             lanes,
             messages: Vec::new(alloc),
         }
     }
 
-    /// Makes a step of the lanes, as `Lanes::step`, and says of them what that says. Where it begins a send, the message is kept behind
-    /// the others, as it is then: later stores change nothing of it. Answers `NoMemory`, with nothing changed, also where no memory is
-    /// found for that. What the laws ask of lanes (`CameTo`) is true of them again.
+    /// Makes a step of the lanes, as `LaneMachine::step`, and says of them what that says. Where it begins a send, the message is kept
+    /// behind the others, as it is then: later stores change nothing of it. Answers `NoMemory`, with nothing changed, also where no memory
+    /// is found for that. What the laws ask of lanes (`CameTo`) is true of them again.
     pub fn step(&mut self, party: Party, step: &Move) -> Stepped
         ensures steps { RecordsTo self.old party step.now result self.new }
         ensures apart { StaysApart self.old.lanes party step.now result self.new.lanes }
@@ -100,7 +100,7 @@ impl RecordedLanes {
 
     /// Makes the entries one after the other, and leaves out those that don't fit or find no memory for what they record; these
     /// change nothing. Returns how many were made, so how many went or finished: where that is how many entries there are, each was
-    /// made. It says of the lanes what `Lanes::run` says, and what the laws ask of lanes (`CameTo`) is true of them again.
+    /// made. It says of the lanes what `LaneMachine::run` says, and what the laws ask of lanes (`CameTo`) is true of them again.
     pub fn run(&mut self, schedule: &[Entry]) -> usize
         ensures runs { RecordsRun self.old schedule.now result self.new }
         ensures came { CameTo self.old.lanes → CameTo self.new.lanes }
@@ -157,13 +157,13 @@ impl RecordedLanes {
     /// slot, is a message and has the next number. Of lanes of which no loan is out, these are those that wait, lie aside, are borrowed,
     /// were given back and not taken back, or that a history has. A slot that is lent is listed, too. Only where an allocation fails
     /// the lanes come back as they were.
-    pub fn with_found(alloc: Global, lanes: Lanes) -> Result<RecordedLanes, Lanes>
+    pub fn with_found(alloc: Global, lanes: LaneMachine) -> Result<Lanes, LaneMachine>
         ensures made { IfOk result (λ made. made ≡ record { lanes = lanes; messages = found_messages lanes }) }
         ensures held { IfOk result (λ made. AreAsHeld made.lanes made.messages × ArePast made.lanes made.messages) }
         ensures same { IfErr result (λ same. same ≡ lanes) }
     {
         match found(alloc, &lanes) {
-            Ok(messages) => Ok(RecordedLanes {
+            Ok(messages) => Ok(Lanes {
                 alloc,
                 lanes,
                 messages,
@@ -268,7 +268,7 @@ impl RecordedLanes {
         })
     }
 
-    /// The puts, takes and looks of a connection, and what holds of them, as `Lanes::order`.
+    /// The puts, takes and looks of a connection, and what holds of them, as `LaneMachine::order`.
     pub fn order(&self, connection: u64) -> &[Placed]
         ensures value { result.now ≡ get_or self.now.lanes.orders connection [] }
         ensures follows { OrderFollows self.now.lanes connection result.now }
@@ -277,7 +277,7 @@ impl RecordedLanes {
         self.lanes.order(connection)
     }
 
-    /// The four positions of a connection, and what holds of them, as `Lanes::position`.
+    /// The four positions of a connection, and what holds of them, as `LaneMachine::position`.
     pub fn position(&self, connection: u64) -> Positions
         requires { connection < length self.now.lanes.links }
         ensures value { result ≡ positions_of self.now.lanes.table connection }
@@ -287,7 +287,7 @@ impl RecordedLanes {
         self.lanes.position(connection)
     }
 
-    /// The calls that ended, in their order, and what holds of them, as `Lanes::finished`.
+    /// The calls that ended, in their order, and what holds of them, as `LaneMachine::finished`.
     pub fn finished(&self) -> &[FinishedCall]
         ensures value { result.now ≡ self.now.lanes.finished }
         ensures receipts { ReceiptsFollow self.now.lanes }
@@ -315,17 +315,17 @@ impl RecordedLanes {
     }
 
     /// The lanes.
-    pub fn lanes(&self) -> &Lanes
+    pub fn lanes(&self) -> &LaneMachine
         ensures { result.now ≡ self.now.lanes }
     {
         &self.lanes
     }
 
     /// The lanes, and the messages that were kept.
-    pub fn into_parts(self) -> (Lanes, Vec<Message>)
+    pub fn into_parts(self) -> (LaneMachine, Vec<Message>)
         ensures { (result.0 ≡ self.lanes) × (result.1.items ≡ self.messages) }
     {
-        let RecordedLanes {
+        let Lanes {
             lanes,
             messages,
             ..
@@ -335,10 +335,10 @@ impl RecordedLanes {
 
     /// These lanes with these messages. It takes no memory. The laws ask that the messages are as their slots hold them, and not later
     /// than the lanes.
-    pub fn of_parts(alloc: Global, lanes: Lanes, messages: Vec<Message>) -> RecordedLanes
+    pub fn of_parts(alloc: Global, lanes: LaneMachine, messages: Vec<Message>) -> Lanes
         ensures { result ≡ record { lanes = lanes; messages = messages.items } }
     {
-        RecordedLanes {
+        Lanes {
             alloc,
             lanes,
             messages,
@@ -346,16 +346,16 @@ impl RecordedLanes {
     }
 
     /// The lanes alone; the messages are gone.
-    pub fn into_lanes(self) -> Lanes
+    pub fn into_lanes(self) -> LaneMachine
         ensures { result ≡ self.lanes }
     {
-        let RecordedLanes { lanes, .. } = self;
+        let Lanes { lanes, .. } = self;
         lanes
     }
 }
 
 // What is found on lanes.
-fn found(alloc: Global, lanes: &Lanes) -> Result<Vec<Message>, AllocError>
+fn found(alloc: Global, lanes: &LaneMachine) -> Result<Vec<Message>, AllocError>
     ensures { IfOk result (λ messages. messages.items ≡ found_messages lanes.now) }
 {
     let mut messages = Vec::new(alloc);
@@ -368,7 +368,7 @@ fn found(alloc: Global, lanes: &Lanes) -> Result<Vec<Message>, AllocError>
 // And in the slots of the publisher at a place, if there is one.
 fn find_publisher(
     alloc: Global,
-    lanes: &Lanes,
+    lanes: &LaneMachine,
     publisher: usize,
     messages: &mut Vec<Message>,
 ) -> Result<(), AllocError>
@@ -383,7 +383,7 @@ fn find_publisher(
 }
 
 // The publisher at a place, if there is one.
-fn lane_at(lanes: &Lanes, publisher: usize) -> Option<&PublisherLane>
+fn lane_at(lanes: &LaneMachine, publisher: usize) -> Option<&PublisherLane>
     ensures { option_copied result ≡ slice_get lanes.now.publishers publisher }
 {
     lanes.publishers().get(publisher)
@@ -392,7 +392,7 @@ fn lane_at(lanes: &Lanes, publisher: usize) -> Option<&PublisherLane>
 // And in all slots of this one.
 fn find_slots(
     alloc: Global,
-    lanes: &Lanes,
+    lanes: &LaneMachine,
     publisher: usize,
     lane: &PublisherLane,
     messages: &mut Vec<Message>,
@@ -425,7 +425,7 @@ fn uses_at(book: &SlotBook, at: usize) -> u64
 // And in one slot, which has so many uses.
 fn find_slot(
     alloc: Global,
-    lanes: &Lanes,
+    lanes: &LaneMachine,
     publisher: usize,
     slot: u64,
     uses: u64,

@@ -10,14 +10,14 @@ ghost use Rattle.iox_lanes_opening.specs.Restored.{IsRested, IsRestored, MayWait
 use crate::leaving::clearing::{forget_messages, is_rested};
 use crate::leaving::restoring::{restore_history, restore_waiting};
 use iox_domain_ports::messages::Sender;
-use iox_lanes_machine::Lanes;
+use iox_lanes_machine::LaneMachine;
 use iox_queues_base::Words;
 
 /// What lanes leave of a publisher.
 #[derive(Clone, Copy)]
 pub struct LeftPublisher<'a> {
     /// The lanes.
-    pub lanes: &'a Lanes,
+    pub lanes: &'a LaneMachine,
     /// Whether messages have numbers: then each has its own in its slot.
     pub numbered: bool,
     /// The number of its first connection in the lanes.

@@ -13,7 +13,7 @@ ghost use Rattle.iox_lanes_machine.specs.Resting.{mail_at};
 use crate::leaving::words::{elements, middle, payload};
 use iox_domain_ports::messages::Sender;
 use iox_lanes_base::words::WordTable;
-use iox_lanes_machine::Lanes;
+use iox_lanes_machine::LaneMachine;
 use iox_queues_base::Words;
 
 // The slots of a publisher in lanes: they begin at `first` there. Where messages have numbers, each has its own in its slot.
@@ -135,7 +135,7 @@ fn put_own<T: Words, U: Words>(
 /// same slots of the publisher: these begin at `first` in the lanes. `one` has room for one value, which is taken there; no
 /// memory is.
 pub fn restore_waiting<T: Words, U: Words>(
-    lanes: &Lanes,
+    lanes: &LaneMachine,
     numbered: bool,
     connection: u64,
     first: u64,

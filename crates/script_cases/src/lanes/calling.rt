@@ -2,7 +2,7 @@
 use crate::lanes::said::{NONE, Said, UNKNOWN};
 use crate::lanes::words::{number, word};
 use iox_lanes_base::calls::Receipt;
-use iox_lanes_machine::Lanes;
+use iox_lanes_machine::LaneMachine;
 use iox_lanes_parties::publisher::LoanAnswer;
 use iox_lanes_parties::{Answer, Call, Move, Party};
 use iox_queues_steps::Stepped;
@@ -29,12 +29,12 @@ pub(crate) enum CameTo {
 }
 
 // The words that were read, from a place on.
-fn words_from(lanes: &Lanes, from: usize) -> Said<'_> {
+fn words_from(lanes: &LaneMachine, from: usize) -> Said<'_> {
     Said::Words(lanes.words_read().get(from..).unwrap_or(&[]))
 }
 
 // What the call that ended last answered, and of a read its words.
-fn ended(lanes: &Lanes) -> Said<'_> {
+fn ended(lanes: &LaneMachine) -> Said<'_> {
     let Some(call) = lanes.finished().last() else {
         return NONE;
     };
@@ -45,7 +45,7 @@ fn ended(lanes: &Lanes) -> Said<'_> {
 }
 
 /// What is said where a line came to this.
-pub(crate) fn said(lanes: &Lanes, came_to: CameTo) -> Said<'_> {
+pub(crate) fn said(lanes: &LaneMachine, came_to: CameTo) -> Said<'_> {
     match came_to {
         CameTo::Step(stepped) => Said::Stepped(stepped),
         CameTo::End => ended(lanes),
@@ -62,12 +62,12 @@ fn came_to(stepped: Stepped) -> CameTo {
     }
 }
 
-fn step(lanes: &mut Lanes, party: Party, next: Move) -> Stepped {
+fn step(lanes: &mut LaneMachine, party: Party, next: Move) -> Stepped {
     lanes.step(party, &next)
 }
 
 // Makes so many steps at most of the call that a party is in; what the last one came to.
-fn goes_on(lanes: &mut Lanes, party: Party, steps: u64) -> Stepped {
+fn goes_on(lanes: &mut LaneMachine, party: Party, steps: u64) -> Stepped {
     for _ in 0..steps {
         let stepped = step(lanes, party, Move::GoOn);
         if stepped != Stepped::Went {
@@ -78,7 +78,7 @@ fn goes_on(lanes: &mut Lanes, party: Party, steps: u64) -> Stepped {
 }
 
 // Makes a call of so many steps at most, its begin among them; what its last one came to.
-fn called(lanes: &mut Lanes, party: Party, call: Call, steps: u64) -> Stepped {
+fn called(lanes: &mut LaneMachine, party: Party, call: Call, steps: u64) -> Stepped {
     match step(lanes, party, Move::Begin(call)) {
         Stepped::Went => goes_on(lanes, party, steps.saturating_sub(1)),
         stepped => stepped,
@@ -86,7 +86,7 @@ fn called(lanes: &mut Lanes, party: Party, call: Call, steps: u64) -> Stepped {
 }
 
 // Makes a whole call; whether it came to its end.
-fn ends(lanes: &mut Lanes, party: Party, call: Call) -> bool {
+fn ends(lanes: &mut LaneMachine, party: Party, call: Call) -> bool {
     called(lanes, party, call, MOST) == Stepped::Finished
 }
 
@@ -100,7 +100,7 @@ fn filled(alloc: Global, value: u64, count: u64) -> Result<Vec<u64>, AllocError>
 }
 
 // The call that writes a value into each word of a loan's payload.
-fn filling(alloc: Global, lanes: &Lanes, loan: u64, value: u64) -> Result<Call, AllocError> {
+fn filling(alloc: Global, lanes: &LaneMachine, loan: u64, value: u64) -> Result<Call, AllocError> {
     let sizes = lanes.table().sizes();
     let user_header = filled(alloc, USER_HEADER, sizes.user_header_words)?;
     Ok(Call::Write {
@@ -172,7 +172,7 @@ fn call_of(
 }
 
 // The slot that a whole loan gives.
-fn lend(lanes: &mut Lanes, party: Party) -> Option<u64> {
+fn lend(lanes: &mut LaneMachine, party: Party) -> Option<u64> {
     if !ends(lanes, party, Call::LoanUninit) {
         return None;
     }
@@ -185,7 +185,7 @@ fn lend(lanes: &mut Lanes, party: Party) -> Option<u64> {
 // Writes this value into a loan and sends it; whether it came to the end of the send.
 fn fill(
     alloc: Global,
-    lanes: &mut Lanes,
+    lanes: &mut LaneMachine,
     party: Party,
     loan: u64,
     value: u64,
@@ -195,7 +195,12 @@ fn fill(
 }
 
 // Lends, writes this value and sends; whether it came to the end of the send.
-fn put(alloc: Global, lanes: &mut Lanes, party: Party, value: u64) -> Result<bool, AllocError> {
+fn put(
+    alloc: Global,
+    lanes: &mut LaneMachine,
+    party: Party,
+    value: u64,
+) -> Result<bool, AllocError> {
     match lend(lanes, party) {
         Some(loan) => fill(alloc, lanes, party, loan, value),
         None => Ok(false),
@@ -205,7 +210,7 @@ fn put(alloc: Global, lanes: &mut Lanes, party: Party, value: u64) -> Result<boo
 // Puts the values from one up to another, as long as that goes on.
 fn puts(
     alloc: Global,
-    lanes: &mut Lanes,
+    lanes: &mut LaneMachine,
     party: Party,
     (from, to): (u64, u64),
 ) -> Result<CameTo, AllocError> {
@@ -218,7 +223,7 @@ fn puts(
 }
 
 // Lends so many slots, as long as that goes on.
-fn loans(lanes: &mut Lanes, party: Party, count: u64) -> CameTo {
+fn loans(lanes: &mut LaneMachine, party: Party, count: u64) -> CameTo {
     for _ in 0..count {
         if lend(lanes, party).is_none() {
             return CameTo::End;
@@ -228,7 +233,7 @@ fn loans(lanes: &mut Lanes, party: Party, count: u64) -> CameTo {
 }
 
 // The slot that a whole receive gives.
-fn receive(lanes: &mut Lanes, party: Party) -> Option<u64> {
+fn receive(lanes: &mut LaneMachine, party: Party) -> Option<u64> {
     if !ends(lanes, party, Call::Receive) {
         return None;
     }
@@ -239,7 +244,7 @@ fn receive(lanes: &mut Lanes, party: Party) -> Option<u64> {
 }
 
 // Receives so many messages, as long as that goes on.
-fn receives(lanes: &mut Lanes, party: Party, count: u64) -> CameTo {
+fn receives(lanes: &mut LaneMachine, party: Party, count: u64) -> CameTo {
     for _ in 0..count {
         if receive(lanes, party).is_none() {
             return CameTo::End;
@@ -249,7 +254,7 @@ fn receives(lanes: &mut Lanes, party: Party, count: u64) -> CameTo {
 }
 
 // Receives, reads and releases; where the words begin that were read, if all that came to its end.
-fn take(lanes: &mut Lanes, party: Party) -> Option<usize> {
+fn take(lanes: &mut LaneMachine, party: Party) -> Option<usize> {
     let sample = receive(lanes, party)?;
     let from = lanes.words_read().len();
     if ends(lanes, party, Call::Read { sample }) && ends(lanes, party, Call::Release { sample }) {
@@ -260,7 +265,7 @@ fn take(lanes: &mut Lanes, party: Party) -> Option<usize> {
 }
 
 // Takes so many messages: it comes to the words of the last one, or to a call that gave none.
-fn takes(lanes: &mut Lanes, party: Party, count: u64) -> CameTo {
+fn takes(lanes: &mut LaneMachine, party: Party, count: u64) -> CameTo {
     let mut last = 0;
     for _ in 0..count {
         match take(lanes, party) {
@@ -274,7 +279,7 @@ fn takes(lanes: &mut Lanes, party: Party, count: u64) -> CameTo {
 // A call of so many steps at most.
 fn within(
     alloc: Global,
-    lanes: &mut Lanes,
+    lanes: &mut LaneMachine,
     party: Party,
     steps: u64,
     words: &mut SplitWhitespace<'_>,
@@ -289,7 +294,7 @@ fn within(
 // What so many of a verb come to.
 fn counted(
     alloc: Global,
-    lanes: &mut Lanes,
+    lanes: &mut LaneMachine,
     party: Party,
     verb: &str,
     number: u64,
@@ -308,7 +313,7 @@ fn counted(
 // A whole call, or so many of a verb.
 fn whole(
     alloc: Global,
-    lanes: &mut Lanes,
+    lanes: &mut LaneMachine,
     party: Party,
     verb: &str,
     words: &mut SplitWhitespace<'_>,
@@ -322,7 +327,7 @@ fn whole(
 /// What a line of a party comes to.
 pub(crate) fn answer(
     alloc: Global,
-    lanes: &mut Lanes,
+    lanes: &mut LaneMachine,
     party: Party,
     words: &mut SplitWhitespace<'_>,
 ) -> Result<CameTo, AllocError> {

@@ -1,6 +1,6 @@
 //! Lanes as a line asks for them.
 use crate::lanes::words::setting;
-use iox_lanes_machine::{LaneSizes, Lanes};
+use iox_lanes_machine::{LaneMachine, LaneSizes};
 use iox_queues_steps::rings::RingKind;
 use std::alloc::{AllocError, Global};
 
@@ -42,10 +42,10 @@ fn sizes(line: &str) -> LaneSizes {
 }
 
 /// Lanes of the sizes that a line names; none where no message could wait.
-pub(crate) fn lanes(alloc: Global, line: &str) -> Result<Option<Lanes>, AllocError> {
+pub(crate) fn lanes(alloc: Global, line: &str) -> Result<Option<LaneMachine>, AllocError> {
     let sizes = sizes(line);
     if sizes.buffer == 0 {
         return Ok(None);
     }
-    Ok(Some(Lanes::new(alloc, sizes)?))
+    Ok(Some(LaneMachine::new(alloc, sizes)?))
 }

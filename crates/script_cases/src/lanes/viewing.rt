@@ -3,7 +3,7 @@ use crate::lanes::calling;
 use crate::lanes::said::{NONE, Said, UNKNOWN};
 use crate::lanes::words::{number, number_if, party, word};
 use iox_lanes_base::words::SlotWord;
-use iox_lanes_machine::{Found, Lanes};
+use iox_lanes_machine::{Found, LaneMachine};
 use iox_lanes_parties::Party;
 use std::alloc::{AllocError, Global};
 use std::str::SplitWhitespace;
@@ -83,7 +83,10 @@ fn found(words: &mut SplitWhitespace<'_>) -> Option<Found> {
     }
 }
 
-fn find<'a>(lanes: &mut Lanes, words: &mut SplitWhitespace<'_>) -> Result<Said<'a>, AllocError> {
+fn find<'a>(
+    lanes: &mut LaneMachine,
+    words: &mut SplitWhitespace<'_>,
+) -> Result<Said<'a>, AllocError> {
     match found(words) {
         Some(found) => Ok(Said::Is(lanes.find(found)?)),
         None => Ok(UNKNOWN),
@@ -91,7 +94,7 @@ fn find<'a>(lanes: &mut Lanes, words: &mut SplitWhitespace<'_>) -> Result<Said<'
 }
 
 // The first so many slots wait at the first connection; how many of them were taken in.
-fn find_first<'a>(lanes: &mut Lanes, count: u64) -> Result<Said<'a>, AllocError> {
+fn find_first<'a>(lanes: &mut LaneMachine, count: u64) -> Result<Said<'a>, AllocError> {
     for slot in 0..count {
         if !lanes.find(Found::Waiting {
             publisher: 0,
@@ -104,7 +107,7 @@ fn find_first<'a>(lanes: &mut Lanes, count: u64) -> Result<Said<'a>, AllocError>
     Ok(Said::Number(count))
 }
 
-fn position(lanes: &Lanes, connection: u64) -> Said<'_> {
+fn position(lanes: &LaneMachine, connection: u64) -> Said<'_> {
     if connection < lanes.links().len() as u64 {
         Said::Positions(lanes.position(connection))
     } else {
@@ -112,7 +115,7 @@ fn position(lanes: &Lanes, connection: u64) -> Said<'_> {
     }
 }
 
-fn link(lanes: &Lanes, connection: u64) -> Said<'_> {
+fn link(lanes: &LaneMachine, connection: u64) -> Said<'_> {
     match lanes.links().get(connection as usize) {
         Some(link) => Said::Waited(link.found().len(), link.limit()),
         None => NONE,
@@ -120,19 +123,19 @@ fn link(lanes: &Lanes, connection: u64) -> Said<'_> {
 }
 
 // The slot at a place of a publisher's history, the oldest at 0.
-fn remembered(lanes: &Lanes, publisher: u64, at: u64) -> Option<u64> {
+fn remembered(lanes: &LaneMachine, publisher: u64, at: u64) -> Option<u64> {
     let lane = lanes.publishers().get(publisher as usize)?;
     lane.port().book().history().get(at as usize).copied()
 }
 
-fn history(lanes: &Lanes, publisher: u64, at: u64) -> Said<'_> {
+fn history(lanes: &LaneMachine, publisher: u64, at: u64) -> Said<'_> {
     match remembered(lanes, publisher, at) {
         Some(slot) => Said::Number(slot),
         None => NONE,
     }
 }
 
-fn order(lanes: &Lanes, connection: u64, at: u64) -> Said<'_> {
+fn order(lanes: &LaneMachine, connection: u64, at: u64) -> Said<'_> {
     match lanes.order(connection).get(at as usize) {
         Some(placed) => Said::Placed(*placed),
         None => NONE,
@@ -140,7 +143,7 @@ fn order(lanes: &Lanes, connection: u64, at: u64) -> Said<'_> {
 }
 
 // What is seen of the lanes.
-fn view<'a>(lanes: &'a Lanes, verb: &str, words: &mut SplitWhitespace<'_>) -> Said<'a> {
+fn view<'a>(lanes: &'a LaneMachine, verb: &str, words: &mut SplitWhitespace<'_>) -> Said<'a> {
     match verb {
         "links" => Said::Number(lanes.links().len() as u64),
         "moments" => Said::Number(lanes.moments()),
@@ -155,7 +158,7 @@ fn view<'a>(lanes: &'a Lanes, verb: &str, words: &mut SplitWhitespace<'_>) -> Sa
 // What a line of a party answers.
 fn called<'a>(
     alloc: Global,
-    lanes: &'a mut Lanes,
+    lanes: &'a mut LaneMachine,
     party: Party,
     words: &mut SplitWhitespace<'_>,
 ) -> Result<Said<'a>, AllocError> {
@@ -166,7 +169,7 @@ fn called<'a>(
 /// What a line of lanes answers.
 pub(crate) fn answer<'a>(
     alloc: Global,
-    lanes: &'a mut Lanes,
+    lanes: &'a mut LaneMachine,
     first: &str,
     words: &mut SplitWhitespace<'_>,
 ) -> Result<Said<'a>, AllocError> {
