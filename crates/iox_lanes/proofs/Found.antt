@@ -1,6 +1,6 @@
 -- What is found is found of lanes as they were made.
 use Rattle.std.proofs.Common.{ℕ, Bool, ◌≡◌, ◌<◌, ◌^◌, true, false, List, [], ◌∷◌, ◌++◌, get_or, slice_get, refl, sym, ◌∙◌, ap, subst}
-use Rattle.std.proofs.Common.{Some, arith}
+use Rattle.std.proofs.Common.{Some, arith, tt}
 use Rattle.std.specs.List.{All}
 use Rattle.std.proofs.lemmas.Option.{slice_get-get_or}
 use Rattle.iox_lanes_machine.specs.LanesBase.Publishing.{publisher_is_idle}
@@ -17,13 +17,13 @@ use Rattle.iox_lanes_machine.specs.declared.found.Found.{Found}
 use Rattle.iox_lanes_machine.specs.declared.sizes.LaneSizes.{LaneSizes}
 use Rattle.iox_lanes_machine.proofs.FoundKeptWhole.{all_found, found_moments}
 use Rattle.iox_lanes_machine.proofs.StartUses.{start_kept}
-use Rattle.iox_lanes.specs.Finding.{WasFound}
+use Rattle.iox_lanes.specs.Finding.{NoneCameBack, WasFound, is_given_back}
 
 -- lanes that were just made
 pub was_made : (sizes : LaneSizes) (m : World) → 0 < sizes.buffer → sizes.buffer < 2 ^ 61 → sizes.most_borrowed < 2 ^ 61
     → sizes.subscribers < 2 ^ 61 → m ≡ start sizes → WasFound sizes m
 was_made sizes m some buffer borrowed ports is
-    = record { some = some; ports = ports; small = omega (arith, buffer, borrowed); found = []; finds = is }
+    = record { some = some; ports = ports; small = omega (arith, buffer, borrowed); found = []; none_came_back = tt; finds = is }
 
 -- one more behind a list of findings
 one_more : (s : World) (fs : List Found) (m : World) (f : Found) → AreFound s fs m → finds m f ≡ true
@@ -31,19 +31,25 @@ one_more : (s : World) (fs : List Found) (m : World) (f : Found) → AreFound s 
 one_more s [] m f h fit = subst (λ (x : World). (finds x f ≡ true) × (with_found m f ≡ with_found x f)) h (fit, refl)
 one_more s (g ∷ fs) m f h fit = (h.0, one_more (with_found s g) fs m f h.1 fit)
 
-pub found_on : (sizes : LaneSizes) (m : World) (f : Found) (answer : Bool) (n : World) → FindsTo m f answer n → WasFound sizes m
-    → WasFound sizes n
-found_on sizes m f true n h w
+-- no more came back, where this is no sample that did
+none_more : (fs : List Found) (f : Found) → NoneCameBack fs → is_given_back f ≡ false → NoneCameBack (fs ++ f ∷ [])
+none_more [] f none new = (new, tt)
+none_more (g ∷ fs) f none new = (none.0, none_more fs f none.1 new)
+
+pub found_on : (sizes : LaneSizes) (m : World) (f : Found) (answer : Bool) (n : World) → is_given_back f ≡ false → FindsTo m f answer n
+    → WasFound sizes m → WasFound sizes n
+found_on sizes m f true n new h w
     = subst (WasFound sizes) (sym h.1)
     (record {
       some = w.some;
       ports = w.ports;
       small = w.small;
       found = w.found ++ f ∷ [];
+      none_came_back = none_more w.found f w.none_came_back new;
       finds
           = one_more (start sizes) w.found m f w.finds h.0;
     })
-found_on sizes m f false n h w = subst (WasFound sizes) (sym h.1) w
+found_on sizes m f false n new h w = subst (WasFound sizes) (sym h.1) w
 
 -- they came from where they were made
 pub came : (sizes : LaneSizes) (m : World) → WasFound sizes m → CameTo m

@@ -1,5 +1,5 @@
 -- Lanes to which nothing happened but that something was found.
-use Rattle.std.specs.Prelude.{◌+◌, ◌<◌, ◌^◌, Bool, List, set}
+use Rattle.std.specs.Prelude.{◌+◌, ◌<◌, ◌^◌, ◌≡◌, ◌×◌, Bool, true, false, List, [], ◌∷◌, Unit, set}
 use Rattle.iox_lanes_machine.specs.Findings.{AreFound}
 use Rattle.iox_lanes_machine.specs.Made.{start}
 use Rattle.iox_lanes_machine.specs.World.{World}
@@ -12,12 +12,29 @@ pub record Beginning : Type 0 where
   pub sizes : LaneSizes
   pub lanes : World
 
--- lanes that were made of these sizes, and what they found
+-- whether what is found is a sample that was given back
+abbrev pub is_given_back : Found → Bool
+is_given_back (found.Waiting publisher place slot) = false
+is_given_back (found.GivenBack publisher place slot) = true
+is_given_back (found.Newest publisher slot) = false
+is_given_back (found.Held slot word value) = false
+is_given_back (found.Buffer publisher place messages) = false
+is_given_back (found.Slots publisher slots most_loans) = false
+is_given_back (found.Sender publisher node_id publisher_id fails last) = false
+is_given_back (found.Swapped subscriber one other) = false
+
+-- none of what was found is a sample that was given back
+pub NoneCameBack : List Found → Type 0
+NoneCameBack [] = Unit {0}
+NoneCameBack (first ∷ rest) = (is_given_back first ≡ false) × NoneCameBack rest
+
+-- lanes that were made of these sizes, and what they found: no sample that was given back is among it
 pub record WasFound (sizes : LaneSizes) (m : World) : Type 0 where
   pub some : 0 < sizes.buffer
   pub ports : sizes.subscribers < 2 ^ 61
   pub small : sizes.buffer + sizes.most_borrowed + 1 < 2 ^ 62
   pub found : List Found
+  pub none_came_back : NoneCameBack found
   pub finds : AreFound (start sizes) found m
 
 -- whether the sends of each publisher fail behind a finding

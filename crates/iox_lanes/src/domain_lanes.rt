@@ -73,7 +73,7 @@ struct Recorded<T> {
 
 /// The lanes of a domain: each publisher and subscriber that it lists, in the order of their places, with the buffer of each
 /// connection, the slots, loans and history of each publisher, whether its sends fail at a full mailbox, what waits at each
-/// connection, the words of each message, and the order in which each subscriber goes over its connections.
+/// connection, the words of each message, and the order in which each subscriber goes over its connections. No sample lies given back.
 ///
 /// The lanes are such as `LaneMachine::new` makes them and what they found leaves, and nobody is inside a call: so each law of lanes
 /// holds of them. Their sizes are those that the service agreed on: its buffer, one message at least, its borrow limit and its
@@ -88,8 +88,8 @@ struct Recorded<T> {
 /// As values the user header is a [`WithSequence`](iox_lanes_parties::WithSequence).
 ///
 /// Refused with the first reason of `refusal` that applies, before anything is built; else with `OutOfMemory`, only where an allocation
-/// fails, as it would for the numbers of 2^61 subscribers. Then the domain is handed back as it was. Of what is built nothing is tested:
-/// that it holds what the domain has is proved.
+/// fails, as it would for the numbers of 2^61 subscribers. Then the domain is handed back as it was. The lanes look at each piece as they
+/// take it in; that none is left out, and so that they hold what the domain has, is proved.
 pub fn into_lanes<T: Words, U: Words>(
     alloc: Global,
     domain: Domain<T, U>,

@@ -1,5 +1,5 @@
 //! Lanes before their first step, to which nothing happened but that something was found.
-ghost use Rattle.std.specs.Prelude.{◌≡◌, ◌<◌, ◌^◌, IfOk, OnOk, length};
+ghost use Rattle.std.specs.Prelude.{◌≡◌, ◌<◌, ◌^◌, IfOk, OnOk, false, length};
 
 use iox_lanes_machine::{Found, LaneMachine, LaneSizes};
 use std::alloc::{AllocError, Global};
@@ -29,7 +29,7 @@ impl NewLanes {
     ghost use Rattle.iox_lanes_machine.specs.WholeReads.{CameTo};
     ghost use Rattle.iox_lanes.specs.Behind.{behind_finding};
     ghost use Rattle.iox_lanes.specs.Failing.{failing};
-    ghost use Rattle.iox_lanes.specs.Finding.{WasFound, failing_behind};
+    ghost use Rattle.iox_lanes.specs.Finding.{WasFound, failing_behind, is_given_back};
 
     /// Lanes of these sizes. Fails only where an allocation fails; no memory has the numbers of 2^61 subscribers.
     #[tactic(auto, using(crate::proofs::Found::was_made, crate::proofs::Failing::as_many_made))]
@@ -50,9 +50,11 @@ impl NewLanes {
         Ok(NewLanes { sizes, lanes })
     }
 
-    /// This is found, if it may be. Whether the sends of a publisher fail says what is found of it alone.
+    /// This is found, if it may be. No sample of a domain was given back. Whether the sends of a publisher fail says what is found of it
+    /// alone.
     #[tactic(auto, using(crate::proofs::Found::found_on))]
     pub fn find(&mut self, found: Found) -> Result<(), AllocError>
+        requires { is_given_back found ≡ false }
         ensures sizes { self.new.sizes ≡ self.old.sizes }
         ensures fails { failing self.new.lanes ≡ failing_behind found (failing self.old.lanes) }
         ensures behind { OnOk result (self.new.lanes ≡ behind_finding self.old.lanes found) }
