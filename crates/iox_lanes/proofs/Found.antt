@@ -1,6 +1,6 @@
 -- What is found is found of lanes as they were made.
 use Rattle.std.proofs.Common.{ℕ, Bool, ◌≡◌, ◌<◌, ◌^◌, true, false, List, [], ◌∷◌, ◌++◌, get_or, slice_get, refl, sym, ◌∙◌, ap, subst}
-use Rattle.std.proofs.Common.{Some, arith, tt}
+use Rattle.std.proofs.Common.{Some, arith}
 use Rattle.std.specs.List.{All}
 use Rattle.std.proofs.lemmas.Option.{slice_get-get_or}
 use Rattle.iox_lanes_machine.specs.LanesBase.Publishing.{publisher_is_idle}

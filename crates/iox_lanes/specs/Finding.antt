@@ -1,5 +1,5 @@
 -- Lanes to which nothing happened but that something was found.
-use Rattle.std.specs.Prelude.{◌+◌, ◌<◌, ◌^◌, ◌≡◌, ◌×◌, Bool, true, false, List, [], ◌∷◌, Unit, set}
+use Rattle.std.specs.Prelude.{◌+◌, ◌<◌, ◌^◌, ◌≡◌, Bool, true, false, List, [], ◌∷◌, set}
 use Rattle.iox_lanes_machine.specs.Findings.{AreFound}
 use Rattle.iox_lanes_machine.specs.Made.{start}
 use Rattle.iox_lanes_machine.specs.World.{World}
