@@ -109,8 +109,10 @@ none_before_earliest : {E : Type 0} {R : E → E → Ordering} → IsTotalOrder 
     → (c : Bool × E) → OneOf c clauses → c.0 ≡ false → is_lt (R c.1 e) ≡ false
 none_before_earliest o e [] is c one unmet = absurd one
 none_before_earliest {E} o e ((true, x) ∷ more) is c one unmet =
-    elim one [ inl same ↦ absurd (let met = ap (λ (d : Bool × E). d.0) same in cc)
-      | inr later ↦ none_before_earliest o e more is c later unmet ]
+    elim one [
+      | inl same ↦ absurd (let met = ap (λ (d : Bool × E). d.0) same in cc)
+      | inr later ↦ none_before_earliest o e more is c later unmet
+    ]
 none_before_earliest {E} {R = R} o e ((false, x) ∷ more) is c one unmet =
     let rest = not_before_earliest {R = R} o x e more is in
     elim one [

@@ -37,7 +37,7 @@ use Rattle.iox_machine.specs.Table.{at}
 
 -- both tell alike whether a send began
 pub same_begun : (T : Type 0) (answer : Option (Result Sent SendError))
-  → has_begun {T = T} (sent_or_skipped answer) ≡ order.has_begun answer
+    → has_begun {T = T} (sent_or_skipped answer) ≡ order.has_begun answer
 same_begun T None = refl
 same_begun T (Some (Ok (sent.Delivered count))) = refl
 same_begun T (Some (Ok sent.Blocked)) = refl
@@ -83,7 +83,7 @@ module _ {T U : Type 0} (names : Naming) (lent : List (ℕ × LentSlot)) (held :
   message_is =
       ap (λ (n : ℕ). record numbered_there { number = n }) number_is
       ∙ ap (λ (sequence : Option ℕ).
-        record numbered_there { number = names.message there.port.number there.loan.slot; sequence = sequence })
+      record numbered_there { number = names.message there.port.number there.loan.slot; sequence = sequence })
       (ap next_sequence was.2.last_sequence)
       ∙ ap (λ (values : List T). record (message_as (names.message there.port.number) message) { values = values })
       (ap (filter_map (λ value. value)) (same_values names lent held buffer ports service loan out stands goes)
@@ -120,7 +120,7 @@ module _ {T U : Type 0} (names : Naming) (lent : List (ℕ × LentSlot)) (held :
       ap (λ (messages : List (domain.Message T U)). map (λ (told : SentHeader T U). told.message)
       (headed_at_port names (port_of out.publisher ports.publishers) messages)) (none_sent answer off)
       ∙ ap (λ (found : Option (PublisherPort T U)). map (λ (told : SentHeader T U). told.message) (headed_at_port names found []))
-        there.there
+      there.there
       ∙ ap option_to_list (sym (machine_begins (sent_or_skipped answer) ∙ ap begun_with (same_begun T answer ∙ off))))
       (cases_Bool (order.has_begun answer))
     where

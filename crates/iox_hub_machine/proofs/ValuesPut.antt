@@ -241,7 +241,7 @@ module _ {T U B D : Type 0} (choices : Choices T) (is_default_header : U → Typ
         (sent_counts T sent state.made) (port.number, goes.named, λ zero. goes.some (goes.named ∙ zero))
         (λ first service last are its.
         let (message, reader, slot, tells, matched) = put_parts_match types choices buffer
-          (publisher_may_degrade degrades it port.number old.hub)
+        (publisher_may_degrade degrades it port.number old.hub)
         (publisher_may_decide decides it port.number old.hub) names lent held goes.ports service state port.number values its
         (roomy_there it goes.ports old.hub grown goes.found) goes.some
         (decides_as choices degrades decides reader_degrades naming order old state stands it goes.ports goes.found first service last are

@@ -8,7 +8,7 @@ use Rattle.iox_domain.proofs.calls.create_publisher.Goals as goal
 pub returns : goal.returns
 returns g c =
     comes_here g.H.LendsDomains.domain_of g.H.LendsDomains.changed g.met.H.LendsDomains.alike g.met.H.LendsDomains.again
-      g.met.H.LendsDomains.unchanged c.args.id
+    g.met.H.LendsDomains.unchanged c.args.id
     (λ number. publisher_kept number c.args.handlers)
     (PublisherComes (g.O.Overrides.overrides c.args.overriding.now)
     (g.H.ForPublishers.Degrades.degrades c.args.handlers FailedToEstablishConnection) c.args.config c.args.user_header)

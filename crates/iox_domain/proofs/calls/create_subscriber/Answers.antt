@@ -8,7 +8,7 @@ use Rattle.iox_domain.proofs.calls.create_subscriber.Goals as goal
 pub returns : goal.returns
 returns g c =
     comes_here g.H.LendsDomains.domain_of g.H.LendsDomains.changed g.met.H.LendsDomains.alike g.met.H.LendsDomains.again
-      g.met.H.LendsDomains.unchanged c.args.id
+    g.met.H.LendsDomains.unchanged c.args.id
     (λ number. subscriber_kept number c.args.handler)
     (SubscriberComes (g.H.ForSubscribers.Degrades.degrades c.args.handler FailedToEstablishConnection) c.args.config)
     (why_no_subscriber c.args.config)

@@ -8,4 +8,4 @@ returns-else-twice-clause-some c = once_found c.args.slots.now c.args.order.now.
 pub returns-else-twice-clause-none : goal.returns-else-twice-clause-none
 returns-else-twice-clause-none c
     = none_found c.args.cells c.args.slots.now c.args.order.now.items c.args.slot c.args.reach c.near.result c.requires.near
-      c.near.ensures.none
+    c.near.ensures.none

@@ -36,7 +36,7 @@ pub returns-then-is_over-clause-stands : goal.returns-then-is_over-clause-stands
 returns-then-is_over-clause-stands g c =
     let steps = ends_alone c.loop-made.seat.me c.loop-made.lane c.go_on.new.self c.loop-made.invariant.2.seat.alone
     (sym (c.is_over.ensures ∙ ap publisher_is_over (c.call.ensures ∙ ap (λ port. port.call) c.port.ensures)) ∙ c.if-is_over.true)
-      c.go_on.ensures.lane in
+    c.go_on.ensures.lane in
     (publishes_on (port_of c.args.seat.now.me) c.loop-made.seat.me c.loop-made.lane c.loop-made.seat.me c.go_on.new.self
     c.loop-made.invariant.2 steps).stands
 
@@ -49,12 +49,12 @@ pub returns-then-is_over-clause-runs : goal.returns-then-is_over-clause-runs
 returns-then-is_over-clause-runs g c =
     let steps = ends_alone c.loop-made.seat.me c.loop-made.lane c.go_on.new.self c.loop-made.invariant.2.seat.alone
     (sym (c.is_over.ensures ∙ ap publisher_is_over (c.call.ensures ∙ ap (λ port. port.call) c.port.ensures)) ∙ c.if-is_over.true)
-      c.go_on.ensures.lane in
+    c.go_on.ensures.lane in
     publisher_stops c.args.most c.loop-made.made (port_of c.args.seat.now.me) c.args.lane.now c.loop-made.seat.me c.loop-made.lane
     c.loop-made.seat.me c.go_on.new.self c.go_on.result c.loop-made-test.true
     c.loop-made.invariant.3 steps c.go_on.ensures.answer c.go_on.ensures.ends
     (c.go_on.ensures.ends ∙ sym (c.is_over.ensures ∙ ap publisher_is_over (c.call.ensures ∙ ap (λ port. port.call) c.port.ensures)) ∙
-      c.if-is_over.true)
+    c.if-is_over.true)
 
 pub returns-clause-runs : goal.returns-clause-runs
 returns-clause-runs g c =

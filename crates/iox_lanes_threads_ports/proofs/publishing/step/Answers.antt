@@ -24,7 +24,9 @@ returns-clause-steps g c = (
       c.access_ahead-given.ensures.told,
   c.access_ahead-given.ensures.port
       ∙ ap (λ (its : SharedAccess × PublisherCall). single (stepped (port_of c.args.seat.now.me) its.0 c.access_ahead-given.result
-      (publisher_party (called its.1 c.args.lane.now)))) (λ i. ((c.next.ensures ∙ ap publisher_next c.stage-call.ensures) i,
-        c.stage-call.ensures i)),
+      (publisher_party (called its.1 c.args.lane.now)))) (λ i. (
+        (c.next.ensures ∙ ap publisher_next c.stage-call.ensures) i,
+        c.stage-call.ensures i,
+      )),
   c.go_on.ensures.lane,
 )

@@ -11,7 +11,7 @@ use Rattle.iox_lanes_threads_ports.proofs.subscribing.step.Goals as goal
 pub access_ahead-given-requires-clause-stands : goal.access_ahead-given-requires-clause-stands
 access_ahead-given-requires-clause-stands g c =
     subst (λ (call : SubscriberCall). SubscriberStands (port_of c.args.seat.now.me) (subscriber_called call c.args.lane.now))
-      (sym c.stage-call.ensures)
+    (sym c.stage-call.ensures)
     c.requires.stands
 
 pub access_ahead-given-requires-clause-next : goal.access_ahead-given-requires-clause-next
@@ -25,7 +25,9 @@ returns-clause-steps g c = (
       c.access_ahead-given.ensures.told,
   c.access_ahead-given.ensures.port
       ∙ ap (λ (its : SharedAccess × SubscriberCall). single (stepped (port_of c.args.seat.now.me) its.0 c.access_ahead-given.result
-      (subscriber_party (subscriber_called its.1 c.args.lane.now)))) (λ i. ((c.next.ensures ∙ ap subscriber_next c.stage-call.ensures) i,
-        c.stage-call.ensures i)),
+      (subscriber_party (subscriber_called its.1 c.args.lane.now)))) (λ i. (
+        (c.next.ensures ∙ ap subscriber_next c.stage-call.ensures) i,
+        c.stage-call.ensures i,
+      )),
   c.go_on.ensures.lane,
 )

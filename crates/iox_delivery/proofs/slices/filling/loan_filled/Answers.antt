@@ -8,6 +8,6 @@ returns-clause-ready g c =
     filled_is_ready (λ held. homes.ports_of g.H.LendsDomains.domain_of c.args.port.domain held)
     (λ ports held. homes.with_ports g.H.LendsDomains.changed c.args.port.domain ports held)
     (λ ports held. put_is_there g.H.LendsDomains.domain_of g.H.LendsDomains.changed g.met.H.LendsDomains.changed_found c.args.port.domain
-      ports held)
+    ports held)
     c.args.port.number c.args.len c.args.len c.in_ok-slot.slot c.args.value c.args.home.now c.loan.new.home c.fill.new.home
     c.in_ok-slot.ensures c.fill.ensures.0

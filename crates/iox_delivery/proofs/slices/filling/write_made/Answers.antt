@@ -13,7 +13,7 @@ returns-clause-writes g c =
       puts_each (λ held. homes.ports_of g.H.LendsDomains.domain_of c.args.port.domain held)
           (λ ports held. homes.with_ports g.H.LendsDomains.changed c.args.port.domain ports held)
           (λ ports held. put_is_there g.H.LendsDomains.domain_of g.H.LendsDomains.changed g.met.H.LendsDomains.changed_found
-            c.args.port.domain ports held)
+          c.args.port.domain ports held)
           c.args.port.number c.args.slot made.0 c.args.home.now c.in-Some.ports.now c.in-Some-get_mut.publisher.now
           c.write_each.new.publisher
           (sym c.in-Some.ensures.value) (sym c.in-Some-get_mut.ensures.value) made.3,

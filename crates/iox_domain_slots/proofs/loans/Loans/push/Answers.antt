@@ -20,7 +20,7 @@ pub invariant_of-self : goal.invariant_of-self
 invariant_of-self c =
     let l = c.self.inside in
     let is = (added l.older.items l.newer.items l.newest l.len c.args.slot l.lent.items
-      (c.self.invariant.0, c.self.invariant.1, c.self.invariant.2, c.self.invariant.3)
+    (c.self.invariant.0, c.self.invariant.1, c.self.invariant.2, c.self.invariant.3)
     (rw (← c.self.view_is) at c.requires.made) (rw (← c.self.view_is) at c.requires.free) (few c)).0 in
     (is.0, is.1, is.2, is.3, c.self.invariant.4, c.self.invariant.5, c.self.invariant.6)
 
@@ -28,6 +28,6 @@ pub returns-clause-items : goal.returns-clause-items
 returns-clause-items c =
     let l = c.self.inside in
     let is = (added l.older.items l.newer.items l.newest l.len c.args.slot l.lent.items
-      (c.self.invariant.0, c.self.invariant.1, c.self.invariant.2, c.self.invariant.3)
+    (c.self.invariant.0, c.self.invariant.1, c.self.invariant.2, c.self.invariant.3)
     (rw (← c.self.view_is) at c.requires.made) (rw (← c.self.view_is) at c.requires.free) (few c)).1 in
     rw (← c.self.view_is) (ap reverse is ∙ reverse_step c.args.slot (walk l.older.items l.len l.newest))

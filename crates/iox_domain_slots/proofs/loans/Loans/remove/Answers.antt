@@ -32,7 +32,7 @@ invariant_of-self c =
     let there = lies c.args.slot (walk l.older.items l.len l.newest) (rw (← c.self.view_is) at c.requires) in
     let behind = get_or_read l.older.items _ _ (c.self.invariant.0.below c.args.slot there) c.index-older.ensures 0 in
     let is = (first_removed l.older.items l.newer.items l.newest l.len c.args.slot c.index-older.result.now l.lent.items
-      (c.self.invariant.0, c.self.invariant.1, c.self.invariant.2, c.self.invariant.3) there
+    (c.self.invariant.0, c.self.invariant.1, c.self.invariant.2, c.self.invariant.3) there
     c.if-slot-self.true behind).0 in
     (is.0, is.1, is.2, is.3, c.self.invariant.4, c.self.invariant.5, c.self.invariant.6)
 
@@ -110,7 +110,7 @@ returns-clause-after c =
     let behind = get_or_read l.older.items _ _ low c.index-older.ensures 0 in
     let is = (removed l.older.items l.newer.items l.newest l.len c.args.slot c.index-newer.result.now c.index-older.result.now
     l.lent.items (c.self.invariant.0, c.self.invariant.1, c.self.invariant.2, c.self.invariant.3) there c.if-slot-self.false before
-      behind).1 in
+    behind).1 in
     let items = ap reverse is ∙ (leaves c.args.slot (walk l.older.items l.len l.newest) c.self.invariant.0.distinct there).rest in
     let long = length-set l.older.items c.index-newer.result.now c.index-older.result.now in
     rw (← c.self.view_is) (cc (items, long))

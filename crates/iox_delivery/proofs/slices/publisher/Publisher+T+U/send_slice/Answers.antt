@@ -12,7 +12,7 @@ send-requires-clause-holds g c =
     (written_is_ready (λ held. homes.ports_of g.H.LendsDomains.domain_of c.args.self.now.port.domain held)
     (λ ports held. homes.with_ports g.H.LendsDomains.changed c.args.self.now.port.domain ports held)
     (λ ports held. put_is_there g.H.LendsDomains.domain_of g.H.LendsDomains.changed g.met.H.LendsDomains.changed_found
-      c.args.self.now.port.domain ports held)
+    c.args.self.now.port.domain ports held)
     c.args.self.now.port.number (length c.args.values.now) c.in_ok-slot.slot c.args.values.now c.args.home.now c.loan.new.home
     c.write_all.new.home c.in_ok-slot.ensures c.write_all.ensures)
 
@@ -23,6 +23,6 @@ send-requires-clause-free g c =
     (written_is_ready (λ held. homes.ports_of g.H.LendsDomains.domain_of c.args.self.now.port.domain held)
     (λ ports held. homes.with_ports g.H.LendsDomains.changed c.args.self.now.port.domain ports held)
     (λ ports held. put_is_there g.H.LendsDomains.domain_of g.H.LendsDomains.changed g.met.H.LendsDomains.changed_found
-      c.args.self.now.port.domain ports held)
+    c.args.self.now.port.domain ports held)
     c.args.self.now.port.number (length c.args.values.now) c.in_ok-slot.slot c.args.values.now c.args.home.now c.loan.new.home
     c.write_all.new.home c.in_ok-slot.ensures c.write_all.ensures)
