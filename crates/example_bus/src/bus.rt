@@ -98,12 +98,9 @@ fn make_subscriber<T: Copy + ZeroCopySend>(
 pub fn follow<T: Copy>(alloc: Global, bus: &mut Bus<T>, port: PortId) -> Result<()> {
     let publisher = slice::Publisher::of_port(port, BackpressureStrategy::DiscardData, 0);
     if !publisher.holds(bus) || publisher.is_blocked(bus) {
-        publisher.into_port();
         bail!("no publisher");
     }
-    let followed = publisher.update_connections(alloc, bus);
-    publisher.into_port();
-    Ok(followed?)
+    Ok(publisher.update_connections(alloc, bus)?)
 }
 
 /// A message of these values with a time stamp, which is still to be sent.
@@ -120,12 +117,9 @@ fn write<T: Copy>(
         values.len(),
     );
     if !publisher.holds(bus) || publisher.is_blocked(bus) {
-        publisher.into_port();
         bail!("no publisher");
     }
-    let loan = publisher.loan_slice_uninit(alloc, bus, values.len());
-    publisher.into_port();
-    let mut loan = loan?;
+    let mut loan = publisher.loan_slice_uninit(alloc, bus, values.len())?;
     loan.user_header_write(bus, stamp);
     Ok(loan.write_from_slice(bus, values))
 }
@@ -177,11 +171,9 @@ pub fn hear<H: Home<u64, u64>>(alloc: Global, home: &mut H, port: PortId) -> Res
 {
     let subscriber = slice::Subscriber::of_port(port, 4);
     if !subscriber.holds(home) {
-        subscriber.into_port();
         bail!("no subscriber");
     }
     let received = subscriber.receive(alloc, home);
-    subscriber.into_port();
     let Some(sample) = received? else {
         return Ok(None);
     };

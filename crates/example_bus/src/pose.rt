@@ -76,12 +76,9 @@ impl ZeroCopySend for Pose {
 pub fn hear_pose(alloc: Global, poses: &mut Bus<Pose>, port: PortId) -> Result<Option<Pose>> {
     let subscriber = slice::Subscriber::of_port(port, 4);
     if !subscriber.holds(poses) {
-        subscriber.into_port();
         bail!("no subscriber");
     }
-    let received = subscriber.receive(alloc, poses);
-    subscriber.into_port();
-    let Some(sample) = received? else {
+    let Some(sample) = subscriber.receive(alloc, poses)? else {
         return Ok(None);
     };
     if !sample.holds(poses) {

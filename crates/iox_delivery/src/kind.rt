@@ -47,9 +47,11 @@ pub trait Kind<T, U> {
 }
 
 /// Single values: what is lent and received has one value.
+#[derive(Clone, Copy)]
 pub struct Single;
 
 /// Slices: what is lent and received has any number of values.
+#[derive(Clone, Copy)]
 pub struct Slice;
 
 impl<T: Copy, U: Copy> Kind<T, U> for Single {

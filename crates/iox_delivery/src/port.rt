@@ -6,7 +6,8 @@ use iox_domain::DomainId;
 use std::marker::PhantomData;
 
 /// A port of a service as a value, for payloads of one kind: its number in its domain, and what its side of the service is made with.
-/// It stands until it leaves.
+/// It stands until it leaves. A copy is the same port.
+#[derive(Clone, Copy)]
 pub struct Port<T, U, K, S> {
     pub(crate) port: PortId,
     pub(crate) side: S,

@@ -32,8 +32,7 @@ pub struct PublisherSide {
 }
 
 impl<T: Copy, U: Copy, K> Publisher<T, U, K> {
-    /// The publisher that was made under a number, as a value, whose loans might have so many values at first: 1 of single values. It is
-    /// to be had once.
+    /// The publisher that was made under a number, as a value, whose loans might have so many values at first: 1 of single values.
     ///
     /// This port's own: what makes ports by number hands them out so.
     /// Example: `let publisher = Publisher::of_port(port, BackpressureStrategy::DiscardData, 1);`

@@ -28,7 +28,7 @@ pub struct SubscriberSide {
 }
 
 impl<T: Copy, U: Copy, K> Subscriber<T, U, K> {
-    /// The subscriber that was made under a number, as a value. It is to be had once.
+    /// The subscriber that was made under a number, as a value.
     ///
     /// This port's own: what makes ports by number hands them out so.
     /// Example: `let subscriber = Subscriber::of_port(port, 4);`

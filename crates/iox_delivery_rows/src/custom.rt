@@ -223,12 +223,18 @@ fn send_nothing(
     publisher.send_slice(alloc, domain, &[])
 }
 
-// Whether a send waits, also when it is tried again.
-fn waits(rt: &impl Abort, sent: Result<Sent<Byte, Any>, SendError>, domain: &mut Elements) -> bool {
+// Whether a send of a publisher waits, also when it is tried again. The publisher can't be let go then, and stays.
+fn waits(
+    rt: &impl Abort,
+    sent: Result<Sent<Byte, Any>, SendError>,
+    domain: &mut Elements,
+    publisher: &Publisher<Byte, Any>,
+) -> bool {
     match sent {
         Ok(Sent::Blocked(blocked)) => {
+            let stays = publisher.drop_with(domain).is_err();
             must_be_there(rt, blocked.holds(domain));
-            sent_to(blocked.retry(domain, 5), domain) == Err(SendError::UnableToDeliver)
+            stays && sent_to(blocked.retry(domain, 5), domain) == Err(SendError::UnableToDeliver)
         }
         Ok(Sent::Delivered(_)) => false,
         Err(_) => false,
@@ -254,7 +260,10 @@ fn goes(
             is_heard(rt, alloc, domain, lent, subscriber, (len, bytes))
         }
         Call::SendsNothing => sent_to(send_nothing(rt, alloc, domain, publisher), domain) == Ok(1),
-        Call::Waits => waits(rt, send_nothing(rt, alloc, domain, publisher), domain),
+        Call::Waits => {
+            let sent = send_nothing(rt, alloc, domain, publisher);
+            waits(rt, sent, domain, publisher)
+        }
     }
 }
 

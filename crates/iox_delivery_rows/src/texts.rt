@@ -1,4 +1,6 @@
-//! How errors display and hash.
+//! How errors display and hash, and what handles show.
+use iox_delivery::PortId;
+use iox_domain::DomainId;
 use iox_domain_values::{
     ConnectionFailure, DomainError, LoanError, PublisherCreateError, ReceiveError, SendError,
     SubscriberCreateError, ZeroCopyCreationError,
@@ -253,4 +255,16 @@ fn hash_apart<E: Hash>(rows: &[(E, &str)]) -> bool {
 #[test]
 fn errors_hash_as_themselves_alone(rt: HostRuntime) {
     assert!(&rt; hash_apart(&LOANS) && hash_apart(&FAILURES));
+}
+
+const HANDLE: PortId = PortId {
+    domain: DomainId { hub: 0, service: 5 },
+    number: 3,
+};
+
+#[test]
+fn handles_show_their_numbers(rt: HostRuntime) -> Result<(), AllocError> {
+    let shown = format!(in rt.alloc(); "{:?}", HANDLE)?;
+    assert!(&rt; shown.as_str() == "PortId { domain: DomainId { hub: 0, service: 5 }, number: 3 }");
+    Ok(())
 }
