@@ -4,6 +4,7 @@
 //! |---|---|
 //! | `builders` | a builder for the ports of a domain |
 //! | `laws` | what builders come to, in other words |
+//! | `prelude` | what a program without a hub needs |
 //! | `publisher` | makes a publisher of single values, or of slices |
 //! | `subscriber` | makes a subscriber of single values, or of slices |
 //!
@@ -19,6 +20,7 @@
 
 pub mod builders;
 pub mod laws;
+pub mod prelude;
 pub mod publisher;
 pub mod subscriber;
 

@@ -11,6 +11,8 @@
 //! | `laws` | what holds of every open service |
 //! | `whole_calls` | what holds of every table of services, whatever is done to it |
 //!
+//! Named again are the storage, the table in memory with its foreign steps, and the errors of all calls.
+//!
 //! First calls:
 //!
 //! ```
@@ -32,5 +34,12 @@ pub mod whole_calls;
 pub use asked::{Asked, settings_refusal};
 pub use builder::{Builder, ServiceBuilder};
 pub use factory::{Membership, NotClosed, PortFactory};
+pub use iox_negotiate_base::errors::{
+    CloseError, EventCreateError, EventOpenError, EventOpenOrCreateError,
+    PublishSubscribeCreateError, PublishSubscribeOpenError, PublishSubscribeOpenOrCreateError,
+    RequestResponseCreateError, RequestResponseOpenError, RequestResponseOpenOrCreateError,
+};
+pub use iox_negotiate_base::{CreateFailure, OpenFailure, OpenOrCreateFailure, Storage};
+pub use iox_negotiate_table::{ForeignStep, StepList, Stepped, Table};
 pub use patterns::Negotiated;
 pub use payload::{Payload, Slice};
