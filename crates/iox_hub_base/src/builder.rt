@@ -80,7 +80,7 @@ pub trait HubBuilder<P: Negotiated>: Sized {
         steps: Vec<StepList>,
     ) -> Result<PortFactory<P>, P::CreateError>
         requires { hub_of self ≡ hub.old.table.id }
-        ensures { let config = P.adjusted (P.asked (requirement_of self)) in CreatesOfPattern
+        ensures { let asked = P.asked (requirement_of self) in let config = P.adjusted asked in CreatesOfPattern
             (detail FixedSize T.name T.size T.alignment) (detail FixedSize U.name U.size U.alignment) P.pattern (P.settings config)
             (P.IsWithinLimits config) (P.IsHistoryTooLong config) P.create_error (node_of self) (name_of self) attributes.now steps.items
             hub.old (result_map_both (λ factory. (factory.service.membership, factory.owner)) (λ error. error) result) hub.new }
@@ -116,9 +116,9 @@ pub trait HubBuilder<P: Negotiated>: Sized {
         steps: Vec<StepList>,
     ) -> Result<PortFactory<P>, P::OpenError>
         requires { hub_of self ≡ hub.old.table.id }
-        ensures { OpensJudged (detail FixedSize T.name T.size T.alignment) (detail FixedSize U.name U.size U.alignment) P.open_error
-            (service_hash_of P.pattern (name_of self)) (node_of self)
-            (λ given. P.verdict (P.with_attributes (requirement_of self) attributes) given) steps.items hub.old
+        ensures { let required = P.with_attributes (requirement_of self) attributes in OpensJudged
+            (detail FixedSize T.name T.size T.alignment) (detail FixedSize U.name U.size U.alignment) P.open_error
+            (service_hash_of P.pattern (name_of self)) (node_of self) (λ given. P.verdict required given) steps.items hub.old
             (result_map_both (λ factory. (factory.service.membership, factory.owner)) (λ error. error) result) hub.new }
     {
         open(alloc, self.builder(), Some(attributes), hub, steps)
