@@ -10,7 +10,7 @@
 //! - [`laws`]: what holds of lanes and of the domain beside them.
 //!
 //! Named again is what a program on lanes needs: [`Lanes`] over their [`LaneMachine`], [`Message`], [`Party`], [`Call`], [`Move`], what a
-//! step answers ([`Stepped`]) and a send ([`Delivery`]), what stands in an order ([`Placed`], [`PlacedMessage`], [`Act`]), [`Positions`],
+//! step answers ([`Stepped`]) and a send ([`Delivery`]), an order ([`Order`], [`PlacedMessage`], [`Placed`], [`Act`]), [`Positions`],
 //! [`Words`], [`FewWords`], [`values_in`], [`WithSequence`], and for threads [`open_threads`], [`LanePublisher`], [`LaneSubscriber`].
 //!
 //! First calls:
@@ -39,7 +39,7 @@ pub mod threads;
 pub use domain_lanes::{DomainLanes, Refused, into_lanes};
 pub use into_domain_error::IntoDomainError;
 pub use iox_lanes_base::calls::{Delivery, Receipt};
-pub use iox_lanes_laws::messages::{Lanes, Message, PlacedMessage};
+pub use iox_lanes_laws::messages::{Lanes, Message, Order, PlacedMessage};
 pub use iox_lanes_machine::{LaneMachine, LaneSizes, Link, Positions, Unrest};
 pub use iox_lanes_opening::refusals::IntoLanesError;
 pub use iox_lanes_parties::publisher::LoanAnswer;

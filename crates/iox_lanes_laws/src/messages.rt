@@ -6,7 +6,9 @@
 //! let mut lanes = Lanes::new(alloc, lanes);
 //! lanes.step(Party::Publisher(0), &Move::Begin(Call::Send { loan }));
 //! let sent = lanes.message(0);
-//! let put = lanes.order_at(connection, 0);
+//! for entry in lanes.order(connection) {
+//!     let message = entry.number;
+//! }
 //! ```
 //!
 //! Each law is the contract of a function that does nothing. A proof cites a law by a call of its function, which does nothing;
@@ -18,6 +20,7 @@
 //! ```
 
 pub mod message;
+pub mod order;
 pub mod placed_message;
 pub mod recorded;
 
@@ -28,6 +31,7 @@ ghost use Rattle.iox_lanes_laws.specs.RecordedRuns.{RecordsRunLanes};
 ghost use Rattle.iox_lanes_laws.specs.WholeMessages.{ReadsGiveWhatWasSent, UsedSlotsSendNothing};
 
 pub use message::Message;
+pub use order::Order;
 pub use placed_message::PlacedMessage;
 pub use recorded::Lanes;
 

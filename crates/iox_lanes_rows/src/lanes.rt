@@ -93,7 +93,7 @@ pub(crate) fn knows(lanes: &Lanes, number: usize, wanted: (u64, u64)) -> bool {
 
 /// Whether an entry of a connection's order puts or takes the message of this number, or else none.
 pub(crate) fn orders(lanes: &Lanes, connection: u64, at: usize, wanted: Option<usize>) -> bool {
-    match lanes.order_at(connection, at) {
+    match lanes.order(connection).get(at) {
         Some(entry) => entry.number == wanted,
         None => false,
     }

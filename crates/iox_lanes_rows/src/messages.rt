@@ -52,12 +52,26 @@ fn is_kept(lanes: &Lanes, number: u64) -> bool {
 // Whether the connection's order has the message of a number as it is put, and as it is taken.
 fn is_placed(lanes: &Lanes, number: u64) -> bool {
     let put = (number as usize).saturating_mul(2);
-    match lanes.order_at(0, put.saturating_add(1)) {
+    match lanes.order(0).get(put.saturating_add(1)) {
         Some(taken) => {
             taken.number == Some(number as usize) && lanes.number(0, put) == taken.number
         }
         None => false,
     }
+}
+
+// Whether the connection's order has so many messages twice, as each is put and as it is taken, one after the other.
+fn are_placed(lanes: &Lanes, count: u64) -> bool {
+    let order = lanes.order(0);
+    let whole = order.len() as u64 == count.saturating_mul(2) && order.is_empty() == (count == 0);
+    let mut at: usize = 0;
+    for entry in order {
+        if entry.number != Some(at / 2) {
+            return false;
+        }
+        at = at.saturating_add(1);
+    }
+    whole
 }
 
 // Whether the message of a number is sent in the first slot or the second, by turns, and read and kept.
@@ -75,7 +89,7 @@ fn keep(alloc: Global, lanes: &mut Lanes, count: u64) -> Result<bool, AllocError
             return Ok(false);
         }
     }
-    Ok(lanes.len() as u64 == count)
+    Ok(lanes.len() as u64 == count && are_placed(lanes, count))
 }
 
 // Whether they are in new lanes.

@@ -28,9 +28,9 @@ pub(crate) fn words_read(lanes: &Lanes) -> &[u64] {
     lanes.lanes().words_read()
 }
 
-/// The order of a connection.
+/// The order of a connection, by slots.
 pub(crate) fn order(lanes: &Lanes, connection: u64) -> &[Placed] {
-    lanes.order(connection)
+    lanes.placed(connection)
 }
 
 // Makes a step, and once more where it found no memory, by which nothing has changed.

@@ -1,19 +1,18 @@
 //! Lanes that keep the messages which are sent on them.
 ghost use Rattle.std.specs.Prelude.{◌≡◌, ◌<◌, [], ◌∷◌, Some, slice_get, option_copied, option_to_list, IfOk, OnErr, true, length};
-ghost use Rattle.std.specs.Prelude.{option_map, if◌then◌else◌, ◌++◌, ◌+◌, ◌≤◌, IfErr, IfSome, OnOk, drop, get_or, take};
+ghost use Rattle.std.specs.Prelude.{if◌then◌else◌, ◌++◌, ◌+◌, ◌≤◌, IfErr, IfSome, OnOk, drop, get_or, map, take};
 ghost use Rattle.iox_lanes_machine.specs.LanesParties.Values.{AreValues};
 ghost use Rattle.iox_lanes_machine.specs.LanesBase.Numbers.{words_of};
 ghost use Rattle.iox_lanes_laws.specs.Recorded.{AreAsHeld, ArePast};
-ghost use Rattle.iox_lanes_laws.specs.Numbered.{acted_slot, found_first, found_in, found_messages, found_of, last_number, number_of_placed};
-ghost use Rattle.iox_lanes_laws.specs.Numbered.{with_number};
+ghost use Rattle.iox_lanes_laws.specs.Numbered.{found_first, found_in, found_messages, found_of, number_of_placed, with_number};
 
 use crate::messages::message::Message;
-use crate::messages::placed_message::PlacedMessage;
+use crate::messages::order::{Order, number_of};
 use iox_lanes_machine::{LaneMachine, Positions};
 use iox_lanes_parties::publisher::SlotBook;
 use iox_lanes_parties::{Call, Entry, FinishedCall, Move, Party, PublisherLane, values_in};
 use iox_queues_base::Words;
-use iox_queues_steps::{Act, Placed, PopAnswer, Stepped};
+use iox_queues_steps::{Placed, Stepped};
 use std::alloc::{AllocError, Global};
 use std::marker::Model;
 
@@ -253,23 +252,18 @@ impl Lanes {
         ensures { result ≡ number_of_placed self.now.messages (slice_get (get_or self.now.lanes.orders connection []) at) }
     {
         let placed = self.lanes.order(connection).get(at)?;
-        let slot = acted_slot(placed.act)?;
-        last_number(&self.messages, slot, placed.moment)
+        number_of(&self.messages, *placed)
     }
 
-    /// An entry of a connection's order, with the number of its message, as `number` tells it. None where there are fewer.
-    pub fn order_at(&self, connection: u64, at: usize) -> Option<PlacedMessage>
-        ensures { result ≡ option_map (with_number self.now.messages) (slice_get (get_or self.now.lanes.orders connection []) at) }
+    /// The puts, takes and looks of a connection, in their order, each with the number of its message, as `number` tells it.
+    pub fn order(&self, connection: u64) -> Order<'_>
+        ensures { result ≡ map (with_number self.now.messages) (get_or self.now.lanes.orders connection []) }
     {
-        let placed = *self.lanes.order(connection).get(at)?;
-        Some(PlacedMessage {
-            placed,
-            number: self.number(connection, at),
-        })
+        Order::new(&self.messages, self.lanes.order(connection))
     }
 
-    /// The puts, takes and looks of a connection, and what holds of them, as `LaneMachine::order`.
-    pub fn order(&self, connection: u64) -> &[Placed]
+    /// The puts, takes and looks of a connection with their slots, without numbers, and what holds of them, as `LaneMachine::order`.
+    pub fn placed(&self, connection: u64) -> &[Placed]
         ensures value { result.now ≡ get_or self.now.lanes.orders connection [] }
         ensures follows { OrderFollows self.now.lanes connection result.now }
         ensures arrives { OrderArrives self.now.lanes connection result.now }
@@ -441,32 +435,4 @@ fn find_slot(
     let message = Message::found(alloc, lanes.moments(), publisher, slot, lanes.table())?;
     messages.push(message)?;
     Ok(())
-}
-
-// The slot that an act puts or takes, if it does.
-fn acted_slot(act: Act) -> Option<u64>
-    ensures { result ≡ acted_slot act }
-{
-    match act {
-        Act::Put { value, .. } => Some(value),
-        Act::Take {
-            answer: PopAnswer::Got(got),
-        } => got,
-        Act::Take {
-            answer: PopAnswer::Saw(_),
-        } => None,
-    }
-}
-
-// The number of the last message that was sent in a slot by a moment.
-fn last_number(messages: &[Message], slot: u64, moment: u64) -> Option<usize>
-    ensures { result ≡ last_number messages.now slot moment (length messages.now) }
-{
-    let mut last = None;
-    for number in 0..messages.len() {
-        if messages[number].was_sent_by(slot, moment) {
-            last = Some(number);
-        }
-    }
-    last
 }
