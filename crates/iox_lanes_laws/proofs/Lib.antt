@@ -33,7 +33,10 @@ pub mod PublisherCourses
 pub mod SubscriberCourses
 pub mod Takes
 pub mod FinishedReceives
+pub mod OrderedTakes
+pub mod StandingSubscribers
 pub mod Payloads
+pub mod UserHeaders
 pub mod Missing
 pub mod SequenceRuns
 pub mod SequenceLaws

@@ -17,5 +17,8 @@ pub mod HaveNumbers
 pub mod Accesses
 pub mod Takes
 pub mod FinishedReceives
+pub mod OrderedTakes
+pub mod StandingSubscribers
 pub mod Payloads
+pub mod UserHeaders
 pub mod Sequences

@@ -12,6 +12,7 @@ ghost use Rattle.iox_lanes_laws.specs.Turns.{CallsEndInTurn};
 ghost use Rattle.iox_lanes_laws.specs.Publishing.{LoansInTurn, WritesInTurn, SendsInTurn, DropsInTurn};
 ghost use Rattle.iox_lanes_laws.specs.Subscribing.{ReceivesInTurn, ReadsInTurn, ReleasesInTurn};
 ghost use Rattle.iox_lanes_laws.specs.Payloads.{PayloadsStayInTurn, WritesHoldInTurn, PublishersStayInTurn, SubscribersStayInTurn};
+ghost use Rattle.iox_lanes_laws.specs.UserHeaders.{ReadsGiveWhatWasWritten, SendsBeginAsWritten, WritesKeepUserHeaders};
 
 /// Where no call of a schedule overlaps another, each ends where the next may begin: nobody is inside a call. So what the other
 /// laws of this crate say of one call is true of each of them, one after the other; as long as at most 2^63 steps were made.
@@ -51,4 +52,15 @@ pub fn stay_in_turn()
     ensures writes { WritesHoldInTurn }
     ensures publishers { PublishersStayInTurn }
     ensures subscribers { SubscribersStayInTurn }
+{}
+
+/// A write that no other call overlaps keeps for its slot just the user header that it named, behind the three words of header that were
+/// kept; of each other slot of its publisher the same is kept as before. So a send that begins right behind it sends just this user header,
+/// in whose first word the next number stands if messages have numbers, and the payload of the write. And a read of the slot gives just
+/// these words, whoever steps between, or those of the last message whose send began in the slot since. So it is as long as at most 2^63
+/// steps were made.
+pub fn writes_keep_user_headers()
+    ensures keeps { WritesKeepUserHeaders }
+    ensures sends { SendsBeginAsWritten }
+    ensures reads { ReadsGiveWhatWasWritten }
 {}

@@ -18,3 +18,4 @@ mod KeptLists
 mod KeptReading
 mod KeptCalls
 mod Unrefused
+mod AgreedLimits

@@ -5,3 +5,4 @@ pub mod Lanes
 pub mod Sequences
 pub mod Strays
 pub mod Keeping
+pub mod AgreedLimits

@@ -27,6 +27,7 @@ ghost use Rattle.iox_lanes_machine.specs.WholeReads.{CameTo};
 ghost use Rattle.iox_lanes_opening.specs.Middles.{middle_count, middle_words};
 ghost use Rattle.iox_lanes_opening.specs.Refusals.{first_reason};
 ghost use Rattle.iox_lanes_opening.specs.declared.refusals.into_lanes_error.IntoLanesError.TheVariants as reason;
+ghost use Rattle.iox_lanes_sound.specs.AgreedLimits.{AgreedLimitsStay, ReceivesLookAsAgreed};
 ghost use Rattle.iox_lanes_sound.specs.Having.{AreReadBack, HaveMessages, lane_names};
 ghost use Rattle.iox_lanes_sound.specs.Keeping.{CallsKeepToOne, NeverUnsound};
 ghost use Rattle.iox_lanes_sound.specs.Lanes.{StandAsPorts, TurnsGoOnAsPorts};
@@ -187,4 +188,12 @@ pub fn never_refused_as_unsound<T, U, O: Overrides, B: Decides + Degrades>(
 )
     ensures { NeverUnsound (O.overrides _overriding.now) (B.degrades _handlers.now cause.FailedToEstablishConnection)
         (B.decides _handlers.now) domain.now }
+{}
+
+/// Each subscriber of the lanes that `into_lanes` gives may borrow as many samples as the service agreed on, whatever was run on them. So
+/// each receive of theirs that ended looked just where as many were borrowed as agreed, and took where fewer were; as long as at most 2^63
+/// steps were made.
+pub fn agreed_limits_stay()
+    ensures limits { AgreedLimitsStay }
+    ensures receives { ReceivesLookAsAgreed }
 {}
