@@ -13,6 +13,7 @@ use Rattle.iox_lanes_machine.specs.declared.found.Found.TheVariants as found
 use Rattle.iox_lanes_machine.proofs.Ends.{some_is}
 use Rattle.iox_lanes.specs.Behind.{behind_findings, behind_finding}
 use Rattle.iox_lanes.specs.Laid.{flat_listed, header_findings, message_findings, payload_findings, slot_in, value_findings, words_findings}
+use Rattle.iox_lanes.specs.Spelling.{Spelling}
 
 -- what is found, or not, leaves the lanes behind it
 pub found_behind : (m : World) (f : Found) (answer : Bool) (n : World) → FindsTo m f answer n → n ≡ behind_finding m f
@@ -108,7 +109,7 @@ both_are {A} {B} {a} {b} {x} {y} one other =
     let right : B → A × B = λ c. (b, c) in
     ap left one ∙ ap right other
 
-module _ {T U : Type 0} (payload_words : T → List ℕ) (header_words : Option ℕ × U → List ℕ) (payload_count header_count first : ℕ)
+module _ {T U : Type 0} (spelling : Spelling T U) (first : ℕ)
     (port : PublisherPort T U) where
   -- the words of a message, header before user header before payload
   pub message_behind : (message : Message T U) (m first_word second_word third_word header after : World) (slot elements : ℕ)
@@ -116,42 +117,42 @@ module _ {T U : Type 0} (payload_words : T → List ℕ) (header_words : Option 
       → first_word ≡ behind_finding m (found.Held slot (Header 0) port.owner.node_id)
       → second_word ≡ behind_finding first_word (found.Held slot (Header 1) port.number)
       → third_word ≡ behind_finding second_word (found.Held slot (Header 2) elements)
-      → header ≡ behind_findings third_word (header_findings header_words header_count slot user_header)
-      → after ≡ behind_findings header (payload_findings payload_words payload_count slot values)
+      → header ≡ behind_findings third_word (header_findings spelling.middle spelling.middle_count slot user_header)
+      → after ≡ behind_findings header (payload_findings spelling.payload spelling.payload_count slot values)
       → slot ≡ slot_in first message.slot → elements ≡ message.elements → user_header ≡ (message.sequence, message.user_header) → values
       ≡ message.values
-      → after ≡ behind_findings m (message_findings payload_words header_words payload_count header_count first port message)
+      → after ≡ behind_findings m (message_findings spelling first port message)
   message_behind message m first_word second_word third_word header after slot elements user_header values one two three headed laid at
       many own said =
       behind_one m first_word after _ _ one
       (behind_one first_word second_word after _ _ two
       (behind_one second_word third_word after _ _ three (behind_lists third_word header after _ _ headed laid)))
-      ∙ ap (λ n. behind_findings m (words_findings payload_words header_words payload_count header_count n port.owner.node_id
+      ∙ ap (λ n. behind_findings m (words_findings spelling n port.owner.node_id
       port.number elements user_header values)) at
-      ∙ ap (λ n. behind_findings m (words_findings payload_words header_words payload_count header_count (slot_in first message.slot)
+      ∙ ap (λ n. behind_findings m (words_findings spelling (slot_in first message.slot)
       port.owner.node_id port.number n user_header values)) many
-      ∙ ap (λ u. behind_findings m (words_findings payload_words header_words payload_count header_count (slot_in first message.slot)
+      ∙ ap (λ u. behind_findings m (words_findings spelling (slot_in first message.slot)
       port.owner.node_id port.number message.elements u values)) own
-      ∙ ap (λ vs. behind_findings m (words_findings payload_words header_words payload_count header_count (slot_in first message.slot)
+      ∙ ap (λ vs. behind_findings m (words_findings spelling (slot_in first message.slot)
       port.owner.node_id port.number message.elements (message.sequence, message.user_header) vs)) said
 
   -- one message more of a list, of each of which its words are found and one thing more
   pub next_message : (last : ℕ → Found) (messages : List (Message T U)) (at slot in_lanes : ℕ) (m now worded after : World)
       → slice_get (map (λ message. message.slot) messages) at ≡ Some slot
       → now ≡ behind_findings m (flat_map
-      (λ message. message_findings payload_words header_words payload_count header_count first port message
+      (λ message. message_findings spelling first port message
       ++ last (slot_in first message.slot) ∷ []) (take at messages))
       → ((message : Message T U) → slice_get messages at ≡ Some message → message.slot ≡ slot
-      → worded ≡ behind_findings now (message_findings payload_words header_words payload_count header_count first port message))
+      → worded ≡ behind_findings now (message_findings spelling first port message))
       → in_lanes ≡ slot_in first slot → after ≡ behind_finding worded (last in_lanes)
       → after ≡ behind_findings m (flat_map
-      (λ message. message_findings payload_words header_words payload_count header_count first port message
+      (λ message. message_findings spelling first port message
       ++ last (slot_in first message.slot) ∷ []) (take (at + 1) messages))
   next_message last messages at slot in_lanes m now worded after there sofar words is behind_it =
       let found = mapped_at (λ (message : Message T U). message.slot) messages at slot there in
-      next_of m now after (λ message. message_findings payload_words header_words payload_count header_count first port message
+      next_of m now after (λ message. message_findings spelling first port message
       ++ last (slot_in first message.slot) ∷ []) messages at found.0 found.1 sofar
-      (behind_last now worded after (message_findings payload_words header_words payload_count header_count first port found.0)
+      (behind_last now worded after (message_findings spelling first port found.0)
       (last (slot_in first found.0.slot)) (words found.0 found.1 found.2)
       (behind_it ∙ ap (λ n. behind_finding worded (last n)) (is ∙ ap (slot_in first) (sym found.2))))
     where

@@ -1,5 +1,5 @@
 -- What stands in the history of a publisher of lanes behind what they find.
-use Rattle.std.proofs.Common.{arith, ℕ, zero, suc, ◌≡◌, ◌+◌, ◌<◌, ◌≤◌, ◌==◌, true, List, [], ◌∷◌, ◌++◌, length, map, slice_get, Option}
+use Rattle.std.proofs.Common.{arith, ℕ, zero, suc, ◌≡◌, ◌+◌, ◌<◌, ◌≤◌, ◌==◌, true, List, [], ◌∷◌, ◌++◌, length, map, slice_get}
 use Rattle.std.proofs.Common.{None, Some, refl, sym, ap, ◌∙◌, subst, inl, inr, append_assoc, length-append}
 use Rattle.std.proofs.lemmas.Bool.Decides.{eqb_tells}
 use Rattle.std.proofs.lemmas.Option.{slice_get_within}
@@ -15,6 +15,7 @@ use Rattle.iox_lanes_machine.specs.declared.found.Found.{Found}
 use Rattle.iox_lanes_machine.specs.declared.found.Found.TheVariants as found
 use Rattle.iox_lanes.specs.Behind.{behind_findings, behind_finding}
 use Rattle.iox_lanes.specs.Laid.{history_findings, message_findings, slot_in}
+use Rattle.iox_lanes.specs.Spelling.{Spelling}
 use Rattle.iox_lanes.proofs.Apart.{AreApart}
 use Rattle.iox_lanes.proofs.Behind.{behind_both}
 use Rattle.iox_lanes.proofs.Each.{each_leaves, each_word, Each}
@@ -94,12 +95,12 @@ module _ (table : TableSizes) (who first size kept : ℕ) where
       (subst (λ h. IsBooked h (with_found m (found.Newest who slot))) (ap (λ b. history ++ slot_if b slot) (itself who))
       (booked_on m (found.Newest who slot) history refl booked fits))
 
-  module _ {T U : Type 0} (payload_words : T → List ℕ) (header_words : Option ℕ × U → List ℕ) (payload_count header_count : ℕ)
+  module _ {T U : Type 0} (spelling : Spelling T U)
       (port : PublisherPort T U) where
     words_leave : (message : Message T U)
-        → Each (LeavesBook who) (message_findings payload_words header_words payload_count header_count first port message)
+        → Each (LeavesBook who) (message_findings spelling first port message)
     words_leave message =
-        each_word payload_words header_words payload_count header_count (LeavesBook who) (slot_in first message.slot)
+        each_word spelling (LeavesBook who) (slot_in first message.slot)
         port.owner.node_id port.number message.elements (message.sequence, message.user_header) message.values (refl, refl) (refl, refl)
         (refl, refl)
         (λ word below. (refl, refl)) (λ word below value there. (refl, refl))
@@ -110,12 +111,12 @@ module _ (table : TableSizes) (who first size kept : ℕ) where
         → (slot_in first message.slot ≡ first + message.slot) × (message.slot < size))
         → AreApart seen (map (λ message. first + message.slot) messages) → length seen + length messages ≤ kept → IsBooked seen m
         → IsBooked (seen ++ map (λ message. first + message.slot) messages)
-        (behind_findings m (history_findings payload_words header_words payload_count header_count who first port messages))
+        (behind_findings m (history_findings spelling who first port messages))
     unfolding behind_findings
     booked_history [] seen m inside apart room booked = subst (λ h. IsBooked h m) (sym (nil_behind seen)) booked
     booked_history (message ∷ rest) seen m inside apart room booked =
-        let words = message_findings payload_words header_words payload_count header_count first port message in
-        let later = history_findings payload_words header_words payload_count header_count who first port rest in
+        let words = message_findings spelling first port message in
+        let later = history_findings spelling who first port rest in
         let newest = found.Newest who (slot_in first message.slot) in
         let slot : ℕ = first + message.slot in
         let here = inside zero message refl in

@@ -1,5 +1,5 @@
 -- Lanes that are built of a domain, from what each part of the building says.
-use Rattle.std.proofs.Common.{ℕ, ◌≡◌, ◌<◌, ◌≤◌, ◌^◌, List, length, sym, ap, subst, ◌∙◌, arith, Option}
+use Rattle.std.proofs.Common.{ℕ, ◌≡◌, ◌<◌, ◌≤◌, ◌^◌, List, length, sym, ap, subst, ◌∙◌, arith}
 use Rattle.std.proofs.lemmas.List.{length-replicate}
 use Rattle.std.proofs.lemmas.Nat.{column_fits}
 use Rattle.iox_domain.specs.DomainValues.declared.handlers.Handlers.{Handlers}
@@ -15,6 +15,7 @@ use Rattle.iox_lanes.specs.Finding.{WasFound}
 use Rattle.iox_lanes.specs.Laid.{publishers_behind}
 use Rattle.iox_lanes.specs.Ordered.{readers_behind}
 use Rattle.iox_lanes.specs.Sized.{AreAgreed}
+use Rattle.iox_lanes.specs.Spelling.{Spelling}
 use Rattle.iox_lanes.proofs.Sizing.{sized_by, table_is}
 
 -- lanes that were made have as many words as their sizes say
@@ -24,19 +25,19 @@ words_counted sizes m words count made are long few =
     subst (λ n. n < 2 ^ 64) (long ∙ ap length are ∙ ap (λ (w : World). length w.table.words) made ∙ length-replicate
     (words_of (table_sizes sizes)) 0) few
 
-pub are_built : {T U X Y D : Type 0} {F : X → Type 0} {G : Y → Type 0} (payload_words : T → List ℕ) (header_words : Option ℕ × U → List ℕ)
-    (payload_count header_count : ℕ) (domain : Domain T U (Handlers X Y F G) D)
+pub are_built : {T U X Y D : Type 0} {F : X → Type 0} {G : Y → Type 0} (spelling : Spelling T U) (domain : Domain T U (Handlers X Y F G) D)
     (publishers subscribers : List ℕ) (sizes last : LaneSizes) (begun laid ordered lanes : World)
-    → AreAgreed domain.state.ports.sizes (length publishers) (length subscribers) payload_count header_count sizes
+    → AreAgreed domain.state.ports.sizes (length publishers) (length subscribers) spelling.payload_count spelling.middle_count sizes
     → WasFound last lanes → last ≡ sizes → HaveSlots domain.state.ports.publishers publishers sizes.slots
     → words_of (table_sizes sizes) < 2 ^ 64 → KeepAlone domain.state.ports publishers subscribers
-    → begun ≡ start sizes → laid ≡ publishers_behind payload_words header_words payload_count header_count domain publishers subscribers
+    → begun ≡ start sizes → laid ≡ publishers_behind spelling domain publishers subscribers
     begun (length publishers)
     → ordered ≡ readers_behind publishers domain.state.ports.subscribers subscribers laid (length subscribers) → lanes ≡ ordered
-    → AreBuilt payload_words header_words payload_count header_count domain publishers subscribers lanes
-are_built payload_words header_words payload_count header_count domain publishers subscribers sizes last begun laid ordered lanes agreed
+    → AreBuilt spelling domain publishers subscribers lanes
+are_built spelling domain publishers subscribers sizes last begun laid ordered lanes agreed
     was same room small alone made publishing ordering is =
-    let by = sized_by domain.state.ports.sizes (length publishers) (length subscribers) payload_count header_count sizes lanes agreed
+    let by = sized_by domain.state.ports.sizes (length publishers) (length subscribers) spelling.payload_count spelling.middle_count sizes
+    lanes agreed
     (subst (λ (s : LaneSizes). WasFound s lanes) same was) in
     record {
       sized = by.0;
@@ -45,7 +46,7 @@ are_built payload_words header_words payload_count header_count domain publisher
       alone = alone;
       behind = is ∙ ordering
           ∙ ap (λ w. readers_behind publishers domain.state.ports.subscribers subscribers w (length subscribers))
-          (publishing ∙ ap (λ w. publishers_behind payload_words header_words payload_count header_count domain publishers subscribers w
+          (publishing ∙ ap (λ w. publishers_behind spelling domain publishers subscribers w
           (length publishers)) (made ∙ ap start (sym by.1)));
     }
 
@@ -54,11 +55,11 @@ slots_below : (sizes : TableSizes) → sizes.slots ≤ words_of sizes
 slots_below sizes = omega (arith, column_fits sizes.slots 0 sizes.slots (slot_words sizes) (omega arith) (omega arith))
 
 -- so there are fewer slots than memory has room for words
-pub few_slots : {T U X Y D : Type 0} {F : X → Type 0} {G : Y → Type 0} (payload_words : T → List ℕ) (header_words : Option ℕ × U → List ℕ)
-    (payload_count header_count : ℕ) (domain : Domain T U (Handlers X Y F G) D) (publishers subscribers : List ℕ) (lanes : World)
-    → AreBuilt payload_words header_words payload_count header_count domain publishers subscribers lanes
+pub few_slots : {T U X Y D : Type 0} {F : X → Type 0} {G : Y → Type 0} (spelling : Spelling T U)
+    (domain : Domain T U (Handlers X Y F G) D) (publishers subscribers : List ℕ) (lanes : World)
+    → AreBuilt spelling domain publishers subscribers lanes
     → lanes.table.sizes.slots < 2 ^ 64
-few_slots payload_words header_words payload_count header_count domain publishers subscribers lanes built =
+few_slots spelling domain publishers subscribers lanes built =
     let below : (table_sizes (built.sized).sizes).slots ≤ words_of (table_sizes (built.sized).sizes) =
     slots_below (table_sizes (built.sized).sizes) in
     let same = ap (λ (t : TableSizes). t.slots) (table_is (built.sized).sizes lanes (built.sized).found) in

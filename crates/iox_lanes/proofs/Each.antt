@@ -18,6 +18,7 @@ use Rattle.iox_lanes.specs.Holding.{reader_if}
 use Rattle.iox_lanes.specs.Laid.{flat_listed, header_findings, history_findings, link_findings, message_findings, payload_findings}
 use Rattle.iox_lanes.specs.Laid.{slot_in, waiting_findings, words_findings}
 use Rattle.iox_lanes.specs.Ordered.{keys_behind, reader_behind, readers_behind, route_place, swap_behind}
+use Rattle.iox_lanes.specs.Spelling.{Spelling}
 
 -- each finding of a list is one of these
 abbrev pub Each : (Found → Type 0) → List Found → Type 0
@@ -53,31 +54,33 @@ each_leaves P Q leaves [] m all q = q
 each_leaves P Q leaves (f ∷ fs) m all q = each_leaves P Q leaves fs (behind_finding m f) all.1 (leaves m f all.0 q)
 
 -- all that is found of messages of a publisher is found of it
-module _ {T U : Type 0} (payload_words : T → List ℕ) (header_words : Option ℕ × U → List ℕ) (payload_count header_count : ℕ)
+module _ {T U : Type 0} (spelling : Spelling T U)
     (P : Found → Type 0) where
   pub each_payload : (slot : ℕ) (values : List T)
-      → ((word : ℕ) → word < payload_count → (value : T) → slice_get values 0 ≡ Some value
-      → P (found.Held slot (Payload word) (slice_index (payload_words value) word)))
-      → Each P (payload_findings payload_words payload_count slot values)
+      → ((word : ℕ) → word < spelling.payload_count → (value : T) → slice_get values 0 ≡ Some value
+      → P (found.Held slot (Payload word) (slice_index (spelling.payload value) word)))
+      → Each P (payload_findings spelling.payload spelling.payload_count slot values)
   each_payload slot [] all = tt
   each_payload slot (value ∷ rest) all
-      = each_listed P (λ word. found.Held slot (Payload word) (slice_index (payload_words value) word)) payload_count
+      = each_listed P (λ word. found.Held slot (Payload word) (slice_index (spelling.payload value) word)) spelling.payload_count
       (λ at below. all at below value refl)
 
   pub each_word : (slot node number elements : ℕ) (user_header : Option ℕ × U) (values : List T) → P (found.Held slot (Header 0) node)
       → P (found.Held slot (Header 1) number) → P (found.Held slot (Header 2) elements)
-      → ((word : ℕ) → word < header_count → P (found.Held slot (UserHeader word) (slice_index (header_words user_header) word)))
-      → ((word : ℕ) → word < payload_count → (value : T) → slice_get values 0 ≡ Some value
-      → P (found.Held slot (Payload word) (slice_index (payload_words value) word)))
-      → Each P (words_findings payload_words header_words payload_count header_count slot node number elements user_header values)
+      → ((word : ℕ) → word < spelling.middle_count → P (found.Held slot (UserHeader word) (slice_index (spelling.middle user_header) word)))
+      → ((word : ℕ) → word < spelling.payload_count → (value : T) → slice_get values 0 ≡ Some value
+      → P (found.Held slot (Payload word) (slice_index (spelling.payload value) word)))
+      → Each P (words_findings spelling slot node number elements user_header values)
   each_word slot node number elements user_header values one two three headed valued = (
     one,
     (
       two,
       (
         three,
-        each_both P (header_findings header_words header_count slot user_header) (payload_findings payload_words payload_count slot values)
-            (each_listed P (λ word. found.Held slot (UserHeader word) (slice_index (header_words user_header) word)) header_count
+        each_both P (header_findings spelling.middle spelling.middle_count slot user_header)
+            (payload_findings spelling.payload spelling.payload_count slot values)
+            (each_listed P (λ word. found.Held slot (UserHeader word) (slice_index (spelling.middle user_header) word))
+            spelling.middle_count
             headed) (each_payload slot values valued),
       ),
     ),
@@ -86,42 +89,42 @@ module _ {T U : Type 0} (payload_words : T → List ℕ) (header_words : Option 
   module _ (place first : ℕ) (port : PublisherPort T U) where
     pub each_history : (messages : List (Message T U))
         → ((at : ℕ) (message : Message T U) → slice_get messages at ≡ Some message
-        → Each P (message_findings payload_words header_words payload_count header_count first port message))
+        → Each P (message_findings spelling first port message))
         → ((slot : ℕ) → P (found.Newest place slot))
-        → Each P (history_findings payload_words header_words payload_count header_count place first port messages)
+        → Each P (history_findings spelling place first port messages)
     each_history messages words newest =
-        each_flat P (λ message. message_findings payload_words header_words payload_count header_count first port message
+        each_flat P (λ message. message_findings spelling first port message
         ++ found.Newest place (slot_in first message.slot) ∷ []) messages
-        (λ at message there. each_both P (message_findings payload_words header_words payload_count header_count first port message)
+        (λ at message there. each_both P (message_findings spelling first port message)
         (found.Newest place (slot_in first message.slot) ∷ [])
         (words at message there) (newest (slot_in first message.slot), tt))
 
     pub each_waiting : (other : ℕ) (messages : List (Message T U))
         → ((at : ℕ) (message : Message T U) → slice_get messages at ≡ Some message
-        → Each P (message_findings payload_words header_words payload_count header_count first port message))
+        → Each P (message_findings spelling first port message))
         → ((slot : ℕ) → P (found.Waiting place other slot))
-        → Each P (waiting_findings payload_words header_words payload_count header_count place other first port messages)
+        → Each P (waiting_findings spelling place other first port messages)
     each_waiting other messages words waits =
-        each_flat P (λ message. message_findings payload_words header_words payload_count header_count first port message
+        each_flat P (λ message. message_findings spelling first port message
         ++ found.Waiting place other (slot_in first message.slot) ∷ []) messages
-        (λ at message there. each_both P (message_findings payload_words header_words payload_count header_count first port message)
+        (λ at message there. each_both P (message_findings spelling first port message)
         (found.Waiting place other (slot_in first message.slot) ∷ [])
         (words at message there) (waits (slot_in first message.slot), tt))
 
     pub each_of : (tie : ℕ → ℕ) (count : ℕ)
         → ((at : ℕ) (message : Message T U) → slice_get port.sender.uses.history at ≡ Some message
-        → Each P (message_findings payload_words header_words payload_count header_count first port message))
+        → Each P (message_findings spelling first port message))
         → ((other : ℕ) → other < count → (at : ℕ) (message : Message T U)
         → slice_get (connection_of (tie other) port).waiting at ≡ Some message
-        → Each P (message_findings payload_words header_words payload_count header_count first port message))
+        → Each P (message_findings spelling first port message))
         → ((slot : ℕ) → P (found.Newest place slot)) → ((other slot : ℕ) → P (found.Waiting place other slot))
         → ((other messages : ℕ) → P (found.Buffer place other messages))
-        → Each P (history_findings payload_words header_words payload_count header_count place first port port.sender.uses.history)
-        × Each P (flat_listed (λ other. link_findings payload_words header_words payload_count header_count place other first port
+        → Each P (history_findings spelling place first port port.sender.uses.history)
+        × Each P (flat_listed (λ other. link_findings spelling place other first port
         (tie other)) count)
     each_of tie count remembered waiting newest waits buffers = (
       each_history port.sender.uses.history remembered newest,
-      each_flat_listed P (λ other. link_findings payload_words header_words payload_count header_count place other first port
+      each_flat_listed P (λ other. link_findings spelling place other first port
           (tie other)) count
           (λ other below. (
             buffers other (connection_of (tie other) port).limit,

@@ -39,6 +39,7 @@ use Rattle.iox_lanes.specs.Laid.{first_slot, flat_listed, history_findings, link
 use Rattle.iox_lanes.specs.Laid.{waiting_findings}
 use Rattle.iox_lanes.specs.Laid.{publisher_behind, sender_behind, slot_in, slots_in}
 use Rattle.iox_lanes.specs.Lying.{AreSlotsOf, IsSlotOf}
+use Rattle.iox_lanes.specs.Spelling.{Spelling}
 use Rattle.iox_lanes.specs.Tied.{tie_for, AreTies}
 use Rattle.iox_lanes.proofs.Apart.{not_same, slots_apart}
 use Rattle.iox_lanes.proofs.Behind.{behind_both, behind_first, behind_none}
@@ -70,10 +71,9 @@ slots_of_all {T} {U} first messages laid are = record {
     by at (Some message) is = ap (λ xs. slice_get xs at) are ∙ slice_get-map (λ message. first + message.slot) messages at ∙ ap
         (option_map (λ message. first + message.slot)) is
 
-module _ {T U X Y D : Type 0} {F : X → Type 0} {G : Y → Type 0} (payload_words : T → List ℕ) (header_words : Option ℕ × U → List ℕ)
-    (payload_count header_count : ℕ) (domain : Domain T U (Handlers X Y F G) D)
+module _ {T U X Y D : Type 0} {F : X → Type 0} {G : Y → Type 0} (spelling : Spelling T U) (domain : Domain T U (Handlers X Y F G) D)
     (publishers subscribers : List ℕ) (lanes : World)
-    (built : AreBuilt payload_words header_words payload_count header_count domain publishers subscribers lanes)
+    (built : AreBuilt spelling domain publishers subscribers lanes)
     (place number : ℕ) (port : PublisherPort T U) (listed : slice_get publishers place ≡ Some number)
     (found_port : port_of number domain.state.ports.publishers ≡ Some port) (fit : IsFit domain.state.ports.sizes port)
     (goes : (other : ℕ) → other < length subscribers
@@ -130,28 +130,28 @@ module _ {T U X Y D : Type 0} {F : X → Type 0} {G : Y → Type 0} (payload_wor
         (λ n f leaves is. linked_stays (built.sized).sizes place other (of_sizes other below) n f waiting limit leaves is) fs m leave linked
 
     link_words : (other at : ℕ) (own : PublisherPort T U) (message : Message T U)
-        → Each (LeavesLink place other) (message_findings payload_words header_words payload_count header_count (at * width) own message)
+        → Each (LeavesLink place other) (message_findings spelling (at * width) own message)
     link_words other at own message =
-        each_word payload_words header_words payload_count header_count (LeavesLink place other) (slot_in (at * width) message.slot)
+        each_word spelling (LeavesLink place other) (slot_in (at * width) message.slot)
         own.owner.node_id own.number message.elements (message.sequence, message.user_header) message.values tt tt tt
         (λ word below. tt) (λ word below value there. tt)
 
     link_leave_other : (other at : ℕ) (own : PublisherPort T U) → (at ≡ place → ⊥)
-        → Each (LeavesLink place other) (history_findings payload_words header_words payload_count header_count at (at * width) own
+        → Each (LeavesLink place other) (history_findings spelling at (at * width) own
         own.sender.uses.history)
         × Each (LeavesLink place other) (flat_listed
-        (λ reader. link_findings payload_words header_words payload_count header_count at reader (at * width) own (tie own reader))
+        (λ reader. link_findings spelling at reader (at * width) own (tie own reader))
         (length subscribers))
     link_leave_other other at own apart =
-        each_of payload_words header_words payload_count header_count (LeavesLink place other) at (at * width) own (tie own)
+        each_of spelling (LeavesLink place other) at (at * width) own (tie own)
         (length subscribers)
         (λ k message is. link_words other at own message) (λ reader below k message is. link_words other at own message)
         (λ slot. tt) (λ reader slot row same. absurd (apart row)) (λ reader messages row same. absurd (apart row))
 
     link_history : (other : ℕ) → Each (LeavesLink place other)
-        (history_findings payload_words header_words payload_count header_count place (place * width) port port.sender.uses.history)
+        (history_findings spelling place (place * width) port port.sender.uses.history)
     link_history other =
-        each_history payload_words header_words payload_count header_count (LeavesLink place other) place (place * width) port
+        each_history spelling (LeavesLink place other) place (place * width) port
         port.sender.uses.history (λ k message is. link_words other place port message) (λ slot. tt)
 
     -- the connection to a subscriber is fit for what is agreed
@@ -186,7 +186,7 @@ module _ {T U X Y D : Type 0} {F : X → Type 0} {G : Y → Type 0} (payload_wor
         }
 
     abbrev reader_findings : ℕ → List Found
-    reader_findings other = link_findings payload_words header_words payload_count header_count place other (place * width) port
+    reader_findings other = link_findings spelling place other (place * width) port
         (tie port other)
 
     abbrev BothAt : (other : ℕ) → other < length subscribers → List ℕ → ℕ → World → Type 0
@@ -199,9 +199,9 @@ module _ {T U X Y D : Type 0} {F : X → Type 0} {G : Y → Type 0} (payload_wor
         → Each (λ f. LeavesBook place f × LeavesLink place other f) (reader_findings reader)
     reader_leaves other below reader apart = (
       ((refl, refl), λ row same. absurd (apart same)),
-      each_waiting payload_words header_words payload_count header_count (λ f. LeavesBook place f × LeavesLink place other f) place
+      each_waiting spelling (λ f. LeavesBook place f × LeavesLink place other f) place
           (place * width) port reader (at_tie reader).waiting
-          (λ k message is. each_word payload_words header_words payload_count header_count
+          (λ k message is. each_word spelling
           (λ f. LeavesBook place f × LeavesLink place other f) (slot_in (place * width) message.slot)
           port.owner.node_id port.number message.elements (message.sequence, message.user_header) message.values ((refl, refl), tt)
           ((refl, refl), tt)
@@ -209,13 +209,13 @@ module _ {T U X Y D : Type 0} {F : X → Type 0} {G : Y → Type 0} (payload_wor
           (λ slot. ((refl, refl), λ row same. absurd (apart same))),
     )
 
-    inside_of : (message : Message T U) → IsLaidOf payload_words header_words payload_count header_count domain publishers subscribers lanes
+    inside_of : (message : Message T U) → IsLaidOf spelling domain publishers subscribers lanes
         built port message → message.slot < size
         → (slot_in (place * width) message.slot ≡ place * width + message.slot) × (message.slot < size)
     inside_of message laid small =
-        let beneath = below_width payload_words header_words payload_count header_count domain publishers subscribers lanes built place
+        let beneath = below_width spelling domain publishers subscribers lanes built place
         number port message listed found_port laid in (
-          (all_slots payload_words header_words payload_count header_count domain publishers subscribers lanes built place
+          (all_slots spelling domain publishers subscribers lanes built place
               message.slot within beneath).1,
           small,
         )
@@ -227,7 +227,7 @@ module _ {T U X Y D : Type 0} {F : X → Type 0} {G : Y → Type 0} (payload_wor
         let mail = mail_fits other below in
         let beneath = of_sizes other below in
         let buffer = found.Buffer place other (at_tie other).limit in
-        let waits = waiting_findings payload_words header_words payload_count header_count place other (place * width) port
+        let waits = waiting_findings spelling place other (place * width) port
         (at_tie other).waiting in
         let begun : BothAt other below [] (at_tie other).limit (behind_finding w buffer) = (
           booked_stays table place (place * width) size ((built.sized).sizes).history w buffer kept_slots (refl, refl) both.0,
@@ -237,8 +237,7 @@ module _ {T U X Y D : Type 0} {F : X → Type 0} {G : Y → Type 0} (payload_wor
         ) in
         subst (BothAt other below (mail_slots other) (at_tie other).limit) (sym (behind_first w buffer waits))
         (linked_waiting (built.sized).sizes place other beneath (place * width) size ((built.sized).sizes).history kept_slots
-        payload_words header_words
-        payload_count header_count port (at_tie other).waiting [] (at_tie other).limit (behind_finding w buffer)
+        spelling port (at_tie other).waiting [] (at_tie other).limit (behind_finding w buffer)
         (λ at message there. inside_of message (inr (other, at, below, there))
         ((built.alone place number port listed found_port).waiting other below at message there).inside)
         (slots_apart (at_tie other).waiting (place * width) mail.once) (omega (arith, mail.few)) mail.small begun)
@@ -278,33 +277,33 @@ module _ {T U X Y D : Type 0} {F : X → Type 0} {G : Y → Type 0} (payload_wor
             k f waiting limit leaves is) (reader_findings reader) n (reader_leaves other below reader apart) both
 
     words : (at : ℕ) (own : PublisherPort T U) (message : Message T U)
-        → Each (LeavesBook place) (message_findings payload_words header_words payload_count header_count (at * width) own message)
+        → Each (LeavesBook place) (message_findings spelling (at * width) own message)
     words at own message =
-        each_word payload_words header_words payload_count header_count (LeavesBook place) (slot_in (at * width) message.slot)
+        each_word spelling (LeavesBook place) (slot_in (at * width) message.slot)
         own.owner.node_id own.number message.elements (message.sequence, message.user_header) message.values (refl, refl) (refl, refl)
         (refl, refl)
         (λ word below. (refl, refl)) (λ word below value there. (refl, refl))
 
     leave_other : (at : ℕ) (own : PublisherPort T U) → (at ≡ place → ⊥)
-        → Each (LeavesBook place) (history_findings payload_words header_words payload_count header_count at (at * width) own
+        → Each (LeavesBook place) (history_findings spelling at (at * width) own
         own.sender.uses.history)
         × Each (LeavesBook place) (flat_listed
-        (λ other. link_findings payload_words header_words payload_count header_count at other (at * width) own (tie own other))
+        (λ other. link_findings spelling at other (at * width) own (tie own other))
         (length subscribers))
     leave_other at own apart =
-        each_of payload_words header_words payload_count header_count (LeavesBook place) at (at * width) own (tie own) (length subscribers)
+        each_of spelling (LeavesBook place) at (at * width) own (tie own) (length subscribers)
         (λ k message is. words at own message) (λ reader below k message is. words at own message)
         (λ slot. (refl, ap (λ b. slot_if b slot) (not_same at place apart))) (λ reader slot. (refl, refl)) (λ reader messages. (refl, refl))
 
     links_leave : Each (LeavesBook place) (flat_listed
-        (λ other. link_findings payload_words header_words payload_count header_count place other (place * width) port (tie port other))
+        (λ other. link_findings spelling place other (place * width) port (tie port other))
         (length subscribers))
     links_leave = each_flat_listed (LeavesBook place)
-        (λ other. link_findings payload_words header_words payload_count header_count place other (place * width) port (tie port other))
+        (λ other. link_findings spelling place other (place * width) port (tie port other))
         (length subscribers)
         (λ other below. (
           (refl, refl),
-          each_waiting payload_words header_words payload_count header_count (LeavesBook place) place
+          each_waiting spelling (LeavesBook place) place
               (place * width) port other (connection_of (tie port other) port).waiting
               (λ k message is. words place port message) (λ slot. (refl, refl)),
         ))
@@ -312,7 +311,7 @@ module _ {T U X Y D : Type 0} {F : X → Type 0} {G : Y → Type 0} (payload_wor
     lay_one : (m : World) (reached : ℕ) (own : Option (PublisherPort T U)) → reached < length publishers
         → port_of (slice_index publishers reached) ports ≡ own
         → m.moments ≡ 0 → slice_get m.publishers reached ≡ slice_get (start (built.sized).sizes).publishers reached → IsBookedTo m reached
-        → IsBookedTo (publisher_behind payload_words header_words payload_count header_count domain.state.ports.subscribers subscribers
+        → IsBookedTo (publisher_behind spelling domain.state.ports.subscribers subscribers
         m reached
         (would_fail (kept_under (slice_index publishers reached) domain.state.publisher_handlers)) own) (suc reached)
     lay_one m reached None below is fresh rest sofar = record {
@@ -330,7 +329,7 @@ module _ {T U X Y D : Type 0} {F : X → Type 0} {G : Y → Type 0} (payload_wor
       ];
     }
     lay_one m reached (Some own) below is fresh rest sofar =
-        subst (λ n. IsBookedTo (messages_behind payload_words header_words payload_count header_count domain.state.ports.subscribers
+        subst (λ n. IsBookedTo (messages_behind spelling domain.state.ports.subscribers
         subscribers reached own n begun) (suc reached)) (sym first_is) (record {
           steady = steady_behind table (behind_findings begun kept) links (steady_behind table begun kept begun_steady);
           booked = λ less. elim (eqb_tells place reached) [
@@ -387,10 +386,10 @@ module _ {T U X Y D : Type 0} {F : X → Type 0} {G : Y → Type 0} (payload_wor
             (ap (λ b. number_if b (slots_in own)) (not_same reached place apart), refl) (sofar.booked less))
 
         kept : List Found
-        kept = history_findings payload_words header_words payload_count header_count reached (reached * width) own own.sender.uses.history
+        kept = history_findings spelling reached (reached * width) own own.sender.uses.history
 
         links : List Found
-        links = flat_listed (λ other. link_findings payload_words header_words payload_count header_count reached other (reached * width)
+        links = flat_listed (λ other. link_findings spelling reached other (reached * width)
             own (tie own other)) (length subscribers)
 
         same_port : place ≡ reached → own ≡ port
@@ -398,7 +397,7 @@ module _ {T U X Y D : Type 0} {F : X → Type 0} {G : Y → Type 0} (payload_wor
             (λ n. port_of n ports) (get_or_from_slice_get publishers place number 0 listed) ∙ found_port)
 
         Left : ℕ → PublisherPort T U → Type 0
-        Left at of_it = Booked (messages_behind payload_words header_words payload_count header_count domain.state.ports.subscribers
+        Left at of_it = Booked (messages_behind spelling domain.state.ports.subscribers
             subscribers at of_it (at * width) begun)
 
         whole : slots_in own ≡ own.sender.uses.first + own.sender.uses.size
@@ -423,11 +422,10 @@ module _ {T U X Y D : Type 0} {F : X → Type 0} {G : Y → Type 0} (payload_wor
           keeps = refl;
         }
 
-        history_booked : place ≡ reached → Booked (behind_findings begun (history_findings payload_words header_words payload_count
-            header_count place (place * width) port port.sender.uses.history))
+        history_booked : place ≡ reached → Booked (behind_findings begun (history_findings spelling place (place * width) port
+            port.sender.uses.history))
         history_booked same =
-            booked_history table place (place * width) size ((built.sized).sizes).history payload_words header_words
-            payload_count header_count port port.sender.uses.history [] begun
+            booked_history table place (place * width) size ((built.sized).sizes).history spelling port port.sender.uses.history [] begun
             (λ at message there. inside_of message (inl (at, there))
             ((built.alone place number port listed found_port).remembered at message there).inside)
             (slots_apart port.sender.uses.history (place * width) fit.once)
@@ -436,9 +434,9 @@ module _ {T U X Y D : Type 0} {F : X → Type 0} {G : Y → Type 0} (payload_wor
         own_booked : place ≡ reached → Left place port
         own_booked same =
             each_leaves (LeavesBook place) Booked (λ n f leave is. stays n f leave is)
-            (flat_listed (λ other. link_findings payload_words header_words payload_count header_count place other (place * width) port
+            (flat_listed (λ other. link_findings spelling place other (place * width) port
             (tie port other)) (length subscribers))
-            (behind_findings begun (history_findings payload_words header_words payload_count header_count place (place * width) port
+            (behind_findings begun (history_findings spelling place (place * width) port
             port.sender.uses.history)) links_leave (history_booked same)
 
         begun_linked : (other : ℕ) → other < length subscribers → (waiting : List ℕ) (limit : ℕ) → Linked other waiting limit m
@@ -457,13 +455,13 @@ module _ {T U X Y D : Type 0} {F : X → Type 0} {G : Y → Type 0} (payload_wor
             (linked_behind other beneath kept begun waiting limit leaves.0 linked)
 
         LeftAt : ℕ → ℕ → PublisherPort T U → Type 0
-        LeftAt other at of_it = Linked other (mail_slots other) (at_tie other).limit (messages_behind payload_words header_words
-            payload_count header_count domain.state.ports.subscribers subscribers at of_it (at * width) begun)
+        LeftAt other at of_it = Linked other (mail_slots other) (at_tie other).limit
+            (messages_behind spelling domain.state.ports.subscribers subscribers at of_it (at * width) begun)
 
         own_linked : (other : ℕ) → other < length subscribers → place ≡ reached → LeftAt other place port
         own_linked other beneath same =
             let linked = begun_linked other beneath [] ((built.sized).sizes).buffer (sofar.fresh other beneath (omega (arith, same))) in
-            let history = history_findings payload_words header_words payload_count header_count place (place * width) port
+            let history = history_findings spelling place (place * width) port
             port.sender.uses.history in
             let both : BothAt other beneath [] ((built.sized).sizes).buffer (behind_findings begun history) = (
               history_booked same,
@@ -496,7 +494,7 @@ module _ {T U X Y D : Type 0} {F : X → Type 0} {G : Y → Type 0} (payload_wor
         }
 
     lay_all : (reached : ℕ) → reached ≤ length publishers
-        → IsBookedTo (so_far payload_words header_words payload_count header_count domain publishers subscribers lanes built reached)
+        → IsBookedTo (so_far spelling domain publishers subscribers lanes built reached)
         reached
     lay_all zero few = record {
       steady = record {
@@ -509,9 +507,9 @@ module _ {T U X Y D : Type 0} {F : X → Type 0} {G : Y → Type 0} (payload_wor
       linked = λ other below less. absurd (omega (arith, less));
     }
     lay_all (suc reached) few =
-        let settled = settle payload_words header_words payload_count header_count domain publishers subscribers (built.sized).sizes
+        let settled = settle spelling domain publishers subscribers (built.sized).sizes
         ((built.sized).are_agreed).as_many_publishers built.room reached (omega (arith, few)) in
-        lay_one (so_far payload_words header_words payload_count header_count domain publishers subscribers lanes built reached) reached
+        lay_one (so_far spelling domain publishers subscribers lanes built reached) reached
         (port_of (slice_index publishers reached) ports) (omega (arith, few)) refl settled.moments (settled.rest reached (omega arith))
         (lay_all reached (omega (arith, few)))
 
@@ -521,7 +519,7 @@ module _ {T U X Y D : Type 0} {F : X → Type 0} {G : Y → Type 0} (payload_wor
         subst Booked (sym built.behind) (readers_leave Booked
         (λ m who one other is. booked_stays table place (place * width) size ((built.sized).sizes).history m (found.Swapped who one other)
         kept_slots (refl, refl) is) publishers domain.state.ports.subscribers subscribers
-        (so_far payload_words header_words payload_count header_count domain publishers subscribers lanes built (length publishers))
+        (so_far spelling domain publishers subscribers lanes built (length publishers))
         (length subscribers) (laid.booked within))
 
     ends_linked : (other : ℕ) → other < length subscribers → Linked other (mail_slots other) (at_tie other).limit lanes
@@ -531,7 +529,7 @@ module _ {T U X Y D : Type 0} {F : X → Type 0} {G : Y → Type 0} (payload_wor
         (readers_leave (Linked other (mail_slots other) (at_tie other).limit)
         (λ m who one two is. linked_stays (built.sized).sizes place other (of_sizes other below) m (found.Swapped who one two)
         (mail_slots other) (at_tie other).limit tt is) publishers domain.state.ports.subscribers subscribers
-        (so_far payload_words header_words payload_count header_count domain publishers subscribers lanes built (length publishers))
+        (so_far spelling domain publishers subscribers lanes built (length publishers))
         (length subscribers) (laid.linked other below within))
 
     -- what waits at its connections is what waits there in the domain
@@ -556,10 +554,9 @@ module _ {T U X Y D : Type 0} {F : X → Type 0} {G : Y → Type 0} (payload_wor
         (subst (λ first. AreSlotsOf first (ends_booked.lane).port.book.history port.sender.uses.history) (sym ends_booked.from)
         (slots_of_all (place * width) port.sender.uses.history (ends_booked.lane).port.book.history ends_booked.keeps))
 
-module _ {T U X Y Z : Type 0} {F : X → Type 0} {G : Y → Type 0} {H : Z → Type 0} (payload_words : T → List ℕ)
-    (header_words : Option ℕ × U → List ℕ) (payload_count header_count : ℕ)
+module _ {T U X Y Z : Type 0} {F : X → Type 0} {G : Y → Type 0} {H : Z → Type 0} (spelling : Spelling T U)
     (domain : Domain T U (Handlers X Y F G) (DegradationHandler Z H)) (publishers subscribers : List ℕ) (lanes : World)
-    (built : AreBuilt payload_words header_words payload_count header_count domain publishers subscribers lanes)
+    (built : AreBuilt spelling domain publishers subscribers lanes)
     (none : first_reason domain ≡ None)
     (numbered : publishers ≡ numbers_of (λ entry. entry.publisher) domain.state.ports.publisher_list.places)
     (read : subscribers ≡ numbers_of (λ entry. entry.subscriber) domain.state.ports.subscriber_list.places) where
@@ -583,7 +580,7 @@ module _ {T U X Y Z : Type 0} {F : X → Type 0} {G : Y → Type 0} {H : Z → T
       → port_of number domain.state.ports.publishers ≡ port → is_some port ≡ true → KeepsIf port (slice_get lanes.publishers place)
   keeps_by place number None listed found some = absurd (cc some)
   keeps_by place number (Some port) listed found some =
-      keeps_all payload_words header_words payload_count header_count domain publishers subscribers lanes built place number port listed
+      keeps_all spelling domain publishers subscribers lanes built place number port listed
       found (fits domain none number port found) (goes_on place number port listed found)
 
   -- each publisher's history is the domain's
@@ -606,7 +603,7 @@ module _ {T U X Y Z : Type 0} {F : X → Type 0} {G : Y → Type 0} {H : Z → T
       (slice_get lanes.links (place * length subscribers + other)))
       (sym (index_is domain none publishers subscribers indices numbered ties place other number (slice_index subscribers other) port
       listed found (slice_get-get_or subscribers other 0 below)))
-      (waits_all payload_words header_words payload_count header_count domain publishers subscribers lanes built place number port listed
+      (waits_all spelling domain publishers subscribers lanes built place number port listed
       found (fits domain none number port found) (goes_on place number port listed found) other below)
 
   -- and what waits at each connection

@@ -1,5 +1,5 @@
 -- Lanes that are built of a domain hold what it has.
-use Rattle.std.proofs.Common.{ℕ, ◌≡◌, List, None, Option}
+use Rattle.std.proofs.Common.{ℕ, ◌≡◌, List, None}
 use Rattle.iox_domain.specs.DomainValues.declared.degradation_handler.DegradationHandler.{DegradationHandler}
 use Rattle.iox_domain.specs.DomainValues.declared.handlers.Handlers.{Handlers}
 use Rattle.iox_domain.specs.declared.domain.Domain.{Domain}
@@ -7,6 +7,7 @@ use Rattle.iox_lanes_machine.specs.World.{World}
 use Rattle.iox_lanes_opening.specs.Refusals.{first_reason}
 use Rattle.iox_lanes.specs.Built.{AreBuilt}
 use Rattle.iox_lanes.specs.Holding.{numbers_of, LanesHold}
+use Rattle.iox_lanes.specs.Spelling.{Spelling}
 use Rattle.iox_lanes.specs.Tied.{AreTies}
 use Rattle.iox_lanes.proofs.Counting.{are_counted, leads_at}
 use Rattle.iox_lanes.proofs.Histories.{links_wait, senders_keep}
@@ -14,15 +15,14 @@ use Rattle.iox_lanes.proofs.Readers.{reader_holds}
 use Rattle.iox_lanes.proofs.Tied.{are_tied}
 use Rattle.iox_lanes.proofs.Whole.{link_whole, sender_whole}
 
-pub lanes_hold : {T U X Y Z : Type 0} {F : X → Type 0} {G : Y → Type 0} {H : Z → Type 0} (payload_words : T → List ℕ)
-    (header_words : Option ℕ × U → List ℕ) (payload_count header_count : ℕ)
+pub lanes_hold : {T U X Y Z : Type 0} {F : X → Type 0} {G : Y → Type 0} {H : Z → Type 0} (spelling : Spelling T U)
     (domain : Domain T U (Handlers X Y F G) (DegradationHandler Z H)) (publishers subscribers indices : List ℕ) (lanes : World)
-    → AreBuilt payload_words header_words payload_count header_count domain publishers subscribers lanes
+    → AreBuilt spelling domain publishers subscribers lanes
     → first_reason domain ≡ None → publishers ≡ numbers_of (λ entry. entry.publisher) domain.state.ports.publisher_list.places
     → subscribers ≡ numbers_of (λ entry. entry.subscriber) domain.state.ports.subscriber_list.places
     → AreTies domain.state.ports publishers subscribers indices
-    → LanesHold payload_words header_words payload_count header_count domain lanes publishers subscribers indices
-lanes_hold payload_words header_words payload_count header_count domain publishers subscribers indices lanes built none numbered read
+    → LanesHold spelling domain lanes publishers subscribers indices
+lanes_hold spelling domain publishers subscribers indices lanes built none numbered read
     ties =
     let counted = are_counted _ _ _ _ _ _ built.sized in
     record {
@@ -34,18 +34,18 @@ lanes_hold payload_words header_words payload_count header_count domain publishe
       publisher_count = counted.publisher_count;
       subscriber_count = counted.subscriber_count;
       link_count = counted.link_count;
-      sending = λ place below. sender_whole payload_words header_words payload_count header_count domain publishers subscribers lanes built
-          none place (senders_keep payload_words header_words payload_count header_count domain publishers subscribers lanes built none
+      sending = λ place below. sender_whole spelling domain publishers subscribers lanes built
+          none place (senders_keep spelling domain publishers subscribers lanes built none
           numbered read place below);
       linking = λ publisher subscriber below beneath.
-          link_whole payload_words header_words payload_count header_count domain publishers subscribers lanes built none indices
+          link_whole spelling domain publishers subscribers lanes built none indices
           publisher subscriber beneath read
-          (links_wait payload_words header_words payload_count header_count domain publishers subscribers lanes built none numbered read
+          (links_wait spelling domain publishers subscribers lanes built none numbered read
           indices ties publisher subscriber below beneath)
           (leads_at _ _ _ _ _ _ built.sized publisher subscriber beneath)
           (are_tied domain none publishers subscribers indices numbered ties publisher subscriber beneath);
       receiving = λ place below.
-          reader_holds payload_words header_words payload_count header_count domain publishers subscribers lanes built built.sized none
+          reader_holds spelling domain publishers subscribers lanes built built.sized none
           numbered
           read place below;
     }

@@ -16,9 +16,10 @@ use Rattle.iox_lanes_machine.specs.World.{World, publisher_stage, subscriber_sta
 use Rattle.iox_domain.specs.DomainPorts.declared.subscriber_port.SubscriberPort.{SubscriberPort}
 use Rattle.iox_lanes_machine.specs.LanesBase.Table.{TableWords}
 use Rattle.iox_lanes_machine.specs.Links.{LinkState}
-use Rattle.iox_lanes.specs.Holding.{port_if, IsLinkIf}
+use Rattle.iox_lanes.specs.Holding.{port_if, IsLinkIf, Leads}
 use Rattle.iox_lanes_opening.specs.Restored.{place_of}
 use Rattle.iox_lanes.specs.Joined.{place_if, row_of, HasSlotsIf, IsLinkToIf, IsJoined, JoinedStays}
+use Rattle.iox_lanes.specs.Spelling.{ReadingBack, Spelling}
 use Rattle.iox_lanes.specs.Tied.{IsTied}
 use Rattle.iox_lanes.specs.Returning.{AllRest, ArePortsLeft, IsLeftAt, IsPortLeftIf, JoinsAt}
 use Rattle.iox_lanes.proofs.PortsLeft.{first_is}
@@ -48,7 +49,7 @@ all_rest m between few connection = record {
 
 -- steps leave what is joined
 pub joined_stays : (T U : Type 0) → JoinedStays T U
-joined_stays T U payload_count header_count places before after ports senders readers indices joined stays = record {
+joined_stays T U spelling places before after ports senders readers indices joined stays = record {
   some = joined.some;
   payload = ap (λ sizes. sizes.payload_words) stays.sizes ∙ joined.payload;
   user_header = ap (λ sizes. sizes.user_header_words) stays.sizes ∙ joined.user_header;
@@ -66,11 +67,11 @@ joined_stays T U payload_count header_count places before after ports senders re
 }
 
 -- the publisher at a place joins
-pub joins_at : {T U : Type 0} (payload_count header_count places : ℕ) (lanes : World) (ports : List (ℕ × PublisherPort T U))
+pub joins_at : {T U : Type 0} (spelling : Spelling T U) (places : ℕ) (lanes : World) (ports : List (ℕ × PublisherPort T U))
     (senders : List ℕ) (readers : ℕ) (indices : List ℕ) (place number : ℕ)
-    → IsJoined payload_count header_count places lanes ports senders readers indices → place < length senders
+    → IsJoined spelling places lanes ports senders readers indices → place < length senders
     → slice_get senders place ≡ Some number → JoinsAt lanes (port_of number ports) place readers indices
-joins_at payload_count header_count places lanes ports senders readers indices place number joined below is = record {
+joins_at spelling places lanes ports senders readers indices place number joined below is = record {
   slots = subst (λ at. HasSlotsIf (port_if ports at) (slots_at lanes place)) is (joined.sending place below).slots;
   link_count = omega (arith, joined.link_count, row_fits place readers (length senders) readers below (omega arith));
   index_count = omega (arith, joined.index_count, row_fits place readers (length senders) readers below (omega arith));
@@ -81,30 +82,30 @@ joins_at payload_count header_count places lanes ports senders readers indices p
 }
 
 -- the publishers at the first places are as the lanes leave them, each other one is as it was
-pub record LeftSoFar {T U : Type 0} (value_of : List ℕ → T) (header_of : List ℕ → Option ℕ × U) (lanes : World) (senders : List ℕ)
+pub record LeftSoFar {T U : Type 0} (reading : ReadingBack T U) (lanes : World) (senders : List ℕ)
     (readers : ℕ)
     (indices : List ℕ) (start now : List (ℕ × PublisherPort T U)) (count : ℕ) : Type 0 where
   pub done : (number place : ℕ) → place_of number senders ≡ Some place → place < count
-      → IsPortLeftIf value_of header_of lanes (place * readers) (row_of readers indices place) (slice_get lanes.publishers place)
+      → IsPortLeftIf reading lanes (place * readers) (row_of readers indices place) (slice_get lanes.publishers place)
       (port_of number start) (port_of number now)
   pub rest : (number : ℕ) → ((place : ℕ) → place_of number senders ≡ Some place → count ≤ place) → port_of number now ≡ port_of number start
 
 one_place : (one other : ℕ) → Some one ≡ Some other → one ≡ other
 one_place one other same = cc same
 
-module _ {T U : Type 0} (value_of : List ℕ → T) (header_of : List ℕ → Option ℕ × U) (payload_count header_count places : ℕ) (lanes : World)
+module _ {T U : Type 0} (reading : ReadingBack T U) (spelling : Spelling T U) (places : ℕ) (lanes : World)
     (senders : List ℕ) (readers : ℕ) (indices : List ℕ) (start : List (ℕ × PublisherPort T U))
-    (joined : IsJoined payload_count header_count places lanes start senders readers indices) where
+    (joined : IsJoined spelling places lanes start senders readers indices) where
   abbrev Left : ℕ → Option (PublisherPort T U) → Option (PublisherPort T U) → Type 0
-  Left place old new = IsPortLeftIf value_of header_of lanes (place * readers) (row_of readers indices place)
+  Left place old new = IsPortLeftIf reading lanes (place * readers) (row_of readers indices place)
       (slice_get lanes.publishers place) old new
 
   pub one_left : (now next : List (ℕ × PublisherPort T U)) (count : ℕ) → count < length senders
-      → LeftSoFar value_of header_of lanes senders readers indices start now count
+      → LeftSoFar reading lanes senders readers indices start now count
       → ((other : ℕ) → (other ≡ get_or senders count 0 → ⊥) → port_of other next ≡ port_of other now)
       → (JoinsAt lanes (port_of (get_or senders count 0) now) count readers indices
       → Left count (port_of (get_or senders count 0) now) (port_of (get_or senders count 0) next))
-      → LeftSoFar value_of header_of lanes senders readers indices start next (count + 1)
+      → LeftSoFar reading lanes senders readers indices start next (count + 1)
   one_left now next count below so_far others this = record {
     done = λ number place is few. elim (eqb_tells place count) [
       | inl same ↦
@@ -138,10 +139,10 @@ module _ {T U : Type 0} (value_of : List ℕ → T) (header_of : List ℕ → Op
       mine : Left count (port_of n start) (port_of n next)
       mine = subst (λ port. Left count port (port_of n next)) untouched
           (this (subst (λ port. JoinsAt lanes port count readers indices) (sym untouched)
-          (joins_at payload_count header_count places lanes start senders readers indices count n joined below here)))
+          (joins_at spelling places lanes start senders readers indices count n joined below here)))
 
   -- before the first
-  pub none_left : LeftSoFar value_of header_of lanes senders readers indices start start 0
+  pub none_left : LeftSoFar reading lanes senders readers indices start start 0
   none_left = record {
     done = λ number place is few. absurd (omega (arith, few));
     rest = λ number beyond. refl;
@@ -149,34 +150,33 @@ module _ {T U : Type 0} (value_of : List ℕ → T) (header_of : List ℕ → Op
 
   -- behind the last
   pub all_left : (now : List (ℕ × PublisherPort T U)) (count : ℕ) → length senders ≤ count
-      → LeftSoFar value_of header_of lanes senders readers indices start now count
-      → ArePortsLeft value_of header_of lanes senders readers indices start now
+      → LeftSoFar reading lanes senders readers indices start now count
+      → ArePortsLeft reading lanes senders readers indices start now
   all_left now count past so_far number = by (place_of number senders) refl
     where
       by : (at : Option ℕ) → place_of number senders ≡ at
-          → IsLeftAt value_of header_of lanes readers indices at (port_of number start) (port_of number now)
+          → IsLeftAt reading lanes readers indices at (port_of number start) (port_of number now)
       by None is = so_far.rest number (λ place there. absurd (cc (sym is ∙ there)))
       by (Some place) is = so_far.done number place is (omega (arith, past, (first_is senders number place is).below))
 
 -- a link of lanes that hold what a domain has, whose index no connection of the publisher before it has joins
-pub joined_if : {T U : Type 0} (payload_words : T → List ℕ) (header_words : Option ℕ × U → List ℕ) (table : TableWords) (overflows : Bool)
+pub joined_if : {T U : Type 0} (spelling : Spelling T U) (table : TableWords) (overflows : Bool)
     (publisher subscriber : ℕ) (line : List ℕ) (port : Option (PublisherPort T U))
     (reader : Option SubscriberPort) (lane : Option PublisherLaneState) (index : Option ℕ) (link : Option LinkState) (number : ℕ)
-    → IsLinkIf payload_words header_words table overflows publisher subscriber port reader lane index link → IsTied port reader index
+    → Leads overflows publisher subscriber link → IsLinkIf spelling table port reader lane index link → IsTied port reader index
     → index ≡ Some number → place_of number line ≡ Some subscriber
     → IsLinkToIf port publisher subscriber line index link
-joined_if payload_words header_words table overflows publisher subscriber line None reader lane index link number is tied there alone = is
-joined_if payload_words header_words table overflows publisher subscriber line (Some port) None lane index link number is tied there
-    alone = absurd is
-joined_if payload_words header_words table overflows publisher subscriber line (Some port) (Some reader) None index link number is tied
-    there alone = absurd is
-joined_if payload_words header_words table overflows publisher subscriber line (Some port) (Some reader) (Some lane) None link number is
-    tied there alone = is
-joined_if payload_words header_words table overflows publisher subscriber line (Some port) (Some reader) (Some lane) (Some index) None
-    number is tied there alone = is
-joined_if payload_words header_words table overflows publisher subscriber line (Some port) (Some reader) (Some lane) (Some index)
-    (Some link) number is tied there alone = record {
-      from = is.from;
+joined_if spelling table overflows publisher subscriber line None reader lane index link number leads is tied there alone = is
+joined_if spelling table overflows publisher subscriber line (Some port) None lane index link number leads is tied there alone = absurd is
+joined_if spelling table overflows publisher subscriber line (Some port) (Some reader) None index link number leads is tied there alone
+    = absurd is
+joined_if spelling table overflows publisher subscriber line (Some port) (Some reader) (Some lane) None link number leads is tied there
+    alone = is
+joined_if spelling table overflows publisher subscriber line (Some port) (Some reader) (Some lane) (Some index) None number leads is tied
+    there alone = is
+joined_if spelling table overflows publisher subscriber line (Some port) (Some reader) (Some lane) (Some index) (Some link) number leads
+    is tied there alone = record {
+      from = leads.0;
       live = tied.1;
       limit = is.limit;
       alone = subst (λ (n : ℕ). place_of n line ≡ Some subscriber) (some_is number index (sym there)) alone;

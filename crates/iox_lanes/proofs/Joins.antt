@@ -14,23 +14,23 @@ use Rattle.iox_lanes_opening.specs.Refusals.{first_reason}
 use Rattle.iox_lanes.specs.Holding.{port_if, IsLaneIf, LanesHold}
 use Rattle.iox_lanes.specs.Joined.{HasSlotsIf, IsJoined, SenderJoins}
 use Rattle.iox_lanes.specs.Sized.{AreSized}
+use Rattle.iox_lanes.specs.Spelling.{Spelling}
 use Rattle.iox_lanes.specs.Tied.{AreTies}
 use Rattle.iox_lanes.proofs.Joint.{link_joins}
 use Rattle.iox_lanes.proofs.Presence.{rested}
 use Rattle.iox_lanes.proofs.Sound.{first_listed, fits, publishers_once, subscribers_once}
 
-module _ {T U X Y Z : Type 0} {F : X → Type 0} {G : Y → Type 0} {H : Z → Type 0} (payload_words : T → List ℕ)
-    (header_words : Option ℕ × U → List ℕ) (payload_count header_count : ℕ)
+module _ {T U X Y Z : Type 0} {F : X → Type 0} {G : Y → Type 0} {H : Z → Type 0} (spelling : Spelling T U)
     (domain : Domain T U (Handlers X Y F G) (DegradationHandler Z H)) (lanes : World) (publishers subscribers indices : List ℕ)
     (none : first_reason domain ≡ None)
-    (sized : AreSized domain.state.ports.sizes (length publishers) (length subscribers) payload_count header_count lanes)
-    (hold : LanesHold payload_words header_words payload_count header_count domain lanes publishers subscribers indices) where
+    (sized : AreSized domain.state.ports.sizes (length publishers) (length subscribers) spelling.payload_count spelling.middle_count lanes)
+    (hold : LanesHold spelling domain lanes publishers subscribers indices) where
   abbrev ports : List (ℕ × PublisherPort T U)
   ports = domain.state.ports.publishers
 
   slots_joined : (place number : ℕ) (port : Option (PublisherPort T U)) (lane : Option PublisherLaneState)
       → port_of number ports ≡ port → slice_get lanes.publishers place ≡ lane
-      → IsLaneIf payload_words header_words lanes.table port lane → HasSlotsIf port (option_map fixed_slots lane)
+      → IsLaneIf spelling lanes.table port lane → HasSlotsIf port (option_map fixed_slots lane)
   slots_joined place number None lane found there is = is
   slots_joined place number (Some port) None found there is = is
   slots_joined place number (Some port) (Some lane) found there is =
@@ -49,13 +49,13 @@ module _ {T U X Y Z : Type 0} {F : X → Type 0} {G : Y → Type 0} {H : Z → T
         slots = subst (λ at. HasSlotsIf (port_if ports at) (option_map fixed_slots (slice_get lanes.publishers place))) (sym listed)
             (slots_joined place (get_or publishers place 0) (port_of (get_or publishers place 0) ports)
             (slice_get lanes.publishers place) refl refl
-            (subst (λ at. IsLaneIf payload_words header_words lanes.table (port_if ports at) (slice_get lanes.publishers place)) listed
+            (subst (λ at. IsLaneIf spelling lanes.table (port_if ports at) (slice_get lanes.publishers place)) listed
             (hold.sending place below)));
         alone = first_listed publishers place (publishers_once domain none publishers hold.publishers) below;
       }
 
   pub are_joined : (places : ℕ) → 0 < places → AreTies domain.state.ports publishers subscribers indices
-      → IsJoined payload_count header_count places lanes ports publishers (length subscribers) indices
+      → IsJoined spelling places lanes ports publishers (length subscribers) indices
   are_joined places some ties = record {
     some = some;
     payload = hold.payload;
@@ -65,6 +65,6 @@ module _ {T U X Y Z : Type 0} {F : X → Type 0} {G : Y → Type 0} {H : Z → T
     index_count = ties.count;
     sending = sender_joins;
     linking = λ publisher below subscriber beneath.
-        link_joins payload_words header_words payload_count header_count domain lanes publishers subscribers indices none hold ties
+        link_joins spelling domain lanes publishers subscribers indices none hold ties
         (subscribers_once domain none subscribers hold.subscribers) publisher subscriber below beneath;
   }

@@ -13,16 +13,16 @@ use Rattle.iox_lanes_machine.specs.World.{World}
 use Rattle.iox_lanes_opening.specs.Refusals.{first_reason}
 use Rattle.iox_lanes.specs.Holding.{port_if, reader_if, LanesHold}
 use Rattle.iox_lanes.specs.Joined.{row_of, AreListedOnce, LinkJoins}
+use Rattle.iox_lanes.specs.Spelling.{Spelling}
 use Rattle.iox_lanes.specs.Tied.{tie_for, AreTies}
 use Rattle.iox_lanes.proofs.JoinedLanes.{joined_if}
 use Rattle.iox_lanes.proofs.Presence.{are_there, readers_there}
 use Rattle.iox_lanes.proofs.Tied.{alone_in_row, are_tied, index_is}
 
-module _ {T U X Y Z : Type 0} {F : X → Type 0} {G : Y → Type 0} {H : Z → Type 0} (payload_words : T → List ℕ)
-    (header_words : Option ℕ × U → List ℕ) (payload_count header_count : ℕ)
+module _ {T U X Y Z : Type 0} {F : X → Type 0} {G : Y → Type 0} {H : Z → Type 0} (spelling : Spelling T U)
     (domain : Domain T U (Handlers X Y F G) (DegradationHandler Z H)) (lanes : World) (publishers subscribers indices : List ℕ)
     (none : first_reason domain ≡ None)
-    (hold : LanesHold payload_words header_words payload_count header_count domain lanes publishers subscribers indices)
+    (hold : LanesHold spelling domain lanes publishers subscribers indices)
     (ties : AreTies domain.state.ports publishers subscribers indices) (once : AreListedOnce subscribers)
     (publisher subscriber : ℕ) (below : publisher < length publishers) (beneath : subscriber < length subscribers) where
   abbrev ports : ServicePorts T U
@@ -45,12 +45,12 @@ module _ {T U X Y Z : Type 0} {F : X → Type 0} {G : Y → Type 0} {H : Z → T
       → LinkJoins ports.publishers lanes publishers (length subscribers) indices publisher subscriber
   by_reader port None found read some = absurd (cc some)
   by_reader port (Some own) found read some =
-      joined_if payload_words header_words lanes.table ports.sizes.enable_safe_overflow publisher subscriber
+      joined_if spelling lanes.table ports.sizes.enable_safe_overflow publisher subscriber
       (row_of (length subscribers) indices publisher) (port_if ports.publishers (slice_get publishers publisher))
       (reader_if ports.subscribers (slice_get subscribers subscriber)) (slice_get lanes.publishers publisher)
       (slice_get indices (publisher * length subscribers + subscriber))
       (slice_get lanes.links (publisher * length subscribers + subscriber)) (tie_for port (Some own))
-      (hold.linking publisher subscriber below beneath)
+      (hold.linking publisher subscriber below beneath).0 (hold.linking publisher subscriber below beneath).1
       (are_tied domain none publishers subscribers indices hold.publishers ties publisher subscriber beneath)
       (index_is domain none publishers subscribers indices hold.publishers ties publisher subscriber number reader port listed found
       there ∙ ap (λ o. Some (tie_for port o)) read)

@@ -1,5 +1,5 @@
 -- Lanes behind what they found of publisher after publisher.
-use Rattle.std.proofs.Common.{ℕ, suc, ◌≡◌, ◌+◌, List, length, slice_get, slice_index, Some, sym, ap, ◌∙◌, arith, Option}
+use Rattle.std.proofs.Common.{ℕ, suc, ◌≡◌, ◌+◌, List, length, slice_get, slice_index, Some, sym, ap, ◌∙◌, arith}
 use Rattle.iox_domain.specs.DomainPorts.Publishers.{port_of}
 use Rattle.iox_domain.specs.DomainPorts.declared.publisher_port.PublisherPort.{PublisherPort}
 use Rattle.iox_domain.specs.DomainValues.declared.handlers.Handlers.{Handlers}
@@ -11,37 +11,36 @@ use Rattle.iox_lanes_opening.specs.Deciding.{would_fail}
 use Rattle.iox_lanes.specs.Behind.{behind_findings}
 use Rattle.iox_lanes.specs.Laid.{first_slot, flat_listed, history_findings, link_findings, messages_behind, publisher_behind}
 use Rattle.iox_lanes.specs.Laid.{publishers_behind, sender_behind}
+use Rattle.iox_lanes.specs.Spelling.{Spelling}
 use Rattle.iox_lanes.specs.Tied.{tie_for}
 
 -- one publisher more
-pub next_publisher : {T U X Y D : Type 0} {F : X → Type 0} {G : Y → Type 0} (payload_words : T → List ℕ)
-    (header_words : Option ℕ × U → List ℕ)
-    (payload_count header_count : ℕ)
+pub next_publisher : {T U X Y D : Type 0} {F : X → Type 0} {G : Y → Type 0} (spelling : Spelling T U)
     (domain : Domain T U (Handlers X Y F G) D) (publishers subscribers : List ℕ) (m now named kept after : World) (place first : ℕ)
     (port : PublisherPort T U)
     → port_of (slice_index publishers place) domain.state.ports.publishers ≡ Some port
-    → now ≡ publishers_behind payload_words header_words payload_count header_count domain publishers subscribers m place
+    → now ≡ publishers_behind spelling domain publishers subscribers m place
     → named ≡ sender_behind now place (would_fail (kept_under (slice_index publishers place) domain.state.publisher_handlers)) port
     → first ≡ first_slot (slice_get named.publishers place)
-    → kept ≡ behind_findings named (history_findings payload_words header_words payload_count header_count place first port
+    → kept ≡ behind_findings named (history_findings spelling place first port
     port.sender.uses.history)
     → after ≡ behind_findings kept (flat_listed
-    (λ other. link_findings payload_words header_words payload_count header_count place other first port
+    (λ other. link_findings spelling place other first port
     (tie_for port (subscriber_of (slice_index subscribers other) domain.state.ports.subscribers))) (length subscribers))
-    → after ≡ publishers_behind payload_words header_words payload_count header_count domain publishers subscribers m (place + 1)
-next_publisher payload_words header_words payload_count header_count domain publishers subscribers m now named kept after place first
+    → after ≡ publishers_behind spelling domain publishers subscribers m (place + 1)
+next_publisher spelling domain publishers subscribers m now named kept after place first
     port there sofar naming begins history links =
     let readers = domain.state.ports.subscribers in
     let fails = would_fail (kept_under (slice_index publishers place) domain.state.publisher_handlers) in
     let next : suc place ≡ place + 1 = omega arith in
     links
     ∙ ap (λ w. behind_findings w (flat_listed
-    (λ other. link_findings payload_words header_words payload_count header_count place other first port
+    (λ other. link_findings spelling place other first port
     (tie_for port (subscriber_of (slice_index subscribers other) readers))) (length subscribers))) history
-    ∙ ap (λ n. messages_behind payload_words header_words payload_count header_count readers subscribers place port n named) begins
-    ∙ ap (λ (w : World). messages_behind payload_words header_words payload_count header_count readers subscribers place port
+    ∙ ap (λ n. messages_behind spelling readers subscribers place port n named) begins
+    ∙ ap (λ (w : World). messages_behind spelling readers subscribers place port
     (first_slot (slice_get w.publishers place)) w) naming
-    ∙ ap (publisher_behind payload_words header_words payload_count header_count readers subscribers now place fails) (sym there)
-    ∙ ap (λ w. publisher_behind payload_words header_words payload_count header_count readers subscribers w place fails
+    ∙ ap (publisher_behind spelling readers subscribers now place fails) (sym there)
+    ∙ ap (λ w. publisher_behind spelling readers subscribers w place fails
     (port_of (slice_index publishers place) domain.state.ports.publishers)) sofar
-    ∙ ap (publishers_behind payload_words header_words payload_count header_count domain publishers subscribers m) next
+    ∙ ap (publishers_behind spelling domain publishers subscribers m) next

@@ -26,6 +26,7 @@ use Rattle.iox_lanes_machine.proofs.Ends.{some_is}
 use Rattle.iox_lanes_machine.proofs.Start.{listed_is, listed_length}
 use Rattle.iox_lanes.specs.Behind.{behind_findings, behind_finding}
 use Rattle.iox_lanes.specs.Laid.{message_findings, slot_in, waiting_findings}
+use Rattle.iox_lanes.specs.Spelling.{Spelling}
 use Rattle.iox_lanes.proofs.Apart.{not_same, AreApart}
 use Rattle.iox_lanes.proofs.Behind.{behind_both}
 use Rattle.iox_lanes.proofs.Booked.{booked_stays, itself, nil_behind, some_at, IsBooked, LeavesBook}
@@ -254,12 +255,12 @@ module _ (sizes : LaneSizes) (who other : ℕ) where
         linked_stays m f waiting limit leaves.1 both.1,
       )
 
-      module _ {T U : Type 0} (payload_words : T → List ℕ) (header_words : Option ℕ × U → List ℕ) (payload_count header_count : ℕ)
+      module _ {T U : Type 0} (spelling : Spelling T U)
           (port : PublisherPort T U) where
         words_leave : (message : Message T U)
-            → Each LeavesBoth (message_findings payload_words header_words payload_count header_count first port message)
+            → Each LeavesBoth (message_findings spelling first port message)
         words_leave message =
-            each_word payload_words header_words payload_count header_count LeavesBoth (slot_in first message.slot)
+            each_word spelling LeavesBoth (slot_in first message.slot)
             port.owner.node_id port.number message.elements (message.sequence, message.user_header) message.values ((refl, refl), tt)
             ((refl, refl), tt)
             ((refl, refl), tt) (λ word below. ((refl, refl), tt)) (λ word below value there. ((refl, refl), tt))
@@ -271,12 +272,12 @@ module _ (sizes : LaneSizes) (who other : ℕ) where
             → AreApart seen (map (λ message. first + message.slot) messages) → length seen + length messages ≤ limit
             → limit ≤ sizes.buffer → Both seen limit m
             → Both (seen ++ map (λ message. first + message.slot) messages) limit
-            (behind_findings m (waiting_findings payload_words header_words payload_count header_count who other first port messages))
+            (behind_findings m (waiting_findings spelling who other first port messages))
         unfolding behind_findings
         linked_waiting [] seen limit m inside apart room small both = subst (λ w. Both w limit m) (sym (nil_behind seen)) both
         linked_waiting (message ∷ rest) seen limit m inside apart room small both =
-            let words = message_findings payload_words header_words payload_count header_count first port message in
-            let later = waiting_findings payload_words header_words payload_count header_count who other first port rest in
+            let words = message_findings spelling first port message in
+            let later = waiting_findings spelling who other first port rest in
             let next = found.Waiting who other (slot_in first message.slot) in
             let slot : ℕ = first + message.slot in
             let here = inside zero message refl in

@@ -32,6 +32,7 @@ use Rattle.iox_lanes.specs.Built.{AreBuilt}
 use Rattle.iox_lanes.specs.Laid.{first_slot, flat_listed, header_findings, history_findings, link_findings, message_findings}
 use Rattle.iox_lanes.specs.Laid.{messages_behind, payload_findings, publisher_behind, sender_behind, slot_in, slots_in}
 use Rattle.iox_lanes.specs.Lying.{PayloadLies, WordsLie}
+use Rattle.iox_lanes.specs.Spelling.{Spelling}
 use Rattle.iox_lanes.specs.Tied.{tie_for}
 use Rattle.iox_lanes.proofs.Each.{each_of, each_word, in_flat, in_flat_listed, in_left, in_listed, in_right, readers_leave, Each, IsIn}
 use Rattle.iox_lanes.proofs.Saying.{counted, few_slots, found_at}
@@ -49,63 +50,63 @@ first_is words [] value there = absurd (cc there)
 first_is words (first ∷ rest) value there = ap words (sym (some_is first value there))
 
 -- what the slot of a message is to hold
-abbrev pub content_of : {T U : Type 0} → (T → List ℕ) → (Option ℕ × U → List ℕ) → PublisherPort T U → Message T U → SlotWord → ℕ
-content_of payload_words header_words port message (Header word)
+abbrev pub content_of : {T U : Type 0} → Spelling T U → PublisherPort T U → Message T U → SlotWord → ℕ
+content_of spelling port message (Header word)
     = slice_index (port.owner.node_id ∷ port.number ∷ message.elements ∷ []) word
-content_of payload_words header_words port message (UserHeader word) = slice_index (header_words (message.sequence, message.user_header))
+content_of spelling port message (UserHeader word) = slice_index (spelling.middle (message.sequence, message.user_header))
     word
-content_of payload_words header_words port message (Payload word) = slice_index (first_words payload_words message.values) word
+content_of spelling port message (Payload word) = slice_index (first_words spelling.payload message.values) word
 
-module _ {T U : Type 0} (payload_words : T → List ℕ) (header_words : Option ℕ × U → List ℕ) (payload_count header_count first : ℕ)
+module _ {T U : Type 0} (spelling : Spelling T U) (first : ℕ)
     (port : PublisherPort T U) where
   -- what is found of a message is that
   agree_own : (slot : ℕ) (message : Message T U)
-      → Each (Agrees slot (content_of payload_words header_words port message))
-      (message_findings payload_words header_words payload_count header_count first port message)
+      → Each (Agrees slot (content_of spelling port message))
+      (message_findings spelling first port message)
   agree_own slot message =
-      each_word payload_words header_words payload_count header_count (Agrees slot (content_of payload_words header_words port message))
+      each_word spelling (Agrees slot (content_of spelling port message))
       (slot_in first message.slot) port.owner.node_id port.number message.elements (message.sequence, message.user_header) message.values
       (λ same. refl) (λ same. refl) (λ same. refl) (λ word below same. refl)
-      (λ word below value there same. ap (λ words. slice_index words word) (first_is payload_words message.values value there))
+      (λ word below value there same. ap (λ words. slice_index words word) (first_is spelling.payload message.values value there))
 
   -- and that of one in another slot is no matter
   agree_apart : (slot : ℕ) (content : SlotWord → ℕ) (message : Message T U) → (slot_in first message.slot ≡ slot → ⊥)
-      → Each (Agrees slot content) (message_findings payload_words header_words payload_count header_count first port message)
+      → Each (Agrees slot content) (message_findings spelling first port message)
   agree_apart slot content message apart =
-      each_word payload_words header_words payload_count header_count (Agrees slot content) (slot_in first message.slot)
+      each_word spelling (Agrees slot content) (slot_in first message.slot)
       port.owner.node_id port.number message.elements (message.sequence, message.user_header) message.values
       (λ same. absurd (apart same)) (λ same. absurd (apart same)) (λ same. absurd (apart same)) (λ word below same. absurd (apart same))
       (λ word below value there same. absurd (apart same))
 
-  in_payload : (slot word : ℕ) (values : List T) (value : T) → slice_get values 0 ≡ Some value → word < payload_count
-      → IsIn (found.Held slot (Payload word) (slice_index (first_words payload_words values) word))
-      (payload_findings payload_words payload_count slot values)
+  in_payload : (slot word : ℕ) (values : List T) (value : T) → slice_get values 0 ≡ Some value → word < spelling.payload_count
+      → IsIn (found.Held slot (Payload word) (slice_index (first_words spelling.payload values) word))
+      (payload_findings spelling.payload spelling.payload_count slot values)
   in_payload slot word [] value there below = absurd (cc there)
   in_payload slot word (own ∷ rest) value there below
-      = in_listed (λ at. found.Held slot (Payload at) (slice_index (payload_words own) at)) payload_count word below
+      = in_listed (λ at. found.Held slot (Payload at) (slice_index (spelling.payload own) at)) spelling.payload_count word below
 
   -- each word of its slot is found
   in_message : (sizes : TableSizes) (message : Message T U) (value : T) (word : SlotWord) → slice_get message.values 0 ≡ Some value
-      → sizes.payload_words ≡ payload_count → sizes.user_header_words ≡ header_count → IsSlotWord sizes word
-      → IsIn (found.Held (slot_in first message.slot) word (content_of payload_words header_words port message word))
-      (message_findings payload_words header_words payload_count header_count first port message)
+      → sizes.payload_words ≡ spelling.payload_count → sizes.user_header_words ≡ spelling.middle_count → IsSlotWord sizes word
+      → IsIn (found.Held (slot_in first message.slot) word (content_of spelling port message word))
+      (message_findings spelling first port message)
   in_message sizes message value (Header zero) there payload header is = inl refl
   in_message sizes message value (Header (suc zero)) there payload header is = inr (inl refl)
   in_message sizes message value (Header (suc (suc zero))) there payload header is = inr (inr (inl refl))
   in_message sizes message value (Header (suc (suc (suc word)))) there payload header is = absurd (omega (arith, is))
   in_message sizes message value (UserHeader word) there payload header is =
       inr (inr (inr (in_left (found.Held (slot_in first message.slot) (UserHeader word)
-      (slice_index (header_words (message.sequence, message.user_header)) word))
-      (header_findings header_words header_count (slot_in first message.slot) (message.sequence, message.user_header))
-      (payload_findings payload_words payload_count (slot_in first message.slot) message.values)
+      (slice_index (spelling.middle (message.sequence, message.user_header)) word))
+      (header_findings spelling.middle spelling.middle_count (slot_in first message.slot) (message.sequence, message.user_header))
+      (payload_findings spelling.payload spelling.payload_count (slot_in first message.slot) message.values)
       (in_listed (λ at. found.Held (slot_in first message.slot) (UserHeader at)
-      (slice_index (header_words (message.sequence, message.user_header)) at))
-      header_count word (omega (arith, is, header))))))
+      (slice_index (spelling.middle (message.sequence, message.user_header)) at))
+      spelling.middle_count word (omega (arith, is, header))))))
   in_message sizes message value (Payload word) there payload header is =
       inr (inr (inr (in_right (found.Held (slot_in first message.slot) (Payload word)
-      (slice_index (first_words payload_words message.values) word))
-      (header_findings header_words header_count (slot_in first message.slot) (message.sequence, message.user_header))
-      (payload_findings payload_words payload_count (slot_in first message.slot) message.values)
+      (slice_index (first_words spelling.payload message.values) word))
+      (header_findings spelling.middle spelling.middle_count (slot_in first message.slot) (message.sequence, message.user_header))
+      (payload_findings spelling.payload spelling.payload_count (slot_in first message.slot) message.values)
       (in_payload (slot_in first message.slot) word message.values value there (omega (arith, is, payload))))))
 
 -- places in two rows are two places
@@ -118,10 +119,9 @@ unfolding behind_findings
 steady_behind sizes m [] steady = steady
 steady_behind sizes m (f ∷ fs) steady = steady_behind sizes (behind_finding m f) fs (steady_on sizes m f steady)
 
-module _ {T U X Y D : Type 0} {F : X → Type 0} {G : Y → Type 0} (payload_words : T → List ℕ) (header_words : Option ℕ × U → List ℕ)
-    (payload_count header_count : ℕ) (domain : Domain T U (Handlers X Y F G) D)
+module _ {T U X Y D : Type 0} {F : X → Type 0} {G : Y → Type 0} (spelling : Spelling T U) (domain : Domain T U (Handlers X Y F G) D)
     (publishers subscribers : List ℕ) (lanes : World)
-    (built : AreBuilt payload_words header_words payload_count header_count domain publishers subscribers lanes) where
+    (built : AreBuilt spelling domain publishers subscribers lanes) where
   abbrev pub width : ℕ
   width = ((built.sized).sizes).slots
 
@@ -136,7 +136,7 @@ module _ {T U X Y D : Type 0} {F : X → Type 0} {G : Y → Type 0} (payload_wor
 
   -- the lanes behind the first publishers, so many
   abbrev pub so_far : ℕ → World
-  so_far count = found_at payload_words header_words payload_count header_count domain publishers subscribers lanes built count
+  so_far count = found_at spelling domain publishers subscribers lanes built count
 
   -- a message is one that is laid: of the history, or it waits at a connection to a subscriber of the lanes
   abbrev pub IsLaidOf : PublisherPort T U → Message T U → Type 0
@@ -178,7 +178,7 @@ module _ {T U X Y D : Type 0} {F : X → Type 0} {G : Y → Type 0} (payload_wor
     slot = slot_in (place * width) message.slot
 
     abbrev content : SlotWord → ℕ
-    content = content_of payload_words header_words port message
+    content = content_of spelling port message
 
     within : place < length publishers
     within = slice_get_within publishers place number listed
@@ -189,10 +189,10 @@ module _ {T U X Y D : Type 0} {F : X → Type 0} {G : Y → Type 0} (payload_wor
     -- each message that is laid agrees with what the slot is to hold
     agree_any : (at other_number : ℕ) (own : PublisherPort T U) (other : Message T U) → slice_get publishers at ≡ Some other_number
         → port_of other_number ports ≡ Some own → IsLaidOf own other
-        → Each (Agrees slot content) (message_findings payload_words header_words payload_count header_count (at * width) own other)
+        → Each (Agrees slot content) (message_findings spelling (at * width) own other)
     agree_any at other_number own other there found other_laid = elim (eqb_tells at place) [
       | inl same_place ↦ by_slot same_place.1
-      | inr apart ↦ agree_apart payload_words header_words payload_count header_count (at * width) own slot content other
+      | inr apart ↦ agree_apart spelling (at * width) own slot content other
           (λ same. apart.1 (rows_apart at place width other.slot message.slot below
           (below_width place number port message listed found_port laid) (sym own_slot ∙ same ∙ slot_is)))
     ]
@@ -208,7 +208,7 @@ module _ {T U X Y D : Type 0} {F : X → Type 0} {G : Y → Type 0} (payload_wor
             (some_is other_number number (sym there ∙ ap (slice_get publishers) same ∙ listed)) ∙ found_port)
 
         by_slot : at ≡ place → Each (Agrees slot content)
-            (message_findings payload_words header_words payload_count header_count (at * width) own other)
+            (message_findings spelling (at * width) own other)
         by_slot same = elim (eqb_tells other.slot message.slot) [
           | inl equal ↦
               let alone = is_alone place number port message listed found_port laid in
@@ -216,23 +216,23 @@ module _ {T U X Y D : Type 0} {F : X → Type 0} {G : Y → Type 0} (payload_wor
               = subst (λ (p : PublisherPort T U). IsMessageOf p other) (same_port same) (is_of own other other_laid) in
               let is : message ≡ other = alone.only message other (is_of port message laid) of_port refl equal.1 in
               subst (λ (p : PublisherPort T U). Each (Agrees slot content)
-              (message_findings payload_words header_words payload_count header_count (at * width) p other)) (sym (same_port same))
+              (message_findings spelling (at * width) p other)) (sym (same_port same))
               (subst (λ (m : Message T U). Each (Agrees slot content)
-              (message_findings payload_words header_words payload_count header_count (at * width) port m)) is
-              (agree_own payload_words header_words payload_count header_count (at * width) port slot message))
-          | inr apart ↦ agree_apart payload_words header_words payload_count header_count (at * width) own slot content other
+              (message_findings spelling (at * width) port m)) is
+              (agree_own spelling (at * width) port slot message))
+          | inr apart ↦ agree_apart spelling (at * width) own slot content other
               (λ equal. apart.1 (omega (arith, sym own_slot ∙ equal ∙ slot_is, ap (λ n. n * width) same)))
         ]
 
     agree_all : (at other_number : ℕ) (own : PublisherPort T U) → slice_get publishers at ≡ Some other_number
         → port_of other_number ports ≡ Some own
-        → Each (Agrees slot content) (history_findings payload_words header_words payload_count header_count at (at * width) own
+        → Each (Agrees slot content) (history_findings spelling at (at * width) own
         own.sender.uses.history)
         × Each (Agrees slot content) (flat_listed
-        (λ other. link_findings payload_words header_words payload_count header_count at other (at * width) own (tie_at own other))
+        (λ other. link_findings spelling at other (at * width) own (tie_at own other))
         (length subscribers))
     agree_all at other_number own there found =
-        each_of payload_words header_words payload_count header_count (Agrees slot content) at (at * width) own (tie_at own)
+        each_of spelling (Agrees slot content) at (at * width) own (tie_at own)
         (length subscribers)
         (λ k other is. agree_any at other_number own other there found (inl (k, is)))
         (λ reader below k other is. agree_any at other_number own other there found (inr (reader, k, below, is)))
@@ -250,23 +250,23 @@ module _ {T U X Y D : Type 0} {F : X → Type 0} {G : Y → Type 0} (payload_wor
       Holds m = Hold table slot content word whole_word m
 
       in_words : IsIn (found.Held slot word (content word))
-          (message_findings payload_words header_words payload_count header_count (place * width) port message)
-      in_words = in_message payload_words header_words payload_count header_count (place * width) port table message value word
+          (message_findings spelling (place * width) port message)
+      in_words = in_message spelling (place * width) port table message value word
           (ap (λ vs. slice_get vs 0) one) ((built.sized).are_agreed).payload ((built.sized).are_agreed).user_header is_word
 
       -- the slot comes to hold it as its own publisher is laid
       comes_own : (m : World) → AreSteady table m
           → Holds (behind_findings (behind_findings m
-          (history_findings payload_words header_words payload_count header_count place (place * width) port port.sender.uses.history))
-          (flat_listed (λ other. link_findings payload_words header_words payload_count header_count place other (place * width) port
+          (history_findings spelling place (place * width) port port.sender.uses.history))
+          (flat_listed (λ other. link_findings spelling place other (place * width) port
           (tie_at port other)) (length subscribers)))
       comes_own m steady = by laid
         where
           kept : List Found
-          kept = history_findings payload_words header_words payload_count header_count place (place * width) port port.sender.uses.history
+          kept = history_findings spelling place (place * width) port port.sender.uses.history
 
           links : List Found
-          links = flat_listed (λ other. link_findings payload_words header_words payload_count header_count place other (place * width)
+          links = flat_listed (λ other. link_findings spelling place other (place * width)
               port (tie_at port other)) (length subscribers)
 
           agree : Each (Agrees slot content) kept × Each (Agrees slot content) links
@@ -277,23 +277,23 @@ module _ {T U X Y D : Type 0} {F : X → Type 0} {G : Y → Type 0} (payload_wor
               hold_behind table slot content word whole_word (behind_findings m kept) links agree.1
               (comes_behind table slot content word whole_word m kept
               (in_flat (found.Held slot word (content word))
-              (λ one. message_findings payload_words header_words payload_count header_count (place * width) port one
+              (λ one. message_findings spelling (place * width) port one
               ++ found.Newest place (slot_in (place * width) one.slot) ∷ [])
               port.sender.uses.history there.0 message there.1
               (in_left (found.Held slot word (content word))
-              (message_findings payload_words header_words payload_count header_count (place * width) port message)
+              (message_findings spelling (place * width) port message)
               (found.Newest place slot ∷ []) in_words)) agree.0 steady)
           by (inr waits) =
               comes_behind table slot content word whole_word (behind_findings m kept) links
               (in_flat_listed (found.Held slot word (content word))
-              (λ other. link_findings payload_words header_words payload_count header_count place other (place * width) port
+              (λ other. link_findings spelling place other (place * width) port
               (tie_at port other)) (length subscribers) waits.0 waits.2
               (inr (in_flat (found.Held slot word (content word))
-              (λ one. message_findings payload_words header_words payload_count header_count (place * width) port one
+              (λ one. message_findings spelling (place * width) port one
               ++ found.Waiting place waits.0 (slot_in (place * width) one.slot) ∷ [])
               (connection_of (tie_at port waits.0) port).waiting waits.1 message waits.3
               (in_left (found.Held slot word (content word))
-              (message_findings payload_words header_words payload_count header_count (place * width) port message)
+              (message_findings spelling (place * width) port message)
               (found.Waiting place waits.0 slot ∷ []) in_words)))) agree.1 (steady_behind table m kept steady)
 
       -- lanes behind the first publishers, so many: if the message's own is among them, its slot holds the word
@@ -304,7 +304,7 @@ module _ {T U X Y D : Type 0} {F : X → Type 0} {G : Y → Type 0} (payload_wor
       lay_one : (m : World) (count : ℕ) (own : Option (PublisherPort T U)) → count < length publishers
           → port_of (slice_index publishers count) ports ≡ own
           → m.moments ≡ 0 → slice_get m.publishers count ≡ slice_get (start (built.sized).sizes).publishers count → AreLaidTo m count
-          → AreLaidTo (publisher_behind payload_words header_words payload_count header_count domain.state.ports.subscribers subscribers
+          → AreLaidTo (publisher_behind spelling domain.state.ports.subscribers subscribers
           m count
           (would_fail (kept_under (slice_index publishers count) domain.state.publisher_handlers)) own) (suc count)
       lay_one m count None below is fresh rest sofar = record {
@@ -316,7 +316,7 @@ module _ {T U X Y D : Type 0} {F : X → Type 0} {G : Y → Type 0} (payload_wor
         ];
       }
       lay_one m count (Some own) below is fresh rest sofar =
-          subst (λ n. AreLaidTo (messages_behind payload_words header_words payload_count header_count domain.state.ports.subscribers
+          subst (λ n. AreLaidTo (messages_behind spelling domain.state.ports.subscribers
           subscribers count own n begun) (suc count)) (sym first_is) (record {
             steady = steady_behind table (behind_findings begun kept) links (steady_behind table begun kept begun_steady);
             holds = λ less. elim (eqb_tells place count) [
@@ -356,10 +356,10 @@ module _ {T U X Y D : Type 0} {F : X → Type 0} {G : Y → Type 0} (payload_wor
               (record { steady = sofar.steady; holds = sofar.holds less }))
 
           kept : List Found
-          kept = history_findings payload_words header_words payload_count header_count count (count * width) own own.sender.uses.history
+          kept = history_findings spelling count (count * width) own own.sender.uses.history
 
           links : List Found
-          links = flat_listed (λ other. link_findings payload_words header_words payload_count header_count count other (count * width)
+          links = flat_listed (λ other. link_findings spelling count other (count * width)
               own (tie_at own other)) (length subscribers)
 
           agree : Each (Agrees slot content) kept × Each (Agrees slot content) links
@@ -370,7 +370,7 @@ module _ {T U X Y D : Type 0} {F : X → Type 0} {G : Y → Type 0} (payload_wor
               (λ n. port_of n ports) (get_or_from_slice_get publishers place number 0 listed) ∙ found_port)
 
           Laid : ℕ → PublisherPort T U → Type 0
-          Laid at of_it = held_by (messages_behind payload_words header_words payload_count header_count domain.state.ports.subscribers
+          Laid at of_it = held_by (messages_behind spelling domain.state.ports.subscribers
               subscribers at of_it (at * width) begun).table (Slot slot word) ≡ content word
 
       lay_all : (count : ℕ) → count ≤ length publishers → AreLaidTo (so_far count) count
@@ -384,7 +384,7 @@ module _ {T U X Y D : Type 0} {F : X → Type 0} {G : Y → Type 0} (payload_wor
         holds = λ less. absurd (omega (arith, less));
       }
       lay_all (suc count) few =
-          let settled = settle payload_words header_words payload_count header_count domain publishers subscribers (built.sized).sizes
+          let settled = settle spelling domain publishers subscribers (built.sized).sizes
           ((built.sized).are_agreed).as_many_publishers built.room count (omega (arith, few)) in
           lay_one (so_far count) count (port_of (slice_index publishers count) ports) (omega (arith, few)) refl settled.moments
           (settled.rest count (omega arith)) (lay_all count (omega (arith, few)))
@@ -399,15 +399,13 @@ module _ {T U X Y D : Type 0} {F : X → Type 0} {G : Y → Type 0} (payload_wor
           (so_far (length publishers)) (length subscribers) (record { steady = laid.steady; holds = laid.holds within }))
 
     -- the message lies there
-    pub words_lie : WordsLie payload_words header_words lanes.table (place * width + message.slot) port.owner.node_id port.number
-        message.elements (message.sequence, message.user_header) message.values
+    pub words_lie : WordsLie spelling lanes.table (place * width + message.slot) port message
     words_lie =
         let sizes_are : lanes.table.sizes ≡ table = ((lies (Header 0) (omega arith)).steady).table in
-        subst (λ n. WordsLie payload_words header_words lanes.table n port.owner.node_id port.number message.elements
-        (message.sequence, message.user_header) message.values) slot_is (
+        subst (λ n. WordsLie spelling lanes.table n port message) slot_is (
           ((lies (Header 0) (omega arith)).holds, (lies (Header 1) (omega arith)).holds, (lies (Header 2) (omega arith)).holds),
           (λ word below. (lies (UserHeader word) (subst (λ s. word < s.user_header_words) sizes_are below)).holds),
-          subst (PayloadLies payload_words lanes.table slot) (sym one)
+          subst (PayloadLies spelling.payload lanes.table slot) (sym one)
               (λ word below. (lies (Payload word) (subst (λ s. word < s.payload_words) sizes_are below)).holds ∙ ap
-              (λ vs. slice_index (first_words payload_words vs) word) one),
+              (λ vs. slice_index (first_words spelling.payload vs) word) one),
         )

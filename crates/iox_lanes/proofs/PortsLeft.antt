@@ -20,6 +20,7 @@ use Rattle.iox_lanes_machine.specs.Owned.{IsSlotOf, MailIsOwn, MailHasRoom, Reme
 use Rattle.iox_lanes_machine.specs.World.{World}
 use Rattle.iox_lanes.specs.Joined.{HasSlotsIf, HasSlotsOf, IsLinkToIf, row_of}
 use Rattle.iox_lanes.specs.Returning.{AllRest, IsPortLeft, JoinsAt}
+use Rattle.iox_lanes.specs.Spelling.{ReadingBack}
 
 -- what lanes keep, so far as it is wanted here
 pub record LanesKeep (lanes : World) : Type 0 where
@@ -175,15 +176,16 @@ may_remember lanes place lane port keep rest found has = record {
     remembers = keep.histories (rest 0).few place lane found
 
 -- so a publisher that was restored is as the lanes leave it
-pub port_left : {T U : Type 0} (value_of : List ℕ → T) (header_of : List ℕ → Option ℕ × U) (lanes : World) (place readers : ℕ)
+pub port_left : {T U : Type 0} (reading : ReadingBack T U) (lanes : World) (place readers : ℕ)
     (indices : List ℕ)
     (lane : PublisherLaneState) (old new : PublisherPort T U)
     → LanesKeep lanes → AllRest lanes → slice_get lanes.publishers place ≡ Some lane → JoinsAt lanes (Some old) place readers indices
     → new ≡ record old { last_sequence = lane.last; sender = new.sender }
-    → (IsRested old.sender → IsRestored value_of header_of lanes (place * readers) (row_of readers indices place) lane.port.book.first
+    → (IsRested old.sender → IsRestored reading.payload reading.middle lanes (place * readers) (row_of readers indices place)
+    lane.port.book.first
     lane.port.book.history old.sender new.sender)
-    → IsPortLeft value_of header_of lanes (place * readers) (row_of readers indices place) lane old new
-port_left value_of header_of lanes place readers indices lane old new keep rest found joins only restored = record {
+    → IsPortLeft reading lanes (place * readers) (row_of readers indices place) lane old new
+port_left reading lanes place readers indices lane old new keep rest found joins only restored = record {
   rest = only ∙ ap (λ sender. record old { last_sequence = lane.last; sender = sender }) done.rest;
   count = done.count;
   each = λ index. done.each index ∙ ap (with_waiting (connection_of index old))
@@ -195,7 +197,7 @@ port_left value_of header_of lanes place readers indices lane old new keep rest 
     has : HasSlotsOf old (fixed_slots lane)
     has = subst (λ at. HasSlotsIf (Some old) (option_map fixed_slots at)) found joins.slots
 
-    done : IsRestored value_of header_of lanes (place * readers) (row_of readers indices place) lane.port.book.first
+    done : IsRestored reading.payload reading.middle lanes (place * readers) (row_of readers indices place) lane.port.book.first
         lane.port.book.history old.sender new.sender
     done = restored has.rested
 

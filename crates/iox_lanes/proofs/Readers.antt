@@ -45,6 +45,7 @@ use Rattle.iox_lanes.specs.Laid.{first_slot, flat_listed, history_findings, link
 use Rattle.iox_lanes.specs.Laid.{publisher_behind, sender_behind, slot_in, slots_in}
 use Rattle.iox_lanes.specs.Ordered.{keys_behind, reader_behind, readers_behind, swap_behind}
 use Rattle.iox_lanes.specs.Sized.{AreSized}
+use Rattle.iox_lanes.specs.Spelling.{Spelling}
 use Rattle.iox_lanes.specs.Tied.{tie_for}
 use Rattle.iox_lanes.proofs.Booked.{some_at}
 use Rattle.iox_lanes.proofs.Counting.{are_counted, leads_at}
@@ -95,11 +96,10 @@ none_got test [] at x none is = absurd (cc is)
 none_got test (y ∷ ys) zero x none is = ap test (sym is) ∙ (neither (test y) (list_any test ys) none).0
 none_got test (y ∷ ys) (suc at) x none is = none_got test ys at x (neither (test y) (list_any test ys) none).1 is
 
-module _ {T U X Y Z : Type 0} {F : X → Type 0} {G : Y → Type 0} {H : Z → Type 0} (payload_words : T → List ℕ)
-    (header_words : Option ℕ × U → List ℕ) (payload_count header_count : ℕ)
+module _ {T U X Y Z : Type 0} {F : X → Type 0} {G : Y → Type 0} {H : Z → Type 0} (spelling : Spelling T U)
     (domain : Domain T U (Handlers X Y F G) (DegradationHandler Z H)) (publishers subscribers : List ℕ) (lanes : World)
-    (built : AreBuilt payload_words header_words payload_count header_count domain publishers subscribers lanes)
-    (sized : AreSized domain.state.ports.sizes (length publishers) (length subscribers) payload_count header_count lanes)
+    (built : AreBuilt spelling domain publishers subscribers lanes)
+    (sized : AreSized domain.state.ports.sizes (length publishers) (length subscribers) spelling.payload_count spelling.middle_count lanes)
     (none : first_reason domain ≡ None)
     (numbered : publishers ≡ numbers_of (λ entry. entry.publisher) domain.state.ports.publisher_list.places)
     (read : subscribers ≡ numbers_of (λ entry. entry.subscriber) domain.state.ports.subscriber_list.places)
@@ -169,15 +169,15 @@ module _ {T U X Y Z : Type 0} {F : X → Type 0} {G : Y → Type 0} {H : Z → T
   list_routes fs m leave has = each_leaves LeavesOrder HasRoutes routes_on fs m leave has
 
   lay_one : (m : World) (place : ℕ) (fails : Bool) (own : Option (PublisherPort T U)) → HasRoutes m
-      → HasRoutes (publisher_behind payload_words header_words payload_count header_count domain.state.ports.subscribers subscribers
+      → HasRoutes (publisher_behind spelling domain.state.ports.subscribers subscribers
       m place fails own)
   lay_one m place fails None has = has
   lay_one m place fails (Some own) has =
-      list_routes (flat_listed (λ other. link_findings payload_words header_words payload_count header_count place other first own
+      list_routes (flat_listed (λ other. link_findings spelling place other first own
       (tie own other)) (length subscribers))
-      (behind_findings begun (history_findings payload_words header_words payload_count header_count place first own
+      (behind_findings begun (history_findings spelling place first own
       own.sender.uses.history)) leave.1
-      (list_routes (history_findings payload_words header_words payload_count header_count place first own own.sender.uses.history) begun
+      (list_routes (history_findings spelling place first own own.sender.uses.history) begun
       leave.0
       (routes_on (behind_finding m (found.Slots place (slots_in own) own.sender.uses.most_loans))
       (found.Sender place own.owner.node_id own.number fails own.last_sequence) tt
@@ -189,23 +189,23 @@ module _ {T U X Y Z : Type 0} {F : X → Type 0} {G : Y → Type 0} {H : Z → T
       first : ℕ
       first = first_slot (slice_get begun.publishers place)
 
-      leave : Each LeavesOrder (history_findings payload_words header_words payload_count header_count place first own
+      leave : Each LeavesOrder (history_findings spelling place first own
           own.sender.uses.history)
           × Each LeavesOrder (flat_listed
-          (λ other. link_findings payload_words header_words payload_count header_count place other first own (tie own other))
+          (λ other. link_findings spelling place other first own (tie own other))
           (length subscribers))
-      leave = each_of payload_words header_words payload_count header_count LeavesOrder place first own (tie own) (length subscribers)
-          (λ k message is. each_word payload_words header_words payload_count header_count LeavesOrder (slot_in first message.slot)
+      leave = each_of spelling LeavesOrder place first own (tie own) (length subscribers)
+          (λ k message is. each_word spelling LeavesOrder (slot_in first message.slot)
           own.owner.node_id own.number message.elements (message.sequence, message.user_header) message.values tt tt tt
           (λ word within. tt) (λ word within value there. tt))
-          (λ reader within k message is. each_word payload_words header_words payload_count header_count LeavesOrder
+          (λ reader within k message is. each_word spelling LeavesOrder
           (slot_in first message.slot) own.owner.node_id own.number message.elements (message.sequence, message.user_header)
           message.values tt tt tt
           (λ word within. tt) (λ word within value there. tt))
           (λ slot. tt) (λ reader slot. tt) (λ reader messages. tt)
 
   lay_all : (reached : ℕ)
-      → HasRoutes (so_far payload_words header_words payload_count header_count domain publishers subscribers lanes built reached)
+      → HasRoutes (so_far spelling domain publishers subscribers lanes built reached)
   lay_all zero = record {
     steady = record {
       moments = refl;
@@ -234,7 +234,7 @@ module _ {T U X Y Z : Type 0} {F : X → Type 0} {G : Y → Type 0} {H : Z → T
       );
     };
   }
-  lay_all (suc reached) = lay_one (so_far payload_words header_words payload_count header_count domain publishers subscribers lanes built
+  lay_all (suc reached) = lay_one (so_far spelling domain publishers subscribers lanes built
       reached) reached (would_fail (kept_under (slice_index publishers reached) domain.state.publisher_handlers))
       (port_of (slice_index publishers reached) ports) (lay_all reached)
 
@@ -354,7 +354,7 @@ module _ {T U X Y Z : Type 0} {F : X → Type 0} {G : Y → Type 0} {H : Z → T
         }
 
     abbrev base : World
-    base = so_far payload_words header_words payload_count header_count domain publishers subscribers lanes built (length publishers)
+    base = so_far spelling domain publishers subscribers lanes built (length publishers)
 
     same_links : lanes.links ≡ base.links
     same_links = ap (λ (w : World). w.links) built.behind

@@ -22,6 +22,7 @@ use Rattle.iox_lanes_opening.specs.Deciding.{would_fail}
 use Rattle.iox_lanes.specs.Built.{AreBuilt}
 use Rattle.iox_lanes.specs.Holding.{IsNamed, IsNamedIf}
 use Rattle.iox_lanes.specs.Laid.{slots_in}
+use Rattle.iox_lanes.specs.Spelling.{Spelling}
 use Rattle.iox_lanes.proofs.Each.{readers_leave}
 use Rattle.iox_lanes.proofs.Moving.{behind_by, swaps_of}
 use Rattle.iox_lanes.proofs.Settling.{introduced, lanes_at, said, says_if, seen_at, settle}
@@ -77,12 +78,11 @@ pub record IsTold {T U : Type 0} (sizes : LaneSizes) (place : ℕ) (port : Publi
   pub named : (at : ℕ) → IsNamedIf port (slice_get lane.heads at)
   pub last : lane.last ≡ port.last_sequence
 
-module _ {T U X Y D : Type 0} {F : X → Type 0} {G : Y → Type 0} (payload_words : T → List ℕ) (header_words : Option ℕ × U → List ℕ)
-    (payload_count header_count : ℕ) (domain : Domain T U (Handlers X Y F G) D)
+module _ {T U X Y D : Type 0} {F : X → Type 0} {G : Y → Type 0} (spelling : Spelling T U) (domain : Domain T U (Handlers X Y F G) D)
     (publishers subscribers : List ℕ) (lanes : World)
-    (built : AreBuilt payload_words header_words payload_count header_count domain publishers subscribers lanes) where
+    (built : AreBuilt spelling domain publishers subscribers lanes) where
   abbrev pub found_at : ℕ → World
-  found_at count = lanes_at payload_words header_words payload_count header_count domain publishers subscribers (built.sized).sizes
+  found_at count = lanes_at spelling domain publishers subscribers (built.sized).sizes
       ((built.sized).are_agreed).as_many_publishers built.room count
 
   orders_leave : lanes.publishers ≡ (found_at (length publishers)).publishers
@@ -120,7 +120,7 @@ module _ {T U X Y D : Type 0} {F : X → Type 0} {G : Y → Type 0} (payload_wor
       says : said lane ≡ said (introduced (built.sized).sizes place
           (would_fail (kept_under (slice_index publishers place) domain.state.publisher_handlers)) port)
       says =
-          let settled = settle payload_words header_words payload_count header_count domain publishers subscribers (built.sized).sizes
+          let settled = settle spelling domain publishers subscribers (built.sized).sizes
           ((built.sized).are_agreed).as_many_publishers built.room (length publishers) (omega arith) in
           let fails = would_fail (kept_under (slice_index publishers place) domain.state.publisher_handlers) in
           some_is (said lane) (said (introduced (built.sized).sizes place fails port))

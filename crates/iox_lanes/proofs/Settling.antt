@@ -29,6 +29,7 @@ use Rattle.iox_lanes.specs.Behind.{behind_findings, behind_finding}
 use Rattle.iox_lanes.specs.Laid.{first_slot, flat_listed, history_findings, link_findings, message_findings, messages_behind}
 use Rattle.iox_lanes.specs.Laid.{publisher_behind, publishers_behind, sender_behind, slot_in, slots_in}
 use Rattle.iox_lanes.specs.Built.{HaveSlots}
+use Rattle.iox_lanes.specs.Spelling.{Spelling}
 use Rattle.iox_lanes.specs.Tied.{tie_for}
 use Rattle.iox_lanes.proofs.Each.{each_leaves, each_of, each_word, Each}
 use Rattle.iox_lanes.proofs.Moving.{Moves, behind_by, behind_fits, others_same, seen_same, set_other, who_of}
@@ -101,30 +102,30 @@ stay_on who m n f of_it stay = behind_by (StaySaid who m) n f stay (λ fits. rec
       stay.others place apart;
 })
 
-module _ {T U : Type 0} (payload_words : T → List ℕ) (header_words : Option ℕ × U → List ℕ) (payload_count header_count place first : ℕ)
+module _ {T U : Type 0} (spelling : Spelling T U) (place first : ℕ)
     (port : PublisherPort T U) where
   words_of_message : (message : Message T U)
-      → Each (IsOfMessage place) (message_findings payload_words header_words payload_count header_count first port message)
+      → Each (IsOfMessage place) (message_findings spelling first port message)
   words_of_message message =
-      each_word payload_words header_words payload_count header_count (IsOfMessage place) (slot_in first message.slot)
+      each_word spelling (IsOfMessage place) (slot_in first message.slot)
       port.owner.node_id port.number message.elements (message.sequence, message.user_header) message.values tt tt tt
       (λ word below. tt) (λ word below value there. tt)
 
   -- the messages of a publisher leave what lanes say
   pub messages_stay : (readers : List (ℕ × SubscriberPort)) (subscribers : List ℕ) (m : World)
-      → StaySaid place m (messages_behind payload_words header_words payload_count header_count readers subscribers place port first m)
+      → StaySaid place m (messages_behind spelling readers subscribers place port first m)
   messages_stay readers subscribers m =
       let tie : ℕ → ℕ = λ other. tie_for port (subscriber_of (slice_index subscribers other) readers) in
-      let all = each_of payload_words header_words payload_count header_count (IsOfMessage place) place first port tie
+      let all = each_of spelling (IsOfMessage place) place first port tie
       (length subscribers) (λ at message there. words_of_message message)
       (λ other below at message there. words_of_message message) (λ slot. refl) (λ other slot. refl) (λ other messages. refl) in
-      let kept = behind_findings m (history_findings payload_words header_words payload_count header_count place first port
+      let kept = behind_findings m (history_findings spelling place first port
       port.sender.uses.history) in
       each_leaves (IsOfMessage place) (StaySaid place m) (λ n f of_it stay. stay_on place m n f of_it stay)
-      (flat_listed (λ other. link_findings payload_words header_words payload_count header_count place other first port (tie other))
+      (flat_listed (λ other. link_findings spelling place other first port (tie other))
       (length subscribers)) kept all.1
       (each_leaves (IsOfMessage place) (StaySaid place m) (λ n f of_it stay. stay_on place m n f of_it stay)
-      (history_findings payload_words header_words payload_count header_count place first port port.sender.uses.history) m all.0
+      (history_findings spelling place first port port.sender.uses.history) m all.0
       (record { moments = refl; says = refl; others = λ other apart. refl }))
 
 -- lanes behind a publisher's slots, loans, node and number
@@ -205,8 +206,7 @@ abbrev pub says_if : {T U : Type 0} → LaneSizes → ℕ → Bool → Option (P
 says_if sizes place fails None = said (publisher_at sizes place)
 says_if sizes place fails (Some port) = said (introduced sizes place fails port)
 
-module _ {T U X Y D : Type 0} {F : X → Type 0} {G : Y → Type 0} (payload_words : T → List ℕ) (header_words : Option ℕ × U → List ℕ)
-    (payload_count header_count : ℕ) (domain : Domain T U (Handlers X Y F G) D)
+module _ {T U X Y D : Type 0} {F : X → Type 0} {G : Y → Type 0} (spelling : Spelling T U) (domain : Domain T U (Handlers X Y F G) D)
     (publishers subscribers : List ℕ) (sizes : LaneSizes) (as_many : sizes.publishers ≡ length publishers)
     (room : HaveSlots domain.state.ports.publishers publishers sizes.slots) where
   abbrev ports : List (ℕ × PublisherPort T U)
@@ -217,7 +217,7 @@ module _ {T U X Y D : Type 0} {F : X → Type 0} {G : Y → Type 0} (payload_wor
 
   -- lanes behind the first so many publishers
   abbrev pub lanes_at : ℕ → World
-  lanes_at count = publishers_behind payload_words header_words payload_count header_count domain publishers subscribers (start sizes) count
+  lanes_at count = publishers_behind spelling domain publishers subscribers (start sizes) count
 
   -- what they say of these, and that each other publisher is as it was made
   pub record AreSettled (m : World) (count : ℕ) : Type 0 where
@@ -236,7 +236,7 @@ module _ {T U X Y D : Type 0} {F : X → Type 0} {G : Y → Type 0} (payload_wor
 
   settle_one : (m : World) (count : ℕ) (port : Option (PublisherPort T U)) → count < length publishers
       → port_of (slice_index publishers count) ports ≡ port → AreSettled m count
-      → AreSettled (publisher_behind payload_words header_words payload_count header_count domain.state.ports.subscribers subscribers m
+      → AreSettled (publisher_behind spelling domain.state.ports.subscribers subscribers m
       count (fails_at count) port) (suc count)
   settle_one m count None below is sofar = record {
     moments = sofar.moments;
@@ -253,9 +253,9 @@ module _ {T U X Y D : Type 0} {F : X → Type 0} {G : Y → Type 0} (payload_wor
       let there = sofar.rest count (omega arith) ∙ made_at count below in
       let begun = sender_behind m count (fails_at count) port in
       let intro = introduces sizes m count (fails_at count) port sofar.moments there (fits_in count port below is) in
-      let stay = messages_stay payload_words header_words payload_count header_count count
+      let stay = messages_stay spelling count
       (first_slot (slice_get begun.publishers count)) port domain.state.ports.subscribers subscribers begun in
-      let after = publisher_behind payload_words header_words payload_count header_count domain.state.ports.subscribers subscribers m
+      let after = publisher_behind spelling domain.state.ports.subscribers subscribers m
       count (fails_at count) (Some port) in
       record {
         moments = stay.moments ∙ intro.moments;

@@ -11,6 +11,7 @@ use Rattle.iox_lanes.specs.Alone.{KeepAlone}
 use Rattle.iox_lanes.specs.Laid.{publishers_behind, slots_in}
 use Rattle.iox_lanes.specs.Ordered.{readers_behind}
 use Rattle.iox_lanes.specs.Sized.{AreSized}
+use Rattle.iox_lanes.specs.Spelling.{Spelling}
 
 -- those of a publisher, if there is one; none has none
 abbrev pub slots_if : {T U : Type 0} → Option (PublisherPort T U) → ℕ
@@ -27,21 +28,19 @@ abbrev pub HaveSlots : {T U : Type 0} → List (ℕ × PublisherPort T U) → Li
 HaveSlots ports numbers most = (place : ℕ) → HasSlotsAt ports numbers most place
 
 -- lanes behind what they find of a domain: publisher by publisher, then in which order each subscriber goes over its connections
-abbrev pub domain_behind : {T U X Y D : Type 0} {F : X → Type 0} {G : Y → Type 0} → (T → List ℕ) → (Option ℕ × U → List ℕ) → ℕ → ℕ
+abbrev pub domain_behind : {T U X Y D : Type 0} {F : X → Type 0} {G : Y → Type 0} → Spelling T U
     → Domain T U (Handlers X Y F G) D → List ℕ → List ℕ → World → World
-domain_behind payload_words header_words payload_count header_count domain publishers subscribers m =
+domain_behind spelling domain publishers subscribers m =
     readers_behind publishers domain.state.ports.subscribers subscribers
-    (publishers_behind payload_words header_words payload_count header_count domain publishers subscribers m (length publishers))
+    (publishers_behind spelling domain publishers subscribers m (length publishers))
     (length subscribers)
 
 -- The lanes of a domain are those that are made of sizes as agreed, with as many slots for each publisher as any has, and behind all
 -- that they find of the domain; memory has room for their words, and each message that is laid was alone in its slot.
-pub record AreBuilt {T U X Y D : Type 0} {F : X → Type 0} {G : Y → Type 0} (payload_words : T → List ℕ) (header_words : Option ℕ × U
-    → List ℕ) (payload_count header_count : ℕ) (domain : Domain T U (Handlers X Y F G) D) (publishers subscribers : List ℕ)
-    (lanes : World) :
-    Type 0 where
-  pub sized : AreSized domain.state.ports.sizes (length publishers) (length subscribers) payload_count header_count lanes
+pub record AreBuilt {T U X Y D : Type 0} {F : X → Type 0} {G : Y → Type 0} (spelling : Spelling T U)
+    (domain : Domain T U (Handlers X Y F G) D) (publishers subscribers : List ℕ) (lanes : World) : Type 0 where
+  pub sized : AreSized domain.state.ports.sizes (length publishers) (length subscribers) spelling.payload_count spelling.middle_count lanes
   pub room : HaveSlots domain.state.ports.publishers publishers (sized.sizes).slots
   pub small : words_of (table_sizes sized.sizes) < 2 ^ 64
   pub alone : KeepAlone domain.state.ports publishers subscribers
-  pub behind : lanes ≡ domain_behind payload_words header_words payload_count header_count domain publishers subscribers (start sized.sizes)
+  pub behind : lanes ≡ domain_behind spelling domain publishers subscribers (start sized.sizes)

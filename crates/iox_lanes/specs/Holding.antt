@@ -18,6 +18,7 @@ use Rattle.iox_lanes_machine.specs.LanesBase.Table.{TableWords}
 use Rattle.iox_queues_steps.specs.declared.rings.ends.RingKind.{RingKind}
 use Rattle.iox_queues_steps.specs.declared.rings.ends.RingKind.TheVariants as kind
 use Rattle.iox_lanes.specs.Lying.{AreLaid, AreSlotsOf}
+use Rattle.iox_lanes.specs.Spelling.{Spelling}
 
 -- the numbers of the ports that are listed, in the order of their places
 abbrev pub numbers_of : {V : Type 0} → (V → ℕ) → List (Option (Member V)) → List ℕ
@@ -55,21 +56,19 @@ IsNamedIf port (Some head) = IsNamed port head
 
 -- A lane is that of a publisher: as many slots and loans, its history, headers of its node and number, and the same last number of a
 -- message.
-pub record IsLaneOf {T U : Type 0} (payload_words : T → List ℕ) (header_words : Option ℕ × U
-    → List ℕ) (table : TableWords) (port : PublisherPort T U) (lane : PublisherLaneState) : Type 0 where
+pub record IsLaneOf {T U : Type 0} (spelling : Spelling T U) (table : TableWords) (port : PublisherPort T U) (lane : PublisherLaneState)
+    : Type 0 where
   pub slots : length lane.port.book.loans ≡ port.sender.uses.first + port.sender.uses.size
   pub most_loans : lane.port.book.most_loans ≡ port.sender.uses.most_loans
-  pub history : AreLaid payload_words header_words table lane.port.book.first port lane.port.book.history port.sender.uses.history
+  pub history : AreLaid spelling table lane.port.book.first port lane.port.book.history port.sender.uses.history
   pub named : (at : ℕ) → IsNamedIf port (slice_get lane.heads at)
   pub last : lane.last ≡ port.last_sequence
 
 -- a lane, if there is one, is that of a publisher, if there is one; where one is wanting it isn't
-abbrev pub IsLaneIf : {T U : Type 0} → (T → List ℕ) → (Option ℕ × U → List ℕ) → TableWords → Option (PublisherPort T U) → Option
-    PublisherLaneState
-    → Type 0
-IsLaneIf payload_words header_words table None lane = ⊥
-IsLaneIf payload_words header_words table (Some port) None = ⊥
-IsLaneIf payload_words header_words table (Some port) (Some lane) = IsLaneOf payload_words header_words table port lane
+abbrev pub IsLaneIf : {T U : Type 0} → Spelling T U → TableWords → Option (PublisherPort T U) → Option PublisherLaneState → Type 0
+IsLaneIf spelling table None lane = ⊥
+IsLaneIf spelling table (Some port) None = ⊥
+IsLaneIf spelling table (Some port) (Some lane) = IsLaneOf spelling table port lane
 
 -- the slots of a lane's history, if there is one, are those of a publisher's, if there is one; where one is wanting they aren't
 abbrev pub KeepsIf : {T U : Type 0} → Option (PublisherPort T U) → Option PublisherLaneState → Type 0
@@ -83,39 +82,35 @@ SenderKeeps domain lanes publishers place =
     KeepsIf (port_if domain.state.ports.publishers (slice_get publishers place)) (slice_get lanes.publishers place)
 
 -- the publisher at a place of the lanes is the one of the domain that has the number of this place
-abbrev pub SenderHolds : {T U B D : Type 0} → (T → List ℕ) → (Option ℕ × U → List ℕ) → Domain T U B D → World → List ℕ → ℕ → Type 0
-SenderHolds payload_words header_words domain lanes publishers place =
-    IsLaneIf payload_words header_words lanes.table (port_if domain.state.ports.publishers (slice_get publishers place))
+abbrev pub SenderHolds : {T U B D : Type 0} → Spelling T U → Domain T U B D → World → List ℕ → ℕ → Type 0
+SenderHolds spelling domain lanes publishers place =
+    IsLaneIf spelling lanes.table (port_if domain.state.ports.publishers (slice_get publishers place))
     (slice_get lanes.publishers place)
 
--- A link is a connection of a publisher to a subscriber, the one that its messages for the subscriber's place go to: it leads
--- from the one's place to the other's, as many may wait, and the same messages do.
-pub record IsLinkOf {T U : Type 0} (payload_words : T → List ℕ) (header_words : Option ℕ × U → List ℕ) (table : TableWords)
-    (overflows : Bool)
-    (port : PublisherPort T U) (reader : SubscriberPort) (first index publisher subscriber : ℕ) (link : LinkState) : Type 0 where
-  pub from : link.publisher ≡ publisher
-  pub to : link.subscriber ≡ subscriber
+-- A link is a connection of a publisher to a subscriber, the one that its messages for the subscriber's place go to: as many may wait,
+-- and the same messages do.
+pub record IsLinkOf {T U : Type 0} (spelling : Spelling T U) (table : TableWords) (port : PublisherPort T U) (reader : SubscriberPort)
+    (first index : ℕ) (link : LinkState) : Type 0 where
   pub tie : get_or port.ties.items reader.place None ≡ Some index
-  pub kind : link.kind ≡ kind_of overflows
   pub limit : link.limit ≡ (connection_of index port).limit
-  pub waiting : AreLaid payload_words header_words table first port link.found (connection_of index port).waiting
+  pub waiting : AreLaid spelling table first port link.found (connection_of index port).waiting
+
+-- the same of a link, a lane, an index and ports that may be wanting; where one is it isn't so
+abbrev pub IsLinkIf : {T U : Type 0} → Spelling T U → TableWords → Option (PublisherPort T U) → Option SubscriberPort
+    → Option PublisherLaneState → Option ℕ → Option LinkState → Type 0
+IsLinkIf spelling table None reader lane index link = ⊥
+IsLinkIf spelling table (Some port) None lane index link = ⊥
+IsLinkIf spelling table (Some port) (Some reader) None index link = ⊥
+IsLinkIf spelling table (Some port) (Some reader) (Some lane) None link = ⊥
+IsLinkIf spelling table (Some port) (Some reader) (Some lane) (Some index) None = ⊥
+IsLinkIf spelling table (Some port) (Some reader) (Some lane) (Some index) (Some link) =
+    IsLinkOf spelling table port reader lane.port.book.first index link
 
 -- a link, if there is one, leads from this place to the other, and its full ring does with one more what this says
 abbrev pub Leads : Bool → ℕ → ℕ → Option LinkState → Type 0
 Leads overflows publisher subscriber None = Unit {0}
 Leads overflows publisher subscriber (Some link) =
     (link.publisher ≡ publisher) × (link.subscriber ≡ subscriber) × (link.kind ≡ kind_of overflows)
-
--- the same of a link, a lane, an index and ports that may be wanting; where one is it isn't so
-abbrev pub IsLinkIf : {T U : Type 0} → (T → List ℕ) → (Option ℕ × U → List ℕ) → TableWords → Bool → ℕ → ℕ → Option (PublisherPort T U)
-    → Option SubscriberPort → Option PublisherLaneState → Option ℕ → Option LinkState → Type 0
-IsLinkIf payload_words header_words table overflows publisher subscriber None reader lane index link = ⊥
-IsLinkIf payload_words header_words table overflows publisher subscriber (Some port) None lane index link = ⊥
-IsLinkIf payload_words header_words table overflows publisher subscriber (Some port) (Some reader) None index link = ⊥
-IsLinkIf payload_words header_words table overflows publisher subscriber (Some port) (Some reader) (Some lane) None link = ⊥
-IsLinkIf payload_words header_words table overflows publisher subscriber (Some port) (Some reader) (Some lane) (Some index) None = ⊥
-IsLinkIf payload_words header_words table overflows publisher subscriber (Some port) (Some reader) (Some lane) (Some index) (Some link) =
-    IsLinkOf payload_words header_words table overflows port reader lane.port.book.first index publisher subscriber link
 
 -- as many may wait at a link as at the connection of an index of a publisher, and the slots of those that do are the same; where one of
 -- these is wanting they aren't
@@ -134,13 +129,13 @@ LinkWaits domain lanes publishers subscribers connections publisher subscriber =
     (slice_get connections (publisher * length subscribers + subscriber))
     (slice_get lanes.links (publisher * length subscribers + subscriber))
 
--- the connection of the lanes between a publisher and a subscriber, at these places, is that of the domain; it has the number of
--- its place, publisher by publisher
-abbrev pub LinkHolds : {T U B D : Type 0} → (T → List ℕ) → (Option ℕ × U → List ℕ) → Domain T U B D → World → List ℕ → List ℕ → List ℕ →
-    ℕ → ℕ → Type 0
-LinkHolds payload_words header_words domain lanes publishers subscribers connections publisher subscriber =
-    IsLinkIf payload_words header_words lanes.table domain.state.ports.sizes.enable_safe_overflow publisher subscriber
-    (port_if domain.state.ports.publishers (slice_get publishers publisher))
+-- the connection of the lanes between a publisher and a subscriber, at these two places, leads from the one to the other and is that of
+-- the domain; it has the number of its place, publisher by publisher
+abbrev pub LinkHolds : {T U B D : Type 0} → Spelling T U → Domain T U B D → World → List ℕ → List ℕ → List ℕ → ℕ × ℕ → Type 0
+LinkHolds spelling domain lanes publishers subscribers connections (publisher, subscriber) =
+    Leads domain.state.ports.sizes.enable_safe_overflow publisher subscriber
+    (slice_get lanes.links (publisher * length subscribers + subscriber))
+    × IsLinkIf spelling lanes.table (port_if domain.state.ports.publishers (slice_get publishers publisher))
     (reader_if domain.state.ports.subscribers (slice_get subscribers subscriber))
     (slice_get lanes.publishers publisher) (slice_get connections (publisher * length subscribers + subscriber))
     (slice_get lanes.links (publisher * length subscribers + subscriber))
@@ -181,17 +176,17 @@ ReaderHolds domain lanes publishers subscribers place =
     (slice_get lanes.subscribers place)
 
 -- Lanes hold what a domain has: before their first step, its publishers and subscribers by their places, with their connections.
-pub record LanesHold {T U B D : Type 0} (payload_words : T → List ℕ) (header_words : Option ℕ × U
-    → List ℕ) (payload_count header_count : ℕ) (domain : Domain T U B D) (lanes : World) (senders readers indices : List ℕ) : Type 0 where
+pub record LanesHold {T U B D : Type 0} (spelling : Spelling T U) (domain : Domain T U B D) (lanes : World)
+    (senders readers indices : List ℕ) : Type 0 where
   pub moments : lanes.moments ≡ 0
-  pub payload : lanes.table.sizes.payload_words ≡ payload_count
-  pub user_header : lanes.table.sizes.user_header_words ≡ header_count
+  pub payload : lanes.table.sizes.payload_words ≡ spelling.payload_count
+  pub user_header : lanes.table.sizes.user_header_words ≡ spelling.middle_count
   pub publishers : senders ≡ numbers_of (λ entry. entry.publisher) domain.state.ports.publisher_list.places
   pub subscribers : readers ≡ numbers_of (λ entry. entry.subscriber) domain.state.ports.subscriber_list.places
   pub publisher_count : length lanes.publishers ≡ length senders
   pub subscriber_count : length lanes.subscribers ≡ length readers
   pub link_count : length lanes.links ≡ length senders * length readers
-  pub sending : (place : ℕ) → place < length senders → SenderHolds payload_words header_words domain lanes senders place
+  pub sending : (place : ℕ) → place < length senders → SenderHolds spelling domain lanes senders place
   pub linking : (publisher subscriber : ℕ) → publisher < length senders → subscriber < length readers
-      → LinkHolds payload_words header_words domain lanes senders readers indices publisher subscriber
+      → LinkHolds spelling domain lanes senders readers indices (publisher, subscriber)
   pub receiving : (place : ℕ) → place < length readers → ReaderHolds domain lanes senders readers place

@@ -8,6 +8,7 @@ use Rattle.iox_lanes_machine.specs.Fixed.{FixedSlots, StaysFixed, slots_at}
 use Rattle.iox_lanes_machine.specs.Links.{LinkState}
 use Rattle.iox_lanes_machine.specs.World.{World}
 use Rattle.iox_lanes.specs.Holding.{port_if}
+use Rattle.iox_lanes.specs.Spelling.{Spelling}
 
 -- of a list with a row of so many for each publisher, the row of the one at a place
 abbrev pub row_of : ℕ → List ℕ → ℕ → List ℕ
@@ -64,11 +65,11 @@ LinkJoins ports lanes senders readers indices publisher subscriber =
 
 -- Lanes go with the publishers of a domain: as many words for its values, its publishers by their places, and for each of them a
 -- connection to each of so many subscribers; and there is a place for one value.
-pub record IsJoined {T U : Type 0} (payload_count header_count places : ℕ) (lanes : World) (ports : List (ℕ
-    × PublisherPort T U)) (senders : List ℕ) (readers : ℕ) (indices : List ℕ) : Type 0 where
+pub record IsJoined {T U : Type 0} (spelling : Spelling T U) (places : ℕ) (lanes : World) (ports : List (ℕ × PublisherPort T U))
+    (senders : List ℕ) (readers : ℕ) (indices : List ℕ) : Type 0 where
   pub some : 0 < places
-  pub payload : lanes.table.sizes.payload_words ≡ payload_count
-  pub user_header : lanes.table.sizes.user_header_words ≡ header_count
+  pub payload : lanes.table.sizes.payload_words ≡ spelling.payload_count
+  pub user_header : lanes.table.sizes.user_header_words ≡ spelling.middle_count
   pub publisher_count : length lanes.publishers ≡ length senders
   pub link_count : length lanes.links ≡ length senders * readers
   pub index_count : length indices ≡ length senders * readers
@@ -78,7 +79,6 @@ pub record IsJoined {T U : Type 0} (payload_count header_count places : ℕ) (la
 
 -- steps keep it
 abbrev pub JoinedStays : (T U : Type 0) → Type 0
-JoinedStays T U = (payload_count header_count places : ℕ) (before after : World) (ports : List (ℕ
-    × PublisherPort T U)) (senders : List ℕ) (readers : ℕ) (indices : List ℕ)
-    → IsJoined payload_count header_count places before ports senders readers indices → StaysFixed before after
-    → IsJoined payload_count header_count places after ports senders readers indices
+JoinedStays T U = (spelling : Spelling T U) (places : ℕ) (before after : World) (ports : List (ℕ × PublisherPort T U)) (senders : List ℕ)
+    (readers : ℕ) (indices : List ℕ) → IsJoined spelling places before ports senders readers indices → StaysFixed before after
+    → IsJoined spelling places after ports senders readers indices

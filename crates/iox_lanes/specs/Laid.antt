@@ -18,6 +18,7 @@ use Rattle.iox_lanes_machine.specs.declared.found.Found.{Found}
 use Rattle.iox_lanes_machine.specs.declared.found.Found.TheVariants as found
 use Rattle.iox_lanes_opening.specs.Deciding.{would_fail}
 use Rattle.iox_lanes.specs.Behind.{behind_findings, behind_finding}
+use Rattle.iox_lanes.specs.Spelling.{Spelling}
 use Rattle.iox_lanes.specs.Tied.{tie_for}
 
 -- the number that a slot of a publisher has in the lanes, where the publisher's slots begin at this one; at most the largest number
@@ -38,41 +39,38 @@ abbrev pub payload_findings : {T : Type 0} → (T → List ℕ) → ℕ → ℕ 
 payload_findings words count slot [] = []
 payload_findings words count slot (value ∷ rest) = value_findings words count slot value
 
--- that a slot has the words of a header, a user header and a payload
-abbrev pub words_findings : {T U : Type 0} → (T → List ℕ) → (U → List ℕ) → ℕ → ℕ → ℕ → ℕ → ℕ → ℕ → U → List T → List Found
-words_findings payload_words header_words payload_count header_count slot node number elements user_header values =
+-- that a slot has the words of a header, of a number and a user header, and of a payload
+abbrev pub words_findings : {T U : Type 0} → Spelling T U → ℕ → ℕ → ℕ → ℕ → Option ℕ × U → List T → List Found
+words_findings spelling slot node number elements user_header values =
     found.Held slot (Header 0) node ∷ found.Held slot (Header 1) number ∷ found.Held slot (Header 2) elements
-    ∷ (header_findings header_words header_count slot user_header ++ payload_findings payload_words payload_count slot values)
+    ∷ (header_findings spelling.middle spelling.middle_count slot user_header
+    ++ payload_findings spelling.payload spelling.payload_count slot values)
 
 -- that the words of a message of a publisher are in its slot, where the publisher's slots begin at this one
-abbrev pub message_findings : {T U : Type 0} → (T → List ℕ) → (Option ℕ × U → List ℕ) → ℕ → ℕ → ℕ → PublisherPort T U → Message T U →
-    List Found
-message_findings payload_words header_words payload_count header_count first port message =
-    words_findings payload_words header_words payload_count header_count (slot_in first message.slot) port.owner.node_id port.number
+abbrev pub message_findings : {T U : Type 0} → Spelling T U → ℕ → PublisherPort T U → Message T U → List Found
+message_findings spelling first port message =
+    words_findings spelling (slot_in first message.slot) port.owner.node_id port.number
     message.elements (message.sequence, message.user_header) message.values
 
 -- that these are the messages of the history of the publisher at a place, oldest first: of each its words, and that it is the newest then
-abbrev pub history_findings : {T U : Type 0} → (T → List ℕ) → (Option ℕ × U → List ℕ) → ℕ → ℕ → ℕ → ℕ → PublisherPort T U → List
-    (Message T U)
-    → List Found
-history_findings payload_words header_words payload_count header_count place first port messages =
-    flat_map (λ message. message_findings payload_words header_words payload_count header_count first port message
+abbrev pub history_findings : {T U : Type 0} → Spelling T U → ℕ → ℕ → PublisherPort T U → List (Message T U) → List Found
+history_findings spelling place first port messages =
+    flat_map (λ message. message_findings spelling first port message
     ++ found.Newest place (slot_in first message.slot) ∷ []) messages
 
 -- that these messages wait at the connection of the publisher at a place to the subscriber at another, oldest first: of each its words,
 -- and that it waits behind those before it
-abbrev pub waiting_findings : {T U : Type 0} → (T → List ℕ) → (Option ℕ × U → List ℕ) → ℕ → ℕ → ℕ → ℕ → ℕ → PublisherPort T U
-    → List (Message T U) → List Found
-waiting_findings payload_words header_words payload_count header_count place other first port messages =
-    flat_map (λ message. message_findings payload_words header_words payload_count header_count first port message
+abbrev pub waiting_findings : {T U : Type 0} → Spelling T U → ℕ → ℕ → ℕ → PublisherPort T U → List (Message T U) → List Found
+waiting_findings spelling place other first port messages =
+    flat_map (λ message. message_findings spelling first port message
     ++ found.Waiting place other (slot_in first message.slot) ∷ []) messages
 
 -- that as many may wait at the connection of the publisher at a place to the subscriber at another as at the one of this index in the
 -- domain, and that the messages do that wait there
-abbrev pub link_findings : {T U : Type 0} → (T → List ℕ) → (Option ℕ × U → List ℕ) → ℕ → ℕ → ℕ → ℕ → ℕ → PublisherPort T U → ℕ → List Found
-link_findings payload_words header_words payload_count header_count place other first port index =
+abbrev pub link_findings : {T U : Type 0} → Spelling T U → ℕ → ℕ → ℕ → PublisherPort T U → ℕ → List Found
+link_findings spelling place other first port index =
     found.Buffer place other (connection_of index port).limit
-    ∷ waiting_findings payload_words header_words payload_count header_count place other first port (connection_of index port).waiting
+    ∷ waiting_findings spelling place other first port (connection_of index port).waiting
 
 -- the lists at 0, 1 and so on, so many of them, one behind the other
 abbrev pub flat_listed : {X : Type 0} → (ℕ → List X) → ℕ → List X
@@ -97,29 +95,27 @@ sender_behind m place fails port =
 
 -- and behind the messages of its history, and those at its connections to the subscribers of these numbers, where its slots begin at
 -- this one
-abbrev pub messages_behind : {T U : Type 0} → (T → List ℕ) → (Option ℕ × U → List ℕ) → ℕ → ℕ → List (ℕ × SubscriberPort) → List ℕ → ℕ
-    → PublisherPort T U → ℕ → World → World
-messages_behind payload_words header_words payload_count header_count readers subscribers place port first m =
-    behind_findings (behind_findings m (history_findings payload_words header_words payload_count header_count place first port
+abbrev pub messages_behind : {T U : Type 0} → Spelling T U → List (ℕ × SubscriberPort) → List ℕ → ℕ → PublisherPort T U → ℕ → World → World
+messages_behind spelling readers subscribers place port first m =
+    behind_findings (behind_findings m (history_findings spelling place first port
     port.sender.uses.history))
-    (flat_listed (λ other. link_findings payload_words header_words payload_count header_count place other first port
+    (flat_listed (λ other. link_findings spelling place other first port
     (tie_for port (subscriber_of (slice_index subscribers other) readers))) (length subscribers))
 
 -- so it is of a whole publisher, if it is in the domain
-abbrev pub publisher_behind : {T U : Type 0} → (T → List ℕ) → (Option ℕ × U → List ℕ) → ℕ → ℕ → List (ℕ × SubscriberPort) → List ℕ →
-    World → ℕ
-    → Bool → Option (PublisherPort T U) → World
-publisher_behind payload_words header_words payload_count header_count readers subscribers m place fails None = m
-publisher_behind payload_words header_words payload_count header_count readers subscribers m place fails (Some port) =
-    messages_behind payload_words header_words payload_count header_count readers subscribers place port
+abbrev pub publisher_behind : {T U : Type 0} → Spelling T U → List (ℕ × SubscriberPort) → List ℕ → World → ℕ → Bool
+    → Option (PublisherPort T U) → World
+publisher_behind spelling readers subscribers m place fails None = m
+publisher_behind spelling readers subscribers m place fails (Some port) =
+    messages_behind spelling readers subscribers place port
     (first_slot (slice_get (sender_behind m place fails port).publishers place)) (sender_behind m place fails port)
 
 -- and of the publishers of these numbers, the first so many, each at its place
-abbrev pub publishers_behind : {T U X Y D : Type 0} {F : X → Type 0} {G : Y → Type 0} → (T → List ℕ) → (Option ℕ × U → List ℕ) → ℕ → ℕ
+abbrev pub publishers_behind : {T U X Y D : Type 0} {F : X → Type 0} {G : Y → Type 0} → Spelling T U
     → Domain T U (Handlers X Y F G) D → List ℕ → List ℕ → World → ℕ → World
-publishers_behind payload_words header_words payload_count header_count domain publishers subscribers m zero = m
-publishers_behind payload_words header_words payload_count header_count domain publishers subscribers m (suc count) =
-    publisher_behind payload_words header_words payload_count header_count domain.state.ports.subscribers subscribers
-    (publishers_behind payload_words header_words payload_count header_count domain publishers subscribers m count) count
+publishers_behind spelling domain publishers subscribers m zero = m
+publishers_behind spelling domain publishers subscribers m (suc count) =
+    publisher_behind spelling domain.state.ports.subscribers subscribers
+    (publishers_behind spelling domain publishers subscribers m count) count
     (would_fail (kept_under (slice_index publishers count) domain.state.publisher_handlers))
     (port_of (slice_index publishers count) domain.state.ports.publishers)

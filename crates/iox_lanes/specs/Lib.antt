@@ -1,4 +1,5 @@
 -- The definitions that contracts about a domain's ports in threads cite.
+pub mod Spelling
 pub mod Lying
 pub mod Finding
 pub mod Behind

@@ -5,6 +5,7 @@ use Rattle.iox_domain.specs.DomainPorts.declared.publisher_port.PublisherPort.{P
 use Rattle.iox_lanes_machine.specs.LanesBase.Table.{TableWords, held_by}
 use Rattle.iox_lanes_machine.specs.LanesBase.declared.words.word.SharedWord.TheVariants.{Slot}
 use Rattle.iox_lanes_machine.specs.LanesBase.declared.words.word.SlotWord.TheVariants.{Header, UserHeader, Payload}
+use Rattle.iox_lanes.specs.Spelling.{Spelling}
 
 -- the header of a slot says this node, this publisher and so many elements
 abbrev pub HeaderLies : TableWords → ℕ → ℕ → ℕ → ℕ → Type 0
@@ -28,31 +29,28 @@ PayloadLies words table slot [] = ⊥
 PayloadLies words table slot (value ∷ []) = ValueLies words table slot value
 PayloadLies words table slot (value ∷ more ∷ rest) = ⊥
 
--- a slot has the words of a header, a user header and one value
-abbrev pub WordsLie : {T U : Type 0} → (T → List ℕ) → (U → List ℕ) → TableWords → ℕ → ℕ → ℕ → ℕ → U → List T → Type 0
-WordsLie payload_words header_words table slot node number elements user_header values =
-    HeaderLies table slot node number elements × UserHeaderLies header_words table slot user_header
-    × PayloadLies payload_words table slot values
+-- a slot has the words of a message of a publisher: of its header, of its number and user header, and of its one value
+abbrev pub WordsLie : {T U : Type 0} → Spelling T U → TableWords → ℕ → PublisherPort T U → Message T U → Type 0
+WordsLie spelling table slot port message =
+    HeaderLies table slot port.owner.node_id port.number message.elements
+    × UserHeaderLies spelling.middle table slot (message.sequence, message.user_header)
+    × PayloadLies spelling.payload table slot message.values
 
 -- a message of a publisher lies in its slot, where the publisher's slots begin at this one
-abbrev pub Lies : {T U : Type 0} → (T → List ℕ) → (Option ℕ × U → List ℕ) → TableWords → ℕ → PublisherPort T U → Message T U → Type 0
-Lies payload_words header_words table first port message =
-    WordsLie payload_words header_words table (first + message.slot) port.owner.node_id port.number message.elements
-    (message.sequence, message.user_header)
-    message.values
+abbrev pub Lies : {T U : Type 0} → Spelling T U → TableWords → ℕ → PublisherPort T U → Message T U → Type 0
+Lies spelling table first port message = WordsLie spelling table (first + message.slot) port message
 
 -- a message of a publisher, if there is one, has this slot and lies there
-abbrev pub IsLaidAt : {T U : Type 0} → (T → List ℕ) → (Option ℕ × U → List ℕ) → TableWords → ℕ → PublisherPort T U → Option ℕ
-    → Option (Message T U) → Type 0
-IsLaidAt payload_words header_words table first port slot None = Unit {0}
-IsLaidAt payload_words header_words table first port slot (Some message) =
-    (slot ≡ Some (first + message.slot)) × Lies payload_words header_words table first port message
+abbrev pub IsLaidAt : {T U : Type 0} → Spelling T U → TableWords → ℕ → PublisherPort T U → Option ℕ → Option (Message T U) → Type 0
+IsLaidAt spelling table first port slot None = Unit {0}
+IsLaidAt spelling table first port slot (Some message) =
+    (slot ≡ Some (first + message.slot)) × Lies spelling table first port message
 
 -- These are the slots of these messages of a publisher, in their order, and each message lies in its slot.
-pub record AreLaid {T U : Type 0} (payload_words : T → List ℕ) (header_words : Option ℕ × U
-    → List ℕ) (table : TableWords) (first : ℕ) (port : PublisherPort T U) (laid : List ℕ) (messages : List (Message T U)) : Type 0 where
+pub record AreLaid {T U : Type 0} (spelling : Spelling T U) (table : TableWords) (first : ℕ) (port : PublisherPort T U) (laid : List ℕ)
+    (messages : List (Message T U)) : Type 0 where
   pub as_many : length laid ≡ length messages
-  pub each : (at : ℕ) → IsLaidAt payload_words header_words table first port (slice_get laid at) (slice_get messages at)
+  pub each : (at : ℕ) → IsLaidAt spelling table first port (slice_get laid at) (slice_get messages at)
 
 -- a message of a publisher, if there is one, has this slot, where the publisher's slots begin at this one
 abbrev pub IsSlotOf : {T U : Type 0} → ℕ → Option ℕ → Option (Message T U) → Type 0

@@ -16,12 +16,13 @@ use Rattle.iox_lanes.specs.declared.into_domain_error.IntoDomainError.{IntoDomai
 use Rattle.iox_lanes.specs.declared.into_domain_error.IntoDomainError.TheVariants as error
 use Rattle.iox_lanes_machine.specs.Fixed.{slots_at}
 use Rattle.iox_lanes.specs.Joined.{HasSlotsIf, IsLinkToIf, row_of}
+use Rattle.iox_lanes.specs.Spelling.{ReadingBack}
 
 -- A publisher as lanes leave it: what waits at a connection by its order waits at the one of its index, nothing waits at a
 -- connection of which the lanes have none, the history is that of the lanes, its numbers go on behind the last one that its lane gave, and
 -- all else is as it was.
-pub record IsPortLeft {T U : Type 0} (value_of : List ℕ → T) (header_of : List ℕ
-    → Option ℕ × U) (lanes : World) (from : ℕ) (row : List ℕ) (lane : PublisherLaneState) (old new : PublisherPort T U) : Type 0 where
+pub record IsPortLeft {T U : Type 0} (reading : ReadingBack T U) (lanes : World) (from : ℕ) (row : List ℕ) (lane : PublisherLaneState)
+    (old new : PublisherPort T U) : Type 0 where
   pub rest : new ≡ record old {
     last_sequence = lane.last;
     sender = with_uses (record old.sender.uses { history = new.sender.uses.history; connections = new.sender.uses.connections })
@@ -29,23 +30,23 @@ pub record IsPortLeft {T U : Type 0} (value_of : List ℕ → T) (header_of : Li
   }
   pub count : length new.sender.uses.connections ≡ length old.sender.uses.connections
   pub each : (index : ℕ) → connection_of index new
-      ≡ with_waiting (connection_of index old) (left_at value_of header_of lanes from lane.port.book.first (place_of index row))
-  pub history : new.sender.uses.history ≡ messages_in value_of header_of lanes.table lane.port.book.first lane.port.book.history
+      ≡ with_waiting (connection_of index old) (left_at reading.payload reading.middle lanes from lane.port.book.first (place_of index row))
+  pub history : new.sender.uses.history ≡ messages_in reading.payload reading.middle lanes.table lane.port.book.first lane.port.book.history
 
 -- the same of a lane and of publishers that may be wanting; where one is it isn't so
-abbrev pub IsPortLeftIf : {T U : Type 0} → (List ℕ → T) → (List ℕ → Option ℕ × U) → World → ℕ → List ℕ → Option PublisherLaneState
+abbrev pub IsPortLeftIf : {T U : Type 0} → ReadingBack T U → World → ℕ → List ℕ → Option PublisherLaneState
     → Option (PublisherPort T U) → Option (PublisherPort T U) → Type 0
-IsPortLeftIf value_of header_of lanes from row None old new = ⊥
-IsPortLeftIf value_of header_of lanes from row (Some lane) None new = ⊥
-IsPortLeftIf value_of header_of lanes from row (Some lane) (Some old) None = ⊥
-IsPortLeftIf value_of header_of lanes from row (Some lane) (Some old) (Some new) = IsPortLeft value_of header_of lanes from row lane old new
+IsPortLeftIf reading lanes from row None old new = ⊥
+IsPortLeftIf reading lanes from row (Some lane) None new = ⊥
+IsPortLeftIf reading lanes from row (Some lane) (Some old) None = ⊥
+IsPortLeftIf reading lanes from row (Some lane) (Some old) (Some new) = IsPortLeft reading lanes from row lane old new
 
 -- a publisher at a place of the lanes is as they leave it, one at no place as it was
-abbrev pub IsLeftAt : {T U : Type 0} → (List ℕ → T) → (List ℕ → Option ℕ × U) → World → ℕ → List ℕ → Option ℕ → Option (PublisherPort T U)
+abbrev pub IsLeftAt : {T U : Type 0} → ReadingBack T U → World → ℕ → List ℕ → Option ℕ → Option (PublisherPort T U)
     → Option (PublisherPort T U) → Type 0
-IsLeftAt value_of header_of lanes readers indices None old new = new ≡ old
-IsLeftAt value_of header_of lanes readers indices (Some place) old new =
-    IsPortLeftIf value_of header_of lanes (place * readers) (row_of readers indices place) (slice_get lanes.publishers place) old new
+IsLeftAt reading lanes readers indices None old new = new ≡ old
+IsLeftAt reading lanes readers indices (Some place) old new =
+    IsPortLeftIf reading lanes (place * readers) (row_of readers indices place) (slice_get lanes.publishers place) old new
 
 -- the publisher at a place of the lanes is this one of the domain, and the lanes have its connections
 pub record JoinsAt {T U : Type 0} (lanes : World) (port : Option (PublisherPort T U)) (place readers : ℕ) (indices : List ℕ) : Type 0 where
@@ -57,11 +58,11 @@ pub record JoinsAt {T U : Type 0} (lanes : World) (port : Option (PublisherPort 
       (slice_get lanes.links (place * readers + subscriber))
 
 -- the publishers by number: each is as the lanes leave it
-abbrev pub ArePortsLeft : {T U : Type 0} → (List ℕ → T) → (List ℕ → Option ℕ × U) → World → List ℕ → ℕ → List ℕ → List
+abbrev pub ArePortsLeft : {T U : Type 0} → ReadingBack T U → World → List ℕ → ℕ → List ℕ → List
     (ℕ × PublisherPort T U)
     → List (ℕ × PublisherPort T U) → Type 0
-ArePortsLeft value_of header_of lanes senders readers indices old new =
-    (number : ℕ) → IsLeftAt value_of header_of lanes readers indices (place_of number senders) (port_of number old) (port_of number new)
+ArePortsLeft reading lanes senders readers indices old new =
+    (number : ℕ) → IsLeftAt reading lanes readers indices (place_of number senders) (port_of number old) (port_of number new)
 
 -- a domain of which only the publishers have changed
 abbrev pub OnlyPublishers : {T U B D : Type 0} → Domain T U B D → Domain T U B D → Type 0

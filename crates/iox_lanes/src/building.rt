@@ -21,6 +21,7 @@ ghost use Rattle.iox_lanes.specs.Ordered.{keys_behind, leads_here, route_place, 
 ghost use Rattle.iox_lanes.specs.Failing.{asked, failing, FailAsAsked};
 ghost use Rattle.iox_lanes.specs.Holding.{kind_of, numbers_of, reader_if, AreThere};
 ghost use Rattle.iox_lanes.specs.Sized.{AreAgreed, AreSized};
+ghost use Rattle.iox_lanes.specs.Spelling.{spelling_of};
 ghost use Rattle.iox_lanes.specs.Tied.{tie_for, ties_for, AreTies};
 ghost use Rattle.iox_lanes_machine.specs.Resting.{AllBetween};
 ghost use Rattle.iox_lanes_machine.specs.WholeReads.{CameTo};
@@ -57,8 +58,8 @@ pub(crate) fn build<T: Words, U: Words>(
         ≡ numbers_of (λ entry. entry.publisher) domain.now.state.ports.publisher_list.places) }
     ensures subscribers { IfOk result (λ opened. opened.subscribers.items
         ≡ numbers_of (λ entry. entry.subscriber) domain.now.state.ports.subscriber_list.places) }
-    ensures built { IfOk result (λ opened. AreBuilt T.parts (middle_words domain.now.state.ports.sizes.sequence_numbers U.parts) T.WORDS
-        (middle_count domain.now.state.ports.sizes.sequence_numbers U.WORDS) domain.now opened.publishers.items
+    ensures built { IfOk result (λ opened. AreBuilt
+        (spelling_of domain.now.state.ports.sizes.sequence_numbers T.parts T.WORDS U.parts U.WORDS) domain.now opened.publishers.items
         opened.subscribers.items opened.lanes) }
     ensures some { IfOk result (λ opened. 0 < length opened.one.items) }
     ensures fails { IfOk result (λ opened. FailAsAsked domain.now opened.lanes opened.publishers.items) }
@@ -202,9 +203,8 @@ fn find_publishers<T: Words, U: Words>(
     ensures fails { OnOk result (failing lanes.new.lanes ≡ asked domain.now.state.publisher_handlers publishers.now) }
     ensures alone { OnOk result (KeepAlone domain.now.state.ports publishers.now subscribers.now) }
     ensures ties { OnOk result (AreTies domain.now.state.ports publishers.now subscribers.now connections.new.items) }
-    ensures behind { OnOk result (lanes.new.lanes ≡ publishers_behind T.parts
-        (middle_words domain.now.state.ports.sizes.sequence_numbers U.parts) T.WORDS
-        (middle_count domain.now.state.ports.sizes.sequence_numbers U.WORDS) domain.now publishers.now
+    ensures behind { OnOk result (lanes.new.lanes ≡ publishers_behind
+        (spelling_of domain.now.state.ports.sizes.sequence_numbers T.parts T.WORDS U.parts U.WORDS) domain.now publishers.now
         subscribers.now lanes.old.lanes (length publishers.now)) }
 {
     for place in 0..publishers.len() {
@@ -277,7 +277,7 @@ fn find_history<T: Words, U: Words>(
     ensures sizes { lanes.new.sizes ≡ lanes.old.sizes }
     ensures fails { failing lanes.new.lanes ≡ failing lanes.old.lanes }
     ensures behind { OnOk result (lanes.new.lanes ≡ behind_findings lanes.old.lanes
-        (history_findings T.parts (middle_words numbered U.parts) T.WORDS (middle_count numbered U.WORDS) place first port.now
+        (history_findings (spelling_of numbered T.parts T.WORDS U.parts U.WORDS) place first port.now
         port.now.sender.uses.history)) }
     ensures alone { OnOk result (AreAlone port.now port.now.sender.uses.history) }
 {
@@ -306,8 +306,8 @@ fn find_connections<T: Words, U: Words>(
     ensures ties { OnOk result (connections.new.items
         ≡ connections.old.items ++ ties_for domain.now.state.ports.subscribers subscribers.now port.now) }
     ensures behind { OnOk result (lanes.new.lanes ≡ behind_findings lanes.old.lanes
-        (flat_listed (λ other. link_findings T.parts (middle_words domain.now.state.ports.sizes.sequence_numbers U.parts) T.WORDS
-        (middle_count domain.now.state.ports.sizes.sequence_numbers U.WORDS) place other first port.now
+        (flat_listed (λ other. link_findings (spelling_of domain.now.state.ports.sizes.sequence_numbers T.parts T.WORDS U.parts U.WORDS)
+        place other first port.now
         (tie_for port.now (subscriber_of (slice_index subscribers.now other) domain.now.state.ports.subscribers)))
         (length subscribers.now))) }
     ensures alone { OnOk result ((other : ℕ) → other < length subscribers.now → AreAlone port.now
@@ -354,7 +354,7 @@ fn find_waiting<T: Words, U: Words>(
     ensures sizes { lanes.new.sizes ≡ lanes.old.sizes }
     ensures fails { failing lanes.new.lanes ≡ failing lanes.old.lanes }
     ensures behind { OnOk result (lanes.new.lanes ≡ behind_findings lanes.old.lanes
-        (waiting_findings T.parts (middle_words numbered U.parts) T.WORDS (middle_count numbered U.WORDS) place other first port.now
+        (waiting_findings (spelling_of numbered T.parts T.WORDS U.parts U.WORDS) place other first port.now
         (connection_of index port.now).waiting)) }
     ensures alone { OnOk result (AreAlone port.now (connection_of index port.now).waiting) }
 {
@@ -399,12 +399,12 @@ fn find_message<T: Words, U: Words>(
     ensures fails { failing lanes.new.lanes ≡ failing lanes.old.lanes }
     ensures waiting { OnOk result ((index at : ℕ) (message : Message T U)
         → slice_get (connection_of index port.now).waiting at ≡ Some message → message.slot ≡ slot
-        → lanes.new.lanes ≡ behind_findings lanes.old.lanes (message_findings T.parts (middle_words numbered U.parts) T.WORDS
-        (middle_count numbered U.WORDS) first port.now message)) }
+        → lanes.new.lanes ≡ behind_findings lanes.old.lanes (message_findings (spelling_of numbered T.parts T.WORDS U.parts U.WORDS) first
+        port.now message)) }
     ensures remembered { OnOk result ((at : ℕ) (message : Message T U) → slice_get port.now.sender.uses.history at ≡ Some message
         → message.slot ≡ slot
-        → lanes.new.lanes ≡ behind_findings lanes.old.lanes (message_findings T.parts (middle_words numbered U.parts) T.WORDS
-        (middle_count numbered U.WORDS) first port.now message)) }
+        → lanes.new.lanes ≡ behind_findings lanes.old.lanes (message_findings (spelling_of numbered T.parts T.WORDS U.parts U.WORDS) first
+        port.now message)) }
     ensures one { OnOk result (HasOne port.now slot) }
 {
     let at = first.saturating_add(slot as u64);

@@ -1,6 +1,6 @@
 //! Lanes with the domain that they came from.
 ghost use Rattle.std.specs.Prelude.{◌≡◌, ◌<◌, ◌^◌, length, IfOk, IfErr, OnOk, None};
-ghost use Rattle.iox_lanes_opening.specs.Middles.{middle_count, middle_words};
+ghost use Rattle.iox_lanes_opening.specs.Middles.{middle_count};
 ghost use Rattle.iox_lanes_opening.specs.Refusals.{first_reason};
 ghost use Rattle.iox_lanes_laws.specs.Numbered.{found_messages};
 ghost use Rattle.iox_lanes_laws.specs.Recorded.{AreAsHeld, ArePast};
@@ -13,6 +13,7 @@ ghost use Rattle.iox_lanes.specs.Joined.{IsJoined};
 ghost use Rattle.iox_lanes.specs.Exact.{sizes_for};
 ghost use Rattle.iox_lanes.specs.Finding.{WasFound};
 ghost use Rattle.iox_lanes.specs.Sized.{AreSized};
+ghost use Rattle.iox_lanes.specs.Spelling.{spelling_of};
 
 use crate::building::build;
 use iox_domain::Domain;
@@ -94,8 +95,9 @@ pub fn into_lanes<T: Words, U: Words>(
     alloc: Global,
     domain: Domain<T, U>,
 ) -> Result<DomainLanes<T, U>, Refused<T, U>>
-    ensures lanes { IfOk result (λ opened. LanesHold T.parts (middle_words domain.state.ports.sizes.sequence_numbers U.parts) T.WORDS
-        (middle_count domain.state.ports.sizes.sequence_numbers U.WORDS) domain opened.lanes.lanes opened.publishers.items
+    ensures lanes { IfOk result (λ opened. LanesHold
+        (spelling_of domain.state.ports.sizes.sequence_numbers T.parts T.WORDS U.parts U.WORDS)
+        domain opened.lanes.lanes opened.publishers.items
         opened.subscribers.items opened.connections.items) }
     ensures fails { IfOk result (λ opened. FailAsAsked domain opened.lanes.lanes opened.publishers.items) }
     ensures came { IfOk result (λ opened. CameTo opened.lanes.lanes) }
@@ -110,7 +112,7 @@ pub fn into_lanes<T: Words, U: Words>(
     ensures held { IfOk result (λ opened. AreAsHeld opened.lanes.lanes opened.lanes.messages
         × ArePast opened.lanes.lanes opened.lanes.messages) }
     ensures domain { IfOk result (λ opened. opened.domain ≡ domain) }
-    ensures joined { IfOk result (λ opened. IsJoined T.WORDS (middle_count domain.state.ports.sizes.sequence_numbers U.WORDS)
+    ensures joined { IfOk result (λ opened. IsJoined (spelling_of domain.state.ports.sizes.sequence_numbers T.parts T.WORDS U.parts U.WORDS)
         (length opened.one.items) opened.lanes.lanes
         domain.state.ports.publishers opened.publishers.items (length opened.subscribers.items) opened.connections.items) }
     ensures none { OnOk result (first_reason domain ≡ None) }
@@ -165,11 +167,13 @@ fn open<T: Words, U: Words>(alloc: Global, domain: &Domain<T, U>) -> Result<Reco
     ensures messages { IfOk result (λ opened. opened.lanes.messages ≡ found_messages opened.lanes.lanes) }
     ensures held { IfOk result (λ opened. AreAsHeld opened.lanes.lanes opened.lanes.messages
         × ArePast opened.lanes.lanes opened.lanes.messages) }
-    ensures joined { IfOk result (λ opened. IsJoined T.WORDS (middle_count domain.now.state.ports.sizes.sequence_numbers U.WORDS)
+    ensures joined { IfOk result (λ opened. IsJoined
+        (spelling_of domain.now.state.ports.sizes.sequence_numbers T.parts T.WORDS U.parts U.WORDS)
         (length opened.one.items) opened.lanes.lanes
         domain.now.state.ports.publishers opened.publishers.items (length opened.subscribers.items) opened.connections.items) }
-    ensures holds { IfOk result (λ opened. LanesHold T.parts (middle_words domain.now.state.ports.sizes.sequence_numbers U.parts) T.WORDS
-        (middle_count domain.now.state.ports.sizes.sequence_numbers U.WORDS) domain.now opened.lanes.lanes opened.publishers.items
+    ensures holds { IfOk result (λ opened. LanesHold
+        (spelling_of domain.now.state.ports.sizes.sequence_numbers T.parts T.WORDS U.parts U.WORDS)
+        domain.now opened.lanes.lanes opened.publishers.items
         opened.subscribers.items opened.connections.items) }
     ensures fails { IfOk result (λ opened. FailAsAsked domain.now opened.lanes.lanes opened.publishers.items) }
 {

@@ -12,6 +12,7 @@ ghost use Rattle.iox_lanes_machine.specs.Owned.{MailIsOwn, MailHasRoom, Historie
 ghost use Rattle.iox_lanes.specs.Joined.{IsJoined, row_of};
 ghost use Rattle.iox_lanes_machine.specs.Resting.{AllBetween, NoneOut, IsUnrest};
 ghost use Rattle.iox_lanes.specs.Returning.{AllRest, ArePortsLeft, IsPortLeftIf, JoinsAt, OnlyPublishers, unrest_of};
+ghost use Rattle.iox_lanes.specs.Spelling.{reading_back, spelling_of};
 
 use crate::domain_lanes::DomainLanes;
 use crate::into_domain_error::IntoDomainError;
@@ -50,10 +51,10 @@ impl<T: Words, U: Words> DomainLanes<T, U> {
         ensures same { IfOk result (λ domain. self.lanes.lanes.moments ≡ 0 → domain ≡ self.domain) }
         ensures rest { IfOk result (λ domain. OnlyPublishers self.domain domain) }
         ensures left { IfOk result (λ domain. 0 < self.lanes.lanes.moments → self.lanes.lanes.moments ≤ 2 ^ 63
-            → IsJoined T.WORDS (middle_count self.domain.state.ports.sizes.sequence_numbers U.WORDS) (length self.one.items)
+            → IsJoined (spelling_of self.domain.state.ports.sizes.sequence_numbers T.parts T.WORDS U.parts U.WORDS) (length self.one.items)
             self.lanes.lanes self.domain.state.ports.publishers self.publishers.items
             (length self.subscribers.items) self.connections.items
-            → ArePortsLeft T.of_parts (middle_of self.domain.state.ports.sizes.sequence_numbers U.of_parts) self.lanes.lanes
+            → ArePortsLeft (reading_back self.domain.state.ports.sizes.sequence_numbers T.of_parts U.of_parts) self.lanes.lanes
             self.publishers.items (length self.subscribers.items)
             self.connections.items self.domain.state.ports.publishers domain.state.ports.publishers) }
     {
@@ -84,10 +85,10 @@ fn error_of(unrest: Unrest) -> IntoDomainError
 fn returned<T: Words, U: Words>(opened: DomainLanes<T, U>) -> Domain<T, U>
     ensures rest { OnlyPublishers opened.domain result }
     ensures left { AllRest opened.lanes.lanes
-        → IsJoined T.WORDS (middle_count opened.domain.state.ports.sizes.sequence_numbers U.WORDS) (length opened.one.items)
+        → IsJoined (spelling_of opened.domain.state.ports.sizes.sequence_numbers T.parts T.WORDS U.parts U.WORDS) (length opened.one.items)
         opened.lanes.lanes opened.domain.state.ports.publishers opened.publishers.items
         (length opened.subscribers.items) opened.connections.items
-        → ArePortsLeft T.of_parts (middle_of opened.domain.state.ports.sizes.sequence_numbers U.of_parts) opened.lanes.lanes
+        → ArePortsLeft (reading_back opened.domain.state.ports.sizes.sequence_numbers T.of_parts U.of_parts) opened.lanes.lanes
         opened.publishers.items (length opened.subscribers.items)
         opened.connections.items opened.domain.state.ports.publishers result.state.ports.publishers }
 {
@@ -168,9 +169,10 @@ fn restore_publishers<T: Words, U: Words>(
     requires room { 0 < vec_capacity one.old }
     requires whole { IsWhole T.WORDS (middle_count left.now.numbered U.WORDS) left.now.lanes.now.table }
     ensures { AllRest left.now.lanes.now → (places : ℕ)
-        → IsJoined T.WORDS (middle_count left.now.numbered U.WORDS) places left.now.lanes.now publishers.old numbers.now left.now.readers
+        → IsJoined (spelling_of left.now.numbered T.parts T.WORDS U.parts U.WORDS) places left.now.lanes.now publishers.old numbers.now
+        left.now.readers
         left.now.indices.now
-        → ArePortsLeft T.of_parts (middle_of left.now.numbered U.of_parts) left.now.lanes.now numbers.now left.now.readers
+        → ArePortsLeft (reading_back left.now.numbered T.of_parts U.of_parts) left.now.lanes.now numbers.now left.now.readers
         left.now.indices.now publishers.old publishers.new }
 {
     for place in 0..numbers.len() {
@@ -191,7 +193,7 @@ fn restore_publisher<T: Words, U: Words>(
     ensures others { (other : ℕ) → (other ≡ number → ⊥) → port_of other publishers.new ≡ port_of other publishers.old }
     ensures this { AllRest left.now.lanes.now
         → JoinsAt left.now.lanes.now (port_of number publishers.old) place left.now.readers left.now.indices.now
-        → IsPortLeftIf T.of_parts (middle_of left.now.numbered U.of_parts) left.now.lanes.now (place * left.now.readers)
+        → IsPortLeftIf (reading_back left.now.numbered T.of_parts U.of_parts) left.now.lanes.now (place * left.now.readers)
         (row_of left.now.readers left.now.indices.now place) (slice_get left.now.lanes.now.publishers place)
         (port_of number publishers.old) (port_of number publishers.new) }
     ensures room { vec_capacity one.new ≡ vec_capacity one.old }
@@ -211,7 +213,7 @@ fn restore_port<T: Words, U: Words>(
     requires room { 0 < vec_capacity one.old }
     requires whole { IsWhole T.WORDS (middle_count left.now.numbered U.WORDS) left.now.lanes.now.table }
     ensures left { AllRest left.now.lanes.now → JoinsAt left.now.lanes.now (Some port.old) place left.now.readers left.now.indices.now
-        → IsPortLeftIf T.of_parts (middle_of left.now.numbered U.of_parts) left.now.lanes.now (place * left.now.readers)
+        → IsPortLeftIf (reading_back left.now.numbered T.of_parts U.of_parts) left.now.lanes.now (place * left.now.readers)
         (row_of left.now.readers left.now.indices.now place) (slice_get left.now.lanes.now.publishers place) (Some port.old)
         (Some port.new) }
     ensures room { vec_capacity one.new ≡ vec_capacity one.old }

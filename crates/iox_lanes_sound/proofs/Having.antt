@@ -38,8 +38,10 @@ use Rattle.iox_domain_machine.specs.Tables.{LentSlot, loan_as, loans_at_port, sa
 use Rattle.iox_lanes.proofs.Presence.{both, neither, no_reason, none_under, not_no, readers_there, rested}
 use Rattle.iox_lanes.proofs.Sound.{fits, publishers_once, subscribers_once}
 use Rattle.iox_lanes.proofs.Tied.{goes_there}
-use Rattle.iox_lanes.specs.Holding.{IsLaneIf, IsLaneOf, IsLinkIf, IsLinkOf, LanesHold, kind_of, numbers_of, port_if, reader_if}
+use Rattle.iox_lanes.specs.Holding.{IsLaneIf, IsLaneOf, IsLinkIf, IsLinkOf, LanesHold, Leads, kind_of, numbers_of}
+use Rattle.iox_lanes.specs.Holding.{port_if, reader_if}
 use Rattle.iox_lanes.specs.Lying.{IsLaidAt, Lies, PayloadLies, UserHeaderLies, ValueLies}
+use Rattle.iox_lanes.specs.Spelling.{Spelling, spelling_of}
 use Rattle.iox_lanes.specs.Tied.{tie_for}
 use Rattle.iox_lanes_laws.specs.Messages.{payload_held}
 use Rattle.iox_lanes_machine.proofs.Ends.{some_is}
@@ -174,28 +176,27 @@ some_name : {V : Type 0} (name : ℕ → ℕ) (table : List (ℕ × V)) (number 
 some_name name table number value named there = (named.each (name number) (ap is_some there)).2
 
 -- what a lane and a link are of a domain
-pub lane_of : {T U : Type 0} (payload_words : T → List ℕ) (header_words : Option ℕ × U → List ℕ) (table : TableWords)
-    (port : Option (PublisherPort T U)) (lane : Option PublisherLaneState) → IsLaneIf payload_words header_words table port lane
+pub lane_of : {T U : Type 0} (spelling : Spelling T U) (table : TableWords) (port : Option (PublisherPort T U))
+    (lane : Option PublisherLaneState) → IsLaneIf spelling table port lane
     → (one : PublisherPort T U) × (port ≡ Some one) × (other : PublisherLaneState) × (lane ≡ Some other)
-    × IsLaneOf payload_words header_words table one other
-lane_of payload_words header_words table None lane is = absurd is
-lane_of payload_words header_words table (Some one) None is = absurd is
-lane_of payload_words header_words table (Some one) (Some other) is = (one, refl, other, refl, is)
+    × IsLaneOf spelling table one other
+lane_of spelling table None lane is = absurd is
+lane_of spelling table (Some one) None is = absurd is
+lane_of spelling table (Some one) (Some other) is = (one, refl, other, refl, is)
 
-pub link_of : {T U : Type 0} (payload_words : T → List ℕ) (header_words : Option ℕ × U → List ℕ) (table : TableWords) (overflow : Bool)
-    (publisher subscriber : ℕ) (port : Option (PublisherPort T U)) (reader : Option SubscriberPort) (lane : Option PublisherLaneState)
-    (index : Option ℕ) (link : Option LinkState)
-    → IsLinkIf payload_words header_words table overflow publisher subscriber port reader lane index link
+pub link_of : {T U : Type 0} (spelling : Spelling T U) (table : TableWords) (overflow : Bool) (publisher subscriber : ℕ)
+    (port : Option (PublisherPort T U)) (reader : Option SubscriberPort) (lane : Option PublisherLaneState) (index : Option ℕ)
+    (link : Option LinkState) → Leads overflow publisher subscriber link → IsLinkIf spelling table port reader lane index link
     → (a : PublisherPort T U) × (port ≡ Some a) × (b : SubscriberPort) × (reader ≡ Some b) × (c : PublisherLaneState) × (lane ≡ Some c)
-    × (i : ℕ) × (l : LinkState) × (link ≡ Some l)
-    × IsLinkOf payload_words header_words table overflow a b c.port.book.first i publisher subscriber l
-link_of payload_words header_words table overflow publisher subscriber None reader lane index link is = absurd is
-link_of payload_words header_words table overflow publisher subscriber (Some a) None lane index link is = absurd is
-link_of payload_words header_words table overflow publisher subscriber (Some a) (Some b) None index link is = absurd is
-link_of payload_words header_words table overflow publisher subscriber (Some a) (Some b) (Some c) None link is = absurd is
-link_of payload_words header_words table overflow publisher subscriber (Some a) (Some b) (Some c) (Some i) None is = absurd is
-link_of payload_words header_words table overflow publisher subscriber (Some a) (Some b) (Some c) (Some i) (Some l) is =
-    (a, refl, b, refl, c, refl, i, l, refl, is)
+    × (i : ℕ) × (l : LinkState) × (link ≡ Some l) × Leads overflow publisher subscriber (Some l)
+    × IsLinkOf spelling table a b c.port.book.first i l
+link_of spelling table overflow publisher subscriber None reader lane index link leads is = absurd is
+link_of spelling table overflow publisher subscriber (Some a) None lane index link leads is = absurd is
+link_of spelling table overflow publisher subscriber (Some a) (Some b) None index link leads is = absurd is
+link_of spelling table overflow publisher subscriber (Some a) (Some b) (Some c) None link leads is = absurd is
+link_of spelling table overflow publisher subscriber (Some a) (Some b) (Some c) (Some i) None leads is = absurd is
+link_of spelling table overflow publisher subscriber (Some a) (Some b) (Some c) (Some i) (Some l) leads is =
+    (a, refl, b, refl, c, refl, i, l, refl, leads, is)
 
 -- a publisher numbers its messages as agreed, and its last number isn't too large
 pub well_numbered : {T U X Y Z : Type 0} {F : X → Type 0} {G : Y → Type 0} {H : Z → Type 0}
@@ -236,9 +237,8 @@ module _ {T U X Y Z : Type 0} {F : X → Type 0} {G : Y → Type 0} {H : Z → T
     (value : List ℕ → T) (payload_count header_count : ℕ) (long : (x : T) → length (payload_words x) ≡ payload_count)
     (domain : Domain T U (Handlers X Y F G) (DegradationHandler Z H)) (none : first_reason domain ≡ None) (m : World) (came : CameTo m)
     (senders readers indices : List ℕ)
-    (h : LanesHold payload_words (middle_words domain.state.ports.sizes.sequence_numbers header_words) payload_count header_count domain m
+    (h : LanesHold (spelling_of domain.state.ports.sizes.sequence_numbers payload_words payload_count header_words header_count) domain m
     senders readers indices)
-    (wide : domain.state.ports.sizes.sequence_numbers ≡ true → 0 < header_count)
     (back : AreReadBack payload_words value domain.state.ports)
     (names : Naming) (lent : List (ℕ × LentSlot)) (held : List (ℕ × Taken)) (buffer : ℕ) (service : Service T)
     (s : StandsFor names lent held buffer domain.state.ports service) where
@@ -247,6 +247,9 @@ module _ {T U X Y Z : Type 0} {F : X → Type 0} {G : Y → Type 0} {H : Z → T
 
   abbrev numbered : Bool
   numbered = domain.state.ports.sizes.sequence_numbers
+
+  abbrev spelling : Spelling T U
+  spelling = spelling_of numbered payload_words payload_count header_words header_count
 
   abbrev own : LaneNaming
   own = lane_names names numbered senders readers m
@@ -263,11 +266,17 @@ module _ {T U X Y Z : Type 0} {F : X → Type 0} {G : Y → Type 0} {H : Z → T
   fresh : IsFresh m
   fresh = kept.fresh h.moments
 
+  counted : m.table.sizes.payload_words ≡ payload_count
+  counted = h.payload
+
+  wide : numbered ≡ true → 0 < m.table.sizes.user_header_words
+  wide is = subst (λ n. 0 < n) (sym h.user_header) (some_middle numbered header_count is)
+
   payload_is : (slot : ℕ) (x : T) → ValueLies payload_words m.table slot x → payload_held m.table slot ≡ payload_words x
   payload_is slot x lies =
       listed_same (λ word. held_by m.table (Slot slot (Payload word))) (payload_words x) m.table.sizes.payload_words
-      (omega (arith, h.payload, long x)) (λ word below. lies word below)
-      ∙ take_all m.table.sizes.payload_words (payload_words x) (omega (arith, h.payload, long x))
+      (omega (arith, counted, long x)) (λ word below. lies word below)
+      ∙ take_all m.table.sizes.payload_words (payload_words x) (omega (arith, counted, long x))
 
   values_same : (slot : ℕ) (values : List T) → All (λ x. value (payload_words x) ≡ x) values → PayloadLies payload_words m.table slot values
       → values ≡ slot_value value own m.table slot ∷ []
@@ -293,20 +302,20 @@ module _ {T U X Y Z : Type 0} {F : X → Type 0} {G : Y → Type 0} {H : Z → T
 
   one_same : (number first : ℕ) (port : PublisherPort T U) (message : Message T U)
       → own.message (first + message.slot) ≡ names.message number message.slot → Back message
-      → Lies payload_words (middle_words numbered header_words) m.table first port message
+      → Lies spelling m.table first port message
       → message_as (names.message number) message ≡ slot_message value own m.table (first + message.slot)
   one_same number first port message named given lies =
       same_message (names.message number message.slot) (own.message (first + message.slot)) message.sequence
       (slot_sequence numbered m.table (first + message.slot)) message.values (slot_value value own m.table (first + message.slot) ∷ [])
       (sym named)
       (sequence_same (first + message.slot) numbered message.sequence message.user_header given.numbers
-      (λ is. omega (arith, wide is, h.user_header)) lies.1)
+      wide lies.1)
       (values_same (first + message.slot) message.values given.values lies.2)
 
   laid_same : (number first size : ℕ) (port : PublisherPort T U)
       → ((slot : ℕ) → slot < size → own.message (first + slot) ≡ names.message number slot)
       → (laid : List ℕ) (messages : List (Message T U)) → length laid ≡ length messages
-      → ((place : ℕ) → IsLaidAt payload_words (middle_words numbered header_words) m.table first port (slice_get laid place)
+      → ((place : ℕ) → IsLaidAt spelling m.table first port (slice_get laid place)
       (slice_get messages place))
       → ((place slot : ℕ) → slice_get laid place ≡ Some slot → slot < first + size)
       → All Back messages
@@ -360,12 +369,12 @@ module _ {T U X Y Z : Type 0} {F : X → Type 0} {G : Y → Type 0} {H : Z → T
       → (publisher : Publisher T) × (at (own.publisher place) service.publishers ≡ Some publisher) × RemembersAs value own m lane publisher
   publisher_there place lane found =
       let below : place < length senders = omega (arith, slice_get_within m.publishers place lane found, h.publisher_count) in
-      let (port, is, other, got, of) = lane_of payload_words (middle_words numbered header_words) m.table
+      let (port, is, other, got, of) = lane_of spelling m.table
       (port_if ports.publishers (slice_get senders place)) (slice_get m.publishers place)
       (h.sending place below) in
       let same : other ≡ lane = some_is other lane (sym got ∙ found) in
-      let lane_is : IsLaneOf payload_words (middle_words numbered header_words) m.table port lane =
-      subst (IsLaneOf payload_words (middle_words numbered header_words) m.table port) same of in
+      let lane_is : IsLaneOf spelling m.table port lane =
+      subst (IsLaneOf spelling m.table port) same of in
       let there = port_at place port below is in
       let (publisher, by_name, p, boxes) = s.publishers (get_or senders place 0) port there in
       let rest = rested domain (get_or senders place 0) port none there in
@@ -417,15 +426,16 @@ module _ {T U X Y Z : Type 0} {F : X → Type 0} {G : Y → Type 0} {H : Z → T
   mailbox_there publisher subscriber connection link sends reads where_is found =
       let number : ℕ = get_or senders publisher 0 in
       let reader : ℕ = get_or readers subscriber 0 in
-      let (a, port_is, b, reader_is, c, lane_got, i, l, link_got, of) = link_of payload_words (middle_words numbered header_words) m.table
+      let (a, port_is, b, reader_is, c, lane_got, i, l, link_got, leads, of) = link_of spelling m.table
       ports.sizes.enable_safe_overflow publisher subscriber
       (port_if ports.publishers (slice_get senders publisher)) (reader_if ports.subscribers (slice_get readers subscriber))
       (slice_get m.publishers publisher) (slice_get indices (publisher * length readers + subscriber))
-      (slice_get m.links (publisher * length readers + subscriber)) (h.linking publisher subscriber sends reads) in
+      (slice_get m.links (publisher * length readers + subscriber)) (h.linking publisher subscriber sends reads).0
+      (h.linking publisher subscriber sends reads).1 in
       let same : l ≡ link = some_is l link (sym link_got ∙ ap (slice_get m.links) (sym where_is) ∙ found) in
-      let is : IsLinkOf payload_words (middle_words numbered header_words) m.table ports.sizes.enable_safe_overflow a b c.port.book.first i
-      publisher subscriber link = subst (IsLinkOf payload_words (middle_words numbered header_words) m.table
-      ports.sizes.enable_safe_overflow a b c.port.book.first i publisher subscriber) same of in
+      let is : IsLinkOf spelling m.table a b c.port.book.first i link = subst (IsLinkOf spelling m.table a b c.port.book.first i) same of in
+      let led : Leads ports.sizes.enable_safe_overflow publisher subscriber (Some link) =
+      subst (λ (k : LinkState). Leads ports.sizes.enable_safe_overflow publisher subscriber (Some k)) same leads in
       let there = port_at publisher a sends port_is in
       let read = subscriber_at subscriber b reads reader_is in
       let (one, by_name, p, box) = s.publishers number a there in
@@ -443,18 +453,18 @@ module _ {T U X Y Z : Type 0} {F : X → Type 0} {G : Y → Type 0} {H : Z → T
       (λ spot slot stood.
       let whose : IsSlotOf m link.publisher slot = mail_is_own m connection kept few link found spot slot
       (ap (λ slots. slice_get slots spot) mail ∙ stood) in
-      let lane : whose.lane ≡ c = some_is whose.lane c (sym whose.found ∙ ap (slice_get m.publishers) is.from ∙ lane_got) in
+      let lane : whose.lane ≡ c = some_is whose.lane c (sym whose.found ∙ ap (slice_get m.publishers) led.0 ∙ lane_got) in
       subst (λ (x : PublisherLaneState). slot < x.port.book.first + length x.port.book.loans) lane whose.below)
       (back.waiting number a there i) in (
-        ap (λ place. service.mailboxes (own.publisher place) (own.subscriber link.subscriber)) is.from
-            ∙ ap (λ place. service.mailboxes (own.publisher publisher) (own.subscriber place)) is.to ∙ its
+        ap (λ place. service.mailboxes (own.publisher place) (own.subscriber link.subscriber)) led.0
+            ∙ ap (λ place. service.mailboxes (own.publisher publisher) (own.subscriber place)) led.1 ∙ its
             ∙ ap (λ (x : Mailbox T). Some x) (same_box (connection_of i a).limit link.limit
             (map (message_as (names.message number)) (connection_of i a).waiting)
             (map (slot_message value own m.table) (mail_at m connection))
             (map (message_as (names.message number)) (connection_of i a).borrowed) [] (sym is.limit)
             (waits ∙ ap (map (slot_message value own m.table)) (sym mail))
             (ap (map (message_as (names.message number))) ((rested domain number a none there).none i))),
-        ap overflows is.kind ∙ kind_same ports.sizes.enable_safe_overflow ∙ ap (λ sizes. sizes.enable_safe_overflow) s.sizes,
+        ap overflows led.2 ∙ kind_same ports.sizes.enable_safe_overflow ∙ ap (λ sizes. sizes.enable_safe_overflow) s.sizes,
       )
 
   each_mailbox : (connection : ℕ) (link : LinkState) → slice_get m.links connection ≡ Some link
@@ -478,7 +488,7 @@ module _ {T U X Y Z : Type 0} {F : X → Type 0} {G : Y → Type 0} {H : Z → T
   senders_apart one other first second same =
       let one_below : one < length senders = omega (arith, first, h.publisher_count) in
       let other_below : other < length senders = omega (arith, second, h.publisher_count) in
-      let (port, is, lane, got, of) = lane_of payload_words (middle_words numbered header_words) m.table
+      let (port, is, lane, got, of) = lane_of spelling m.table
       (port_if ports.publishers (slice_get senders one)) (slice_get m.publishers one)
       (h.sending one one_below) in
       let (publisher, by_name, rest) = publisher_there one lane got in
@@ -526,7 +536,7 @@ module _ {T U X Y Z : Type 0} {F : X → Type 0} {G : Y → Type 0} {H : Z → T
       → (number : ℕ) × (port : PublisherPort T U) × (port_of number ports.publishers ≡ Some port) × (lane.last ≡ port.last_sequence)
   last_there place lane found =
       let below : place < length senders = omega (arith, slice_get_within m.publishers place lane found, h.publisher_count) in
-      let (port, is, other, got, of) = lane_of payload_words (middle_words numbered header_words) m.table
+      let (port, is, other, got, of) = lane_of spelling m.table
       (port_if ports.publishers (slice_get senders place)) (slice_get m.publishers place)
       (h.sending place below) in
       let same : other ≡ lane = some_is other lane (sym got ∙ found) in
@@ -534,7 +544,7 @@ module _ {T U X Y Z : Type 0} {F : X → Type 0} {G : Y → Type 0} {H : Z → T
 
   numbers_fit : NumbersFit numbered m
   numbers_fit = record {
-    wide = λ is. omega (arith, wide is, h.user_header);
+    wide = wide;
     each = λ place lane found.
         let (number, port, there, last) = last_there place lane found in
         ap is_some last

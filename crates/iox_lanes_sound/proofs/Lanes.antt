@@ -56,6 +56,7 @@ use Rattle.iox_lanes.specs.Failing.{FailAsAsked}
 use Rattle.iox_lanes.specs.Holding.{IsLaneOf, LanesHold, numbers_of}
 use Rattle.iox_lanes.specs.Lying.{IsLaidAt}
 use Rattle.iox_lanes.specs.Sized.{AreSized}
+use Rattle.iox_lanes.specs.Spelling.{Spelling, spelling_of}
 use Rattle.iox_lanes_laws.specs.Subscribing.{OneOf}
 use Rattle.iox_lanes_machine.proofs.Ends.{some_is}
 use Rattle.iox_lanes_machine.proofs.LanesParties.Rings.{all_at}
@@ -81,7 +82,7 @@ use Rattle.iox_lanes_machine.specs.World.{World}
 use Rattle.iox_lanes_opening.specs.Deciding.{fixed_answer, has_handlers, is_failure, is_retry, is_retrying, retries, would_fail, would_wait}
 use Rattle.iox_lanes_opening.specs.Lingering.{connection_lingers, has_ended, has_left_over, has_out, is_listed_publisher}
 use Rattle.iox_lanes_opening.specs.Lingering.{is_listed_subscriber, leads_nowhere, publisher_lingers, subscriber_lingers}
-use Rattle.iox_lanes_opening.specs.Middles.{middle_words}
+use Rattle.iox_lanes_opening.specs.Middles.{middle_count}
 use Rattle.iox_lanes_opening.specs.Refusals.{first_reason, has_growing, is_blocked}
 use Rattle.iox_lanes_opening.specs.UpToDate.{is_up_to_date}
 use Rattle.iox_lanes_service.proofs.Tables.{counted_stands}
@@ -103,17 +104,17 @@ use Rattle.iox_machine.specs.Service.{Publisher, Service, Subscriber, mailbox}
 use Rattle.iox_machine.specs.Table.{at, contains}
 
 -- one of these messages stands in each slot that is laid
-laid_there : {T U : Type 0} (payload_words : T → List ℕ) (header_words : Option ℕ × U → List ℕ) (table : TableWords) (first : ℕ)
+laid_there : {T U : Type 0} (spelling : Spelling T U) (table : TableWords) (first : ℕ)
     (port : PublisherPort T U) (laid : List ℕ) (messages : List (Message T U)) → length laid ≡ length messages
-    → ((place : ℕ) → IsLaidAt payload_words header_words table first port (slice_get laid place) (slice_get messages place))
+    → ((place : ℕ) → IsLaidAt spelling table first port (slice_get laid place) (slice_get messages place))
     → (place slot : ℕ) → slice_get laid place ≡ Some slot
     → (message : Message T U) × (slice_get messages place ≡ Some message) × (slot ≡ first + message.slot)
-laid_there payload_words header_words table first port [] messages many each place slot is = absurd (cc is)
-laid_there payload_words header_words table first port (x ∷ laid) [] many each place slot is = absurd (omega (arith, many))
-laid_there payload_words header_words table first port (x ∷ laid) (message ∷ messages) many each zero slot is =
+laid_there spelling table first port [] messages many each place slot is = absurd (cc is)
+laid_there spelling table first port (x ∷ laid) [] many each place slot is = absurd (omega (arith, many))
+laid_there spelling table first port (x ∷ laid) (message ∷ messages) many each zero slot is =
     (message, refl, sym (some_is x slot is) ∙ some_is x (first + message.slot) (each 0).0)
-laid_there payload_words header_words table first port (x ∷ laid) (message ∷ messages) many each (suc place) slot is =
-    laid_there payload_words header_words table first port laid messages (omega (arith, many)) (λ k. each (suc k)) place slot is
+laid_there spelling table first port (x ∷ laid) (message ∷ messages) many each (suc place) slot is =
+    laid_there spelling table first port laid messages (omega (arith, many)) (λ k. each (suc k)) place slot is
 
 -- who is listed has a place among the numbers
 among_numbers : {V : Type 0} (number_of : V → ℕ) (places : List (Option (Member V))) (place : ℕ) (member : Member V)
@@ -190,13 +191,13 @@ module _ {T U X Y Z : Type 0} {F : X → Type 0} {G : Y → Type 0} {H : Z → T
     (value : List ℕ → T) (payload_count header_count : ℕ) (long : (x : T) → length (payload_words x) ≡ payload_count)
     (domain : Domain T U (Handlers X Y F G) (DegradationHandler Z H)) (none : first_reason domain ≡ None) (m : World) (came : CameTo m)
     (senders readers indices : List ℕ)
-    (h : LanesHold payload_words (middle_words domain.state.ports.sizes.sequence_numbers header_words) payload_count header_count domain m
+    (h : LanesHold (spelling_of domain.state.ports.sizes.sequence_numbers payload_words payload_count header_words header_count) domain m
     senders readers indices)
-    (wide : domain.state.ports.sizes.sequence_numbers ≡ true → 0 < header_count)
     (back : AreReadBack payload_words value domain.state.ports)
     (names : Naming) (lent : List (ℕ × LentSlot)) (held : List (ℕ × Taken)) (buffer : ℕ) (service : Service T)
     (s : StandsFor names lent held buffer domain.state.ports service) (roomy : AreRoomy domain.state.ports) (between : AllBetween m)
-    (sized : AreSized domain.state.ports.sizes (length senders) (length readers) payload_count header_count m)
+    (sized : AreSized domain.state.ports.sizes (length senders) (length readers) payload_count
+    (middle_count domain.state.ports.sizes.sequence_numbers header_count) m)
     (fail : FailAsAsked domain m senders) (choices : Choices T) (chosen : DecideAsKept choices names domain service) where
   abbrev ports : ServicePorts T U
   ports = domain.state.ports
@@ -207,12 +208,12 @@ module _ {T U X Y Z : Type 0} {F : X → Type 0} {G : Y → Type 0} {H : Z → T
   abbrev own : LaneNaming
   own = lane_names names numbered senders readers m
 
-  abbrev head_words : Option ℕ × U → List ℕ
-  head_words = middle_words domain.state.ports.sizes.sequence_numbers header_words
+  abbrev spelling : Spelling T U
+  spelling = spelling_of numbered payload_words payload_count header_words header_count
 
   has : HaveMessages value own m service
-  has = have_messages payload_words header_words value payload_count header_count long domain none m came senders readers indices h wide
-      back names lent held buffer service s
+  has = have_messages payload_words header_words value payload_count header_count long domain none m came senders readers indices h back
+      names lent held buffer service s
 
   kept : IsKept m
   kept = (came_kept m came).0
@@ -224,10 +225,10 @@ module _ {T U X Y Z : Type 0} {F : X → Type 0} {G : Y → Type 0} {H : Z → T
   fresh = kept.fresh h.moments
 
   sender_is : (place : ℕ) → place < length senders → slice_get senders place ≡ Some (get_or senders place 0)
-  sender_is place below = sender_at payload_words head_words payload_count header_count domain m senders readers indices h place below
+  sender_is place below = sender_at spelling domain m senders readers indices h place below
 
   reader_is : (place : ℕ) → place < length readers → slice_get readers place ≡ Some (get_or readers place 0)
-  reader_is place below = reader_at payload_words head_words payload_count header_count domain m senders readers indices h place below
+  reader_is place below = reader_at spelling domain m senders readers indices h place below
 
   publishers_linger : list_any (publisher_lingers ports.publisher_list) ports.publishers ≡ false
   publishers_linger = (neither (list_any (publisher_lingers ports.publisher_list) ports.publishers)
@@ -253,7 +254,7 @@ module _ {T U X Y Z : Type 0} {F : X → Type 0} {G : Y → Type 0} {H : Z → T
     pub below : place < length senders
     pub port : PublisherPort T U
     pub found : port_of (get_or senders place 0) ports.publishers ≡ Some port
-    pub lane_is : IsLaneOf payload_words head_words m.table port lane
+    pub lane_is : IsLaneOf spelling m.table port lane
     pub member : Member PublisherEntry
     pub listed : get_or ports.publisher_list.places port.place None ≡ Some member
     pub stands : port.stands ≡ true
@@ -268,7 +269,7 @@ module _ {T U X Y Z : Type 0} {F : X → Type 0} {G : Y → Type 0} {H : Z → T
 
   sender_there : (place : ℕ) (lane : PublisherLaneState) → slice_get m.publishers place ≡ Some lane → IsSender place lane
   sender_there place lane there =
-      let l = laid payload_words head_words payload_count header_count domain m senders readers indices h place lane there in
+      let l = laid spelling domain m senders readers indices h place lane there in
       let port : PublisherPort T U = l.port in
       let found : port_of (get_or senders place 0) ports.publishers ≡ Some port = l.found in
       let (spot, member, listed, named) = listed_as (λ (entry : PublisherEntry). entry.publisher) ports.publisher_list.places place
@@ -349,7 +350,7 @@ module _ {T U X Y Z : Type 0} {F : X → Type 0} {G : Y → Type 0} {H : Z → T
     remembered : (slot : ℕ) → IsOwn lane.port.book slot → 0 < count slot lane.port.book.history → IsUsed slot
     remembered slot mine some =
         let (index, stood) = counted_stands lane.port.book.history slot some in
-        let (message, is, same) = laid_there payload_words head_words m.table first o.port lane.port.book.history
+        let (message, is, same) = laid_there spelling m.table first o.port lane.port.book.history
         o.port.sender.uses.history o.lane_is.history.as_many o.lane_is.history.each index slot stood in
         used_by slot mine o.port.sender.uses.history index message is same (λ some_one. omega (arith, some_one, in_domain message.slot))
 
@@ -360,12 +361,12 @@ module _ {T U X Y Z : Type 0} {F : X → Type 0} {G : Y → Type 0} {H : Z → T
         let (index, stood) = counted_stands link.found slot (subst (λ (slots : List ℕ). 0 < count slot slots) mail some) in
         let whose : IsSlotOf m link.publisher slot =
         mail_is_own m connection kept few link found index slot (ap (λ slots. slice_get slots index) mail ∙ stood) in
-        let j = joint payload_words head_words payload_count header_count domain m senders readers indices h connection link found in
+        let j = joint spelling domain m senders readers indices h connection link found in
         let same_place : link.publisher ≡ place = one_place link.publisher whose.lane whose.found whose.above whose.below in
         let same_port : j.port ≡ o.port =
         some_is j.port o.port (sym j.found ∙ ap (λ p. port_of (get_or senders p 0) ports.publishers) same_place ∙ o.found) in
         let same_lane : j.lane ≡ lane = some_is j.lane lane (sym j.got ∙ ap (slice_get m.publishers) same_place ∙ there) in
-        let (message, is, same) = laid_there payload_words head_words m.table j.lane.port.book.first j.port link.found
+        let (message, is, same) = laid_there spelling m.table j.lane.port.book.first j.port link.found
         (connection_of j.index j.port).waiting j.waits.as_many j.waits.each index slot stood in
         used_by slot mine (connection_of j.index j.port).waiting index message is
         (same ∙ ap (λ (l : PublisherLaneState). l.port.book.first + message.slot) same_lane)
@@ -453,7 +454,7 @@ module _ {T U X Y Z : Type 0} {F : X → Type 0} {G : Y → Type 0} {H : Z → T
         (sized.routes place lane there) (λ index route is.
         let within : index < length readers =
         omega (arith, slice_get_within lane.port.routes index route is, sized.routes place lane there) in
-        let (link, found, from, to) = link_there payload_words head_words payload_count header_count domain m senders readers indices h
+        let (link, found, from, to) = link_there spelling domain m senders readers indices h
         place index o.below within in
         ap (reader_name own m.links) (in_order index route is)
         ∙ ap (λ (l : Option LinkState). option_map_or (λ (one : LinkState). own.subscriber one.subscriber) l 0) found
@@ -543,7 +544,7 @@ module _ {T U X Y Z : Type 0} {F : X → Type 0} {G : Y → Type 0} {H : Z → T
             listed in
             let reads : slice_get readers index ≡ Some member.value.subscriber = ap (λ ns. slice_get ns index) h.subscribers ∙ found in
             let within : index < length readers = slice_get_within readers index member.value.subscriber reads in
-            let (link, there_is, from, to) = link_there payload_words head_words payload_count header_count domain m senders readers
+            let (link, there_is, from, to) = link_there spelling domain m senders readers
             indices h place index o.below within in
             let number_is : get_or readers index 0 ≡ member.value.subscriber =
             some_is (get_or readers index 0) member.value.subscriber (sym (reader_is index within) ∙ reads) in
@@ -661,7 +662,7 @@ module _ {T U X Y Z : Type 0} {F : X → Type 0} {G : Y → Type 0} {H : Z → T
     is_met index route is =
         let ends = all_at (lanes.IsLinkOf m.links receiver place) lane.port.routes index route is
         (kept.within.receivers place lane there) in
-        let j = joint payload_words head_words payload_count header_count domain m senders readers indices h route.connection
+        let j = joint spelling domain m senders readers indices h route.connection
         ends.link ends.found in
         let sender = sender_there (ends.link).publisher j.lane j.got in
         let met = sender.follows.met o.spot o.member o.listed in
@@ -733,7 +734,7 @@ module _ {T U X Y Z : Type 0} {F : X → Type 0} {G : Y → Type 0} {H : Z → T
         by_key spot publisher None keyed is = absurd (cc (is, ap (option_map name_by) keyed))
         by_key spot publisher (Some key) keyed is =
             let (sender, within, named) = comes_from spot key keyed in
-            let (link, found, from, to) = link_there payload_words head_words payload_count header_count domain m senders readers indices h
+            let (link, found, from, to) = link_there spelling domain m senders readers indices h
             sender place within o.below in
             let among = (fresh.subscribers place lane there).connections.each (sender * length readers + place) link found to in
             let key_is : name_by key ≡ publisher = some_is (name_by key) publisher (sym (ap (option_map name_by) keyed) ∙ is) in
@@ -763,7 +764,7 @@ module _ {T U X Y Z : Type 0} {F : X → Type 0} {G : Y → Type 0} {H : Z → T
         has.subscribers_apart one other (slice_get_within m.subscribers one lane found) (slice_get_within m.subscribers other behind there)
         same;
     joined = λ connection link found.
-        let j = joint payload_words head_words payload_count header_count domain m senders readers indices h connection link found in
+        let j = joint spelling domain m senders readers indices h connection link found in
         ((j.lane, j.got), some_there m.subscribers link.subscriber (omega (arith, j.to, h.subscriber_count)));
     mailboxes = has.mailboxes;
     kinds = has.kinds;

@@ -22,6 +22,7 @@ use Rattle.iox_lanes.proofs.Presence.{both, not_no}
 use Rattle.iox_lanes.proofs.Tied.{goes_there}
 use Rattle.iox_lanes.specs.Holding.{LanesHold}
 use Rattle.iox_lanes.specs.Lying.{IsLaidAt}
+use Rattle.iox_lanes.specs.Spelling.{Spelling, spelling_of}
 use Rattle.iox_lanes.specs.Tied.{tie_for}
 use Rattle.iox_lanes_laws.proofs.Founds.{found_held}
 use Rattle.iox_lanes_laws.proofs.HaveNumbers.{orders_have_numbers}
@@ -43,10 +44,9 @@ use Rattle.iox_lanes_machine.specs.LanesBase.declared.words.word.SlotWord.TheVar
 use Rattle.iox_lanes_machine.specs.Reads.{width}
 use Rattle.iox_lanes_machine.specs.WholeReads.{CameTo}
 use Rattle.iox_lanes_machine.specs.World.{World}
-use Rattle.iox_lanes_opening.specs.Middles.{middle_words}
 use Rattle.iox_lanes_opening.specs.Refusals.{first_reason}
 use Rattle.iox_lanes_opening.specs.UpToDate.{is_reader}
-use Rattle.iox_lanes_sound.proofs.Having.{beq_same, well_numbered}
+use Rattle.iox_lanes_sound.proofs.Having.{beq_same, some_middle, well_numbered}
 use Rattle.iox_lanes_sound.proofs.Joints.{joint, laid, sender_at}
 use Rattle.iox_lanes_sound.specs.Sequences.{SequencesFound, SequencesWait, waiting_sequences}
 
@@ -102,14 +102,13 @@ sequence_held m slot some have =
 module _ {T U X Y Z : Type 0} {F : X → Type 0} {G : Y → Type 0} {H : Z → Type 0} (payload_words : T → List ℕ) (header_words : U → List ℕ)
     (payload_count header_count : ℕ) (domain : Domain T U (Handlers X Y F G) (DegradationHandler Z H)) (none : first_reason domain ≡ None)
     (m : World) (came : CameTo m) (senders readers indices : List ℕ)
-    (h : LanesHold payload_words (middle_words domain.state.ports.sizes.sequence_numbers header_words) payload_count header_count domain m
-    senders readers indices)
-    (wide : domain.state.ports.sizes.sequence_numbers ≡ true → 0 < header_count) where
+    (h : LanesHold (spelling_of domain.state.ports.sizes.sequence_numbers payload_words payload_count header_words header_count) domain m
+    senders readers indices) where
   abbrev ports : ServicePorts T U
   ports = domain.state.ports
 
-  abbrev head_words : Bool → Option ℕ × U → List ℕ
-  head_words numbered = middle_words numbered header_words
+  abbrev spelling : Bool → Spelling T U
+  spelling numbered = spelling_of numbered payload_words payload_count header_words header_count
 
   kept : IsKept m
   kept = (came_kept m came).0
@@ -117,7 +116,7 @@ module _ {T U X Y Z : Type 0} {F : X → Type 0} {G : Y → Type 0} {H : Z → T
   -- what is laid has the sequence numbers of its messages
   laid_sequences : (numbered : Bool) → numbered ≡ true → 0 < m.table.sizes.user_header_words → (first : ℕ) (port : PublisherPort T U)
       (slots : List ℕ) (messages : List (Message T U)) → length slots ≡ length messages
-      → ((place : ℕ) → IsLaidAt payload_words (head_words numbered) m.table first port (slice_get slots place) (slice_get messages place))
+      → ((place : ℕ) → IsLaidAt (spelling numbered) m.table first port (slice_get slots place) (slice_get messages place))
       → All (HasNumber (found_messages m) 0) slots
       → map (sequence_under (found_messages m)) (map (number_by (found_messages m) 0) slots)
       ≡ map (λ (message : Message T U). unwrap_or message.sequence 0) messages
@@ -146,9 +145,9 @@ module _ {T U X Y Z : Type 0} {F : X → Type 0} {G : Y → Type 0} {H : Z → T
 
   pub found_go_up : SequencesWait ports → SequencesFound m (found_messages m)
   found_go_up wait = λ connection last link lane there got is.
-      let j = joint payload_words (head_words ports.sizes.sequence_numbers) payload_count header_count domain m senders readers indices h
+      let j = joint (spelling ports.sizes.sequence_numbers) domain m senders readers indices h
       connection link there in
-      let l = laid payload_words (head_words ports.sizes.sequence_numbers) payload_count header_count domain m senders readers indices h
+      let l = laid (spelling ports.sizes.sequence_numbers) domain m senders readers indices h
       link.publisher lane got in
       let same_port : l.port ≡ j.port = some_is l.port j.port (sym l.found ∙ j.found) in
       let last_is : j.port.last_sequence ≡ Some last =
@@ -157,10 +156,11 @@ module _ {T U X Y Z : Type 0} {F : X → Type 0} {G : Y → Type 0} {H : Z → T
       sym (beq_same (is_some j.port.last_sequence) ports.sizes.sequence_numbers
       (not_no (beq (is_some j.port.last_sequence) ports.sizes.sequence_numbers)
       (well_numbered domain none (get_or senders link.publisher 0) j.port j.found).0)) ∙ ap is_some last_is in
-      let some : 0 < m.table.sizes.user_header_words = omega (arith, wide numbered, h.user_header) in
+      let some : 0 < m.table.sizes.user_header_words = subst (λ n. 0 < n) (sym h.user_header)
+      (some_middle ports.sizes.sequence_numbers header_count numbered) in
       let goes = goes_there domain none link.publisher (get_or senders link.publisher 0) (get_or readers link.subscriber 0) j.port j.reader
       (ap (λ numbers. slice_get numbers link.publisher) (sym h.publishers)
-      ∙ sender_at payload_words (head_words ports.sizes.sequence_numbers) payload_count header_count domain m senders readers indices h
+      ∙ sender_at (spelling ports.sizes.sequence_numbers) domain m senders readers indices h
       link.publisher j.from) j.found j.read in
       let index_is : tie_for j.port (Some j.reader) ≡ j.index = some_is (tie_for j.port (Some j.reader)) j.index (sym goes.0 ∙ j.tie) in
       let leads : leads_at (tie_for j.port (Some j.reader)) (get_or readers link.subscriber 0) j.port ≡ true =

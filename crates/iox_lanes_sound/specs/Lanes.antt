@@ -49,10 +49,10 @@ abbrev pub begun_numbers : LaneNaming → LaneNumbers
 begun_numbers names = record { names = names; lent = []; held = [] }
 
 -- Then calls that go in turn from these lanes on are a run of a machine whose one service that is.
-abbrev pub TurnsGoOnAsPorts : {T U X Y D : Type 0} {F : X → Type 0} {G : Y → Type 0} → Choices T → MessageTypeDetails → ℕ → (T → List ℕ)
-    → (List ℕ → T) → Domain T U (Handlers X Y F G) D → World → List ℕ → List ℕ → Type 0
-TurnsGoOnAsPorts {T} choices types most_buffered payload_words value domain lanes senders readers = (names : Naming)
-    (lent : List (ℕ × LentSlot)) (held : List (ℕ × Taken)) (buffer : ℕ) (service : Service T)
+abbrev pub TurnsGoOnAsPorts : {T U X Y D : Type 0} {F : X → Type 0} {G : Y → Type 0} → Choices T → (T → List ℕ) → (List ℕ → T)
+    → Domain T U (Handlers X Y F G) D → World → List ℕ → List ℕ → Type 0
+TurnsGoOnAsPorts {T} choices payload_words value domain lanes senders readers = (types : MessageTypeDetails) (most_buffered : ℕ)
+    (names : Naming) (lent : List (ℕ × LentSlot)) (held : List (ℕ × Taken)) (buffer : ℕ) (service : Service T)
     → StandsFor names lent held buffer domain.state.ports service
     → AreRoomy domain.state.ports → AreReadBack payload_words value domain.state.ports → DecideAsKept choices names domain service
     → (state : State T) (calls : List (Party × Call)) (n : World) → state.services ≡ service ∷ [] → GoInTurn lanes calls n

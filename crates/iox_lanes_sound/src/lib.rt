@@ -12,7 +12,6 @@
 #![tactic(auto)]
 
 ghost use Rattle.std.specs.Prelude.{ℕ, List, ◌≡◌, ◌<◌, ◌^◌, ◌⊎◌, length, None, Some};
-ghost use Rattle.iox_command.specs.NegotiateBase.DescribeBase.declared.message_type.MessageTypeDetails.{MessageTypeDetails};
 ghost use Rattle.iox_domain.specs.DomainPorts.declared.attached.Taken.{Taken};
 ghost use Rattle.iox_domain.specs.DomainValues.declared.degradation.DegradationCause.TheVariants as cause;
 ghost use Rattle.iox_domain_machine.specs.Naming.{Naming};
@@ -21,10 +20,11 @@ ghost use Rattle.iox_domain_machine.specs.Tables.{LentSlot};
 ghost use Rattle.iox_lanes.specs.Failing.{FailAsAsked};
 ghost use Rattle.iox_lanes.specs.Holding.{LanesHold};
 ghost use Rattle.iox_lanes.specs.Sized.{AreSized};
+ghost use Rattle.iox_lanes.specs.Spelling.{spelling_of};
 ghost use Rattle.iox_lanes_machine.specs.Resting.{AllBetween};
 ghost use Rattle.iox_lanes_laws.specs.Numbered.{found_messages};
 ghost use Rattle.iox_lanes_machine.specs.WholeReads.{CameTo};
-ghost use Rattle.iox_lanes_opening.specs.Middles.{middle_count, middle_words};
+ghost use Rattle.iox_lanes_opening.specs.Middles.{middle_count};
 ghost use Rattle.iox_lanes_opening.specs.Refusals.{first_reason};
 ghost use Rattle.iox_lanes_opening.specs.declared.refusals.into_lanes_error.IntoLanesError.TheVariants as reason;
 ghost use Rattle.iox_lanes_sound.specs.AgreedLimits.{AgreedLimitsStay, ReceivesLookAsAgreed};
@@ -63,8 +63,9 @@ pub fn standing_ports_are_sound<T, U>()
 pub fn lanes_have_messages<T: Words, U: Words>(opened: &DomainLanes<T, U>)
     requires none { first_reason opened.now.domain ≡ None }
     requires came { CameTo opened.now.lanes.lanes }
-    requires holds { LanesHold T.parts (middle_words opened.now.domain.state.ports.sizes.sequence_numbers U.parts) T.WORDS
-        (middle_count opened.now.domain.state.ports.sizes.sequence_numbers U.WORDS) opened.now.domain opened.now.lanes.lanes
+    requires holds { LanesHold
+        (spelling_of opened.now.domain.state.ports.sizes.sequence_numbers T.parts T.WORDS U.parts U.WORDS) opened.now.domain
+        opened.now.lanes.lanes
         opened.now.publishers.items opened.now.subscribers.items opened.now.connections.items }
     ensures { (names : Naming) (lent : List (ℕ × LentSlot)) (held : List (ℕ × Taken)) (buffer : ℕ) (service : Service T)
         → StandsFor names lent held buffer opened.now.domain.state.ports service
@@ -93,8 +94,9 @@ pub fn lanes_stand<T: Words + Default, U: Words, B: Decides + Degrades, D: Degra
     requires sized { AreSized opened.now.domain.state.ports.sizes (length opened.now.publishers.items)
         (length opened.now.subscribers.items) T.WORDS (middle_count opened.now.domain.state.ports.sizes.sequence_numbers U.WORDS)
         opened.now.lanes.lanes }
-    requires holds { LanesHold T.parts (middle_words opened.now.domain.state.ports.sizes.sequence_numbers U.parts) T.WORDS
-        (middle_count opened.now.domain.state.ports.sizes.sequence_numbers U.WORDS) opened.now.domain opened.now.lanes.lanes
+    requires holds { LanesHold
+        (spelling_of opened.now.domain.state.ports.sizes.sequence_numbers T.parts T.WORDS U.parts U.WORDS) opened.now.domain
+        opened.now.lanes.lanes
         opened.now.publishers.items opened.now.subscribers.items opened.now.connections.items }
     ensures { (handed : Handed B D) → StandAsPorts (chosen_by T.is_default (λ who. B.decides who) (λ who. B.degrades who)
         (λ who. D.degrades who) handed) T.parts T.of_parts opened.now.domain opened.now.lanes.lanes opened.now.publishers.items
@@ -115,12 +117,13 @@ pub fn turns_go_on_from_ports<T: Words + Default, U: Words, B: Decides + Degrade
     requires sized { AreSized opened.now.domain.state.ports.sizes (length opened.now.publishers.items)
         (length opened.now.subscribers.items) T.WORDS (middle_count opened.now.domain.state.ports.sizes.sequence_numbers U.WORDS)
         opened.now.lanes.lanes }
-    requires holds { LanesHold T.parts (middle_words opened.now.domain.state.ports.sizes.sequence_numbers U.parts) T.WORDS
-        (middle_count opened.now.domain.state.ports.sizes.sequence_numbers U.WORDS) opened.now.domain opened.now.lanes.lanes
+    requires holds { LanesHold
+        (spelling_of opened.now.domain.state.ports.sizes.sequence_numbers T.parts T.WORDS U.parts U.WORDS) opened.now.domain
+        opened.now.lanes.lanes
         opened.now.publishers.items opened.now.subscribers.items opened.now.connections.items }
     requires slots { opened.now.lanes.lanes.table.sizes.slots < 2 ^ 64 }
-    ensures { (handed : Handed B D) (types : MessageTypeDetails) (buffer : ℕ) → TurnsGoOnAsPorts (chosen_by T.is_default
-        (λ who. B.decides who) (λ who. B.degrades who) (λ who. D.degrades who) handed) types buffer T.parts T.of_parts
+    ensures { (handed : Handed B D) → TurnsGoOnAsPorts (chosen_by T.is_default
+        (λ who. B.decides who) (λ who. B.degrades who) (λ who. D.degrades who) handed) T.parts T.of_parts
         opened.now.domain opened.now.lanes.lanes opened.now.publishers.items opened.now.subscribers.items }
 {}
 
@@ -131,8 +134,9 @@ pub fn found_sequences_go_up<T: Words, U: Words>(opened: &DomainLanes<T, U>)
     requires none { first_reason opened.now.domain ≡ None }
     requires came { CameTo opened.now.lanes.lanes }
     requires messages { opened.now.lanes.messages ≡ found_messages opened.now.lanes.lanes }
-    requires holds { LanesHold T.parts (middle_words opened.now.domain.state.ports.sizes.sequence_numbers U.parts) T.WORDS
-        (middle_count opened.now.domain.state.ports.sizes.sequence_numbers U.WORDS) opened.now.domain opened.now.lanes.lanes
+    requires holds { LanesHold
+        (spelling_of opened.now.domain.state.ports.sizes.sequence_numbers T.parts T.WORDS U.parts U.WORDS) opened.now.domain
+        opened.now.lanes.lanes
         opened.now.publishers.items opened.now.subscribers.items opened.now.connections.items }
     ensures { SequencesWait opened.now.domain.state.ports → SequencesFound opened.now.lanes.lanes opened.now.lanes.messages }
 {}

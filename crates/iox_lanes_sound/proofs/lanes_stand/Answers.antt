@@ -1,16 +1,12 @@
-use Rattle.iox_lanes_opening.specs.Middles.{middle_count}
-use Rattle.iox_lanes_sound.proofs.Having.{some_middle}
 use Rattle.iox_lanes_sound.proofs.Lanes.{stand}
 use Rattle.iox_lanes_sound.proofs.lanes_stand.Goals as goal
 use Rattle.iox_machine.specs.Choices.{chosen_by}
 
 pub returns : goal.returns
 returns g c = λ handed names lent held buffer service stands roomy back chosen.
-    stand g.T.Words.parts g.U.Words.parts g.T.Words.of_parts g.T.Words.WORDS
-    (middle_count c.args.opened.now.domain.state.ports.sizes.sequence_numbers g.U.Words.WORDS) g.met.T.Words.as_many
+    stand g.T.Words.parts g.U.Words.parts g.T.Words.of_parts g.T.Words.WORDS g.U.Words.WORDS g.met.T.Words.as_many
     c.args.opened.now.domain c.requires.none c.args.opened.now.lanes.lanes c.requires.came c.args.opened.now.publishers.items
-    c.args.opened.now.subscribers.items c.args.opened.now.connections.items c.requires.holds
-    (some_middle c.args.opened.now.domain.state.ports.sizes.sequence_numbers g.U.Words.WORDS) back names lent held buffer service stands
+    c.args.opened.now.subscribers.items c.args.opened.now.connections.items c.requires.holds back names lent held buffer service stands
     roomy c.requires.between c.requires.sized c.requires.fails
     (chosen_by (λ value. g.T.Default.is_default value) (λ who. g.B.Decides.decides who) (λ who. g.B.Degrades.degrades who)
     (λ who. g.D.Degrades.degrades who) handed) chosen

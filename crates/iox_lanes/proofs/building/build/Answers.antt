@@ -1,11 +1,12 @@
 use Rattle.std.proofs.Common.{rules, ◌≡◌, length, subst, ◌∙◌, ap}
-use Rattle.iox_lanes_opening.specs.Middles.{middle_count, middle_words}
+use Rattle.iox_lanes_opening.specs.Middles.{middle_count}
 use Rattle.iox_lanes.specs.Alone.{KeepAlone}
 use Rattle.iox_lanes.specs.Built.{HaveSlots}
 use Rattle.iox_lanes.specs.Failing.{asked, failing}
 use Rattle.iox_lanes.specs.Laid.{publishers_behind}
 use Rattle.iox_lanes.specs.Ordered.{readers_behind}
 use Rattle.iox_lanes.specs.Sized.{AreAgreed}
+use Rattle.iox_lanes.specs.Spelling.{spelling_of}
 use Rattle.iox_lanes.proofs.Built.{are_built}
 use Rattle.iox_lanes.proofs.Exact.{are_exact}
 use Rattle.iox_lanes.proofs.Presence.{are_there}
@@ -54,8 +55,9 @@ returns-clause-built g c =
     let ordering : c.deref-5.result.now ≡ c.in_ok-subscribers.subscribers.items = search rules in
     let publisher_count : c.len.result ≡ length c.in_ok-publishers.publishers.items = search rules in
     let subscriber_count : c.len-2.result ≡ length c.in_ok-subscribers.subscribers.items = search rules in
-    are_built g.T.Words.parts (middle_words c.args.domain.now.state.ports.sizes.sequence_numbers g.U.Words.parts) g.T.Words.WORDS
-    (middle_count c.args.domain.now.state.ports.sizes.sequence_numbers g.U.Words.WORDS) c.args.domain.now
+    are_built
+    (spelling_of c.args.domain.now.state.ports.sizes.sequence_numbers g.T.Words.parts g.T.Words.WORDS g.U.Words.parts g.U.Words.WORDS)
+    c.args.domain.now
     c.in_ok-publishers.publishers.items
     c.in_ok-subscribers.subscribers.items c.sizes_of.result _
     c.in_ok-lanes.lanes.lanes c.find_publishers.new.lanes.lanes c.find_orders.new.lanes.lanes c.into_lanes.result
@@ -71,12 +73,14 @@ returns-clause-built g c =
     (subst (λ p. KeepAlone c.args.domain.now.state.ports p c.deref-3.result.now) publishers c.in_ok-find_publishers.ensures.alone))
     c.in_ok-lanes.ensures.start
     (subst (λ s. c.find_publishers.new.lanes.lanes
-    ≡ publishers_behind g.T.Words.parts (middle_words c.args.domain.now.state.ports.sizes.sequence_numbers g.U.Words.parts)
-    g.T.Words.WORDS (middle_count c.args.domain.now.state.ports.sizes.sequence_numbers g.U.Words.WORDS) c.args.domain.now
+    ≡ publishers_behind
+    (spelling_of c.args.domain.now.state.ports.sizes.sequence_numbers g.T.Words.parts g.T.Words.WORDS g.U.Words.parts g.U.Words.WORDS)
+    c.args.domain.now
     c.in_ok-publishers.publishers.items s c.in_ok-lanes.lanes.lanes (length c.in_ok-publishers.publishers.items)) subscribers
     (subst (λ p. c.find_publishers.new.lanes.lanes
-    ≡ publishers_behind g.T.Words.parts (middle_words c.args.domain.now.state.ports.sizes.sequence_numbers g.U.Words.parts)
-    g.T.Words.WORDS (middle_count c.args.domain.now.state.ports.sizes.sequence_numbers g.U.Words.WORDS) c.args.domain.now p
+    ≡ publishers_behind
+    (spelling_of c.args.domain.now.state.ports.sizes.sequence_numbers g.T.Words.parts g.T.Words.WORDS g.U.Words.parts g.U.Words.WORDS)
+    c.args.domain.now p
     c.deref-3.result.now
     c.in_ok-lanes.lanes.lanes (length p)) publishers c.in_ok-find_publishers.ensures.behind))
     (subst (λ s. c.find_orders.new.lanes.lanes

@@ -4,10 +4,10 @@ use Rattle.std.proofs.lemmas.Option.{slice_get-get_or}
 use Rattle.iox_domain.specs.Subscribers.{subscriber_of}
 use Rattle.iox_domain.specs.DomainPorts.Ports.{connection_of}
 use Rattle.iox_lanes_machine.specs.declared.found.Found.TheVariants as found
-use Rattle.iox_lanes_opening.specs.Middles.{middle_count, middle_words}
 use Rattle.iox_lanes.specs.Alone.{AreAlone}
 use Rattle.iox_lanes.specs.Behind.{behind_findings, behind_finding}
 use Rattle.iox_lanes.specs.Laid.{link_findings, waiting_findings}
+use Rattle.iox_lanes.specs.Spelling.{spelling_of}
 use Rattle.iox_lanes.specs.Tied.{tie_for}
 use Rattle.iox_lanes.proofs.Behind.{behind_none, behind_one, next_flat}
 use Rattle.iox_lanes.proofs.Rows.{one_more}
@@ -28,23 +28,26 @@ loop-other-preserved g c =
           c.args.subscribers.now c.loop-other.other _ c.args.connections.now.items _ _ there c.loop-other.invariant.2
           (pushed ∙ ap (λ index. c.loop-other.connections.items ++ index ∷ []) c.tie_to-index.ensures),
       next_flat c.args.lanes.now.lanes c.loop-other.lanes.lanes c.find_waiting.new.lanes.lanes
-          (λ other. link_findings g.T.Words.parts (middle_words c.args.domain.now.state.ports.sizes.sequence_numbers g.U.Words.parts)
-          g.T.Words.WORDS (middle_count c.args.domain.now.state.ports.sizes.sequence_numbers g.U.Words.WORDS) c.args.place other
+          (λ other. link_findings
+          (spelling_of c.args.domain.now.state.ports.sizes.sequence_numbers g.T.Words.parts g.T.Words.WORDS g.U.Words.parts g.U.Words.WORDS)
+          c.args.place other
           c.args.first
           c.args.port.now (tie_for c.args.port.now
           (subscriber_of (slice_index c.args.subscribers.now other) c.args.domain.now.state.ports.subscribers))) c.loop-other.other
           c.loop-other.invariant.3
           (behind_one c.loop-other.lanes.lanes c.find.new.self.lanes c.find_waiting.new.lanes.lanes
           (found.Buffer c.args.place c.loop-other.other (connection_of c.tie_to-index.result c.args.port.now).limit)
-          (waiting_findings g.T.Words.parts (middle_words c.args.domain.now.state.ports.sizes.sequence_numbers g.U.Words.parts)
-          g.T.Words.WORDS (middle_count c.args.domain.now.state.ports.sizes.sequence_numbers g.U.Words.WORDS) c.args.place
+          (waiting_findings
+          (spelling_of c.args.domain.now.state.ports.sizes.sequence_numbers g.T.Words.parts g.T.Words.WORDS g.U.Words.parts g.U.Words.WORDS)
+          c.args.place
           c.loop-other.other c.args.first
           c.args.port.now (connection_of c.tie_to-index.result c.args.port.now).waiting)
           (c.in_ok-find.ensures.behind ∙ ap (λ n. behind_finding c.loop-other.lanes.lanes
           (found.Buffer c.args.place c.loop-other.other n)) c.limit_at.ensures) c.in_ok-find_waiting.ensures.behind
           ∙ ap (λ index. behind_findings c.loop-other.lanes.lanes
-          (link_findings g.T.Words.parts (middle_words c.args.domain.now.state.ports.sizes.sequence_numbers g.U.Words.parts)
-          g.T.Words.WORDS (middle_count c.args.domain.now.state.ports.sizes.sequence_numbers g.U.Words.WORDS) c.args.place
+          (link_findings
+          (spelling_of c.args.domain.now.state.ports.sizes.sequence_numbers g.T.Words.parts g.T.Words.WORDS g.U.Words.parts g.U.Words.WORDS)
+          c.args.place
           c.loop-other.other
           c.args.first c.args.port.now index)) c.tie_to-index.ensures),
       below_more (λ k. AreAlone c.args.port.now

@@ -2,8 +2,8 @@ use Rattle.std.proofs.Common.{arith, rules, sym}
 use Rattle.std.proofs.lemmas.Option.{slice_get_within}
 use borrow.Author.Count.{below_more}
 use Rattle.iox_lanes_machine.specs.declared.found.Found.TheVariants as found
-use Rattle.iox_lanes_opening.specs.Middles.{middle_count, middle_words}
 use Rattle.iox_lanes.specs.Alone.{IsAloneAt}
+use Rattle.iox_lanes.specs.Spelling.{spelling_of}
 use Rattle.iox_lanes.proofs.Alone.{alone_at}
 use Rattle.iox_lanes.proofs.Behind.{behind_none, next_message}
 use Rattle.iox_lanes.proofs.building.find_history.Goals as goal
@@ -15,8 +15,7 @@ pub loop-at-preserved : goal.loop-at-preserved
 loop-at-preserved g c = (
   search rules,
   search rules,
-  next_message g.T.Words.parts (middle_words c.args.numbered g.U.Words.parts) g.T.Words.WORDS
-      (middle_count c.args.numbered g.U.Words.WORDS) c.args.first c.args.port.now
+  next_message (spelling_of c.args.numbered g.T.Words.parts g.T.Words.WORDS g.U.Words.parts g.U.Words.WORDS) c.args.first c.args.port.now
       (λ slot. found.Newest c.args.place slot) c.args.port.now.sender.uses.history c.loop-at.at c.remembered-slot.result
       c.saturating_add.result
       c.args.lanes.now.lanes c.loop-at.lanes.lanes c.find_message.new.lanes.lanes c.find.new.self.lanes c.remembered-slot.ensures.slot

@@ -1,16 +1,16 @@
 use Rattle.std.proofs.Common.{sym, ap, ◌∙◌}
 use Rattle.std.proofs.lemmas.Result.{on_ok_weaker}
-use Rattle.iox_lanes_opening.specs.Middles.{middle_count, middle_words}
 use Rattle.iox_lanes.specs.Behind.{behind_findings}
 use Rattle.iox_lanes.specs.Laid.{slot_in}
+use Rattle.iox_lanes.specs.Spelling.{spelling_of}
 use Rattle.iox_lanes.proofs.Alone.{has_one}
 use Rattle.iox_lanes.proofs.Behind.{behind_none, both_are, message_behind, no_value, one_value}
 use Rattle.iox_lanes.proofs.building.find_message.Goals as goal
 
 pub returns-in-Some-clause-waiting : goal.returns-in-Some-clause-waiting
 returns-in-Some-clause-waiting g c = on_ok_weaker c.find_value.result
-    (λ laid index at message there same. message_behind g.T.Words.parts (middle_words c.args.numbered g.U.Words.parts) g.T.Words.WORDS
-    (middle_count c.args.numbered g.U.Words.WORDS) c.args.first
+    (λ laid index at message there same. message_behind
+    (spelling_of c.args.numbered g.T.Words.parts g.T.Words.WORDS g.U.Words.parts g.U.Words.WORDS) c.args.first
     c.args.port.now message
     c.args.lanes.now.lanes c.find_word.new.lanes.lanes c.find_word-2.new.lanes.lanes c.find_word-3.new.lanes.lanes
     c.find_middle.new.lanes.lanes c.find_value.new.lanes.lanes
@@ -28,8 +28,8 @@ returns-in-Some-clause-waiting g c = on_ok_weaker c.find_value.result
 pub returns-in-Some-clause-remembered : goal.returns-in-Some-clause-remembered
 returns-in-Some-clause-remembered g c
     = on_ok_weaker c.find_value.result
-    (λ laid at message there same. message_behind g.T.Words.parts (middle_words c.args.numbered g.U.Words.parts) g.T.Words.WORDS
-    (middle_count c.args.numbered g.U.Words.WORDS) c.args.first
+    (λ laid at message there same. message_behind
+    (spelling_of c.args.numbered g.T.Words.parts g.T.Words.WORDS g.U.Words.parts g.U.Words.WORDS) c.args.first
     c.args.port.now message
     c.args.lanes.now.lanes c.find_word.new.lanes.lanes c.find_word-2.new.lanes.lanes c.find_word-3.new.lanes.lanes
     c.find_middle.new.lanes.lanes c.find_value.new.lanes.lanes
@@ -45,9 +45,8 @@ returns-in-Some-clause-remembered g c
     (c.payload.ensures.remembered at message there same)) c.find_value.ensures.behind
 
 pub returns-in-None-clause-waiting : goal.returns-in-None-clause-waiting
-returns-in-None-clause-waiting g c = λ index at message there same. message_behind g.T.Words.parts
-    (middle_words c.args.numbered g.U.Words.parts) g.T.Words.WORDS
-    (middle_count c.args.numbered g.U.Words.WORDS) c.args.first c.args.port.now message
+returns-in-None-clause-waiting g c = λ index at message there same. message_behind
+    (spelling_of c.args.numbered g.T.Words.parts g.T.Words.WORDS g.U.Words.parts g.U.Words.WORDS) c.args.first c.args.port.now message
     c.args.lanes.now.lanes c.find_word.new.lanes.lanes c.find_word-2.new.lanes.lanes c.find_word-3.new.lanes.lanes
     c.find_middle.new.lanes.lanes c.find_middle.new.lanes.lanes
     c.saturating_add-at.result c.elements.result (c.sequence.result, c.user_header.result.now) c.payload.result.now
@@ -62,8 +61,8 @@ returns-in-None-clause-waiting g c = λ index at message there same. message_beh
 
 pub returns-in-None-clause-remembered : goal.returns-in-None-clause-remembered
 returns-in-None-clause-remembered g c
-    = λ at message there same. message_behind g.T.Words.parts (middle_words c.args.numbered g.U.Words.parts) g.T.Words.WORDS
-    (middle_count c.args.numbered g.U.Words.WORDS) c.args.first
+    = λ at message there same. message_behind
+    (spelling_of c.args.numbered g.T.Words.parts g.T.Words.WORDS g.U.Words.parts g.U.Words.WORDS) c.args.first
     c.args.port.now message
     c.args.lanes.now.lanes c.find_word.new.lanes.lanes c.find_word-2.new.lanes.lanes c.find_word-3.new.lanes.lanes
     c.find_middle.new.lanes.lanes c.find_middle.new.lanes.lanes

@@ -3,13 +3,13 @@ use Rattle.std.proofs.lemmas.List.{length-map}
 use Rattle.std.proofs.lemmas.Option.{slice_get-get_or, slice_get-map, slice_get_within}
 use Rattle.iox_domain.specs.Kept.{kept_under}
 use Rattle.iox_lanes_opening.specs.Deciding.{would_fail}
-use Rattle.iox_lanes_opening.specs.Middles.{middle_count, middle_words}
 use Rattle.iox_lanes.specs.Alone.{KeepAloneAt}
 use Rattle.iox_lanes.proofs.Alone.{keeps_at}
 use borrow.Author.Count.{below_more}
 use Rattle.iox_lanes.specs.Failing.{asked, failing}
 use Rattle.iox_lanes.proofs.Failing.{next_said}
 use Rattle.iox_lanes.specs.Laid.{first_slot}
+use Rattle.iox_lanes.specs.Spelling.{spelling_of}
 use Rattle.iox_lanes.proofs.LaidPublishers.{next_publisher}
 use Rattle.iox_lanes.proofs.Tied.{ties_next}
 use Rattle.iox_lanes.proofs.building.find_publishers.Goals as goal
@@ -37,8 +37,9 @@ loop-place-preserved g c =
           (c.find_connections.ensures.fails ∙ c.find_history.ensures.fails ∙ c.in_ok-find_publisher.ensures.fails),
       next.0,
       next.1,
-      next_publisher g.T.Words.parts (middle_words c.args.domain.now.state.ports.sizes.sequence_numbers g.U.Words.parts) g.T.Words.WORDS
-          (middle_count c.args.domain.now.state.ports.sizes.sequence_numbers g.U.Words.WORDS) c.args.domain.now c.args.publishers.now
+      next_publisher
+          (spelling_of c.args.domain.now.state.ports.sizes.sequence_numbers g.T.Words.parts g.T.Words.WORDS g.U.Words.parts g.U.Words.WORDS)
+          c.args.domain.now c.args.publishers.now
           c.args.subscribers.now c.args.lanes.now.lanes c.loop-place.lanes.lanes c.find_publisher.new.lanes.lanes
           c.find_history.new.lanes.lanes c.find_connections.new.lanes.lanes
           c.loop-place.place c.first_slot-first.result c.publisher_of-port.result.now c.publisher_of-port.ensures

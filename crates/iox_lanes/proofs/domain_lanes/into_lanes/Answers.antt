@@ -1,17 +1,19 @@
 use Rattle.std.proofs.Common.{◌≡◌, ◌<◌, ◌^◌, length, subst, sym}
 use Rattle.iox_lanes_laws.specs.Numbered.{found_messages}
 use Rattle.iox_lanes_laws.specs.Recorded.{AreAsHeld, ArePast}
-use Rattle.iox_lanes_opening.specs.Middles.{middle_count, middle_words}
+use Rattle.iox_lanes_opening.specs.Middles.{middle_count}
 use Rattle.iox_lanes.specs.Exact.{sizes_for}
 use Rattle.iox_lanes.specs.Failing.{FailAsAsked}
 use Rattle.iox_lanes.specs.Finding.{WasFound}
 use Rattle.iox_lanes.specs.Holding.{LanesHold}
+use Rattle.iox_lanes.specs.Spelling.{spelling_of}
 use Rattle.iox_lanes.proofs.domain_lanes.into_lanes.Goals as goal
 
 pub returns-in-Ok-clause-lanes : goal.returns-in-Ok-clause-lanes
 returns-in-Ok-clause-lanes g c =
-    subst (λ made. LanesHold g.T.Words.parts (middle_words c.args.domain.state.ports.sizes.sequence_numbers g.U.Words.parts)
-    g.T.Words.WORDS (middle_count c.args.domain.state.ports.sizes.sequence_numbers g.U.Words.WORDS) c.args.domain made.lanes.lanes
+    subst (λ made. LanesHold
+    (spelling_of c.args.domain.state.ports.sizes.sequence_numbers g.T.Words.parts g.T.Words.WORDS g.U.Words.parts g.U.Words.WORDS)
+    c.args.domain made.lanes.lanes
     made.publishers.items made.subscribers.items made.connections.items) (sym c.with.ensures) c.in-Ok.ensures.holds
 
 pub returns-in-Ok-clause-fails : goal.returns-in-Ok-clause-fails

@@ -2,13 +2,14 @@ use Rattle.std.proofs.Common.{◌≡◌, ◌<◌, ◌^◌, length, refl, subst, 
 use Rattle.iox_lanes_laws.specs.Numbered.{found_messages}
 use Rattle.iox_lanes_machine.specs.Resting.{AllBetween}
 use Rattle.iox_lanes_machine.specs.WholeReads.{CameTo}
-use Rattle.iox_lanes_opening.specs.Middles.{middle_count, middle_words}
+use Rattle.iox_lanes_opening.specs.Middles.{middle_count}
 use Rattle.iox_lanes.specs.Exact.{sizes_for}
 use Rattle.iox_lanes.specs.Failing.{FailAsAsked}
 use Rattle.iox_lanes.specs.Finding.{WasFound}
 use Rattle.iox_lanes.specs.Holding.{LanesHold}
 use Rattle.iox_lanes.specs.Joined.{IsJoined}
 use Rattle.iox_lanes.specs.Sized.{AreSized}
+use Rattle.iox_lanes.specs.Spelling.{spelling_of}
 use Rattle.iox_lanes.proofs.Built.{few_slots}
 use Rattle.iox_lanes.proofs.Holds.{lanes_hold}
 use Rattle.iox_lanes.proofs.Joins.{are_joined}
@@ -16,28 +17,33 @@ use Rattle.iox_lanes.proofs.domain_lanes.open.Goals as goal
 
 pub returns-clause-holds : goal.returns-clause-holds
 returns-clause-holds g c =
-    subst (λ made. LanesHold g.T.Words.parts (middle_words c.args.domain.now.state.ports.sizes.sequence_numbers g.U.Words.parts)
-    g.T.Words.WORDS (middle_count c.args.domain.now.state.ports.sizes.sequence_numbers g.U.Words.WORDS) c.args.domain.now
+    subst (λ made. LanesHold
+    (spelling_of c.args.domain.now.state.ports.sizes.sequence_numbers g.T.Words.parts g.T.Words.WORDS g.U.Words.parts g.U.Words.WORDS)
+    c.args.domain.now
     made.lanes.lanes
     made.publishers.items made.subscribers.items made.connections.items) (sym c.in_ok-kept.ensures.made)
-    (lanes_hold g.T.Words.parts (middle_words c.args.domain.now.state.ports.sizes.sequence_numbers g.U.Words.parts) g.T.Words.WORDS
-    (middle_count c.args.domain.now.state.ports.sizes.sequence_numbers g.U.Words.WORDS) c.args.domain.now
+    (lanes_hold
+    (spelling_of c.args.domain.now.state.ports.sizes.sequence_numbers g.T.Words.parts g.T.Words.WORDS g.U.Words.parts g.U.Words.WORDS)
+    c.args.domain.now
     c.in_ok-opened.opened.publishers.items c.in_ok-opened.opened.subscribers.items c.in_ok-opened.opened.connections.items
     c.in_ok-opened.opened.lanes c.in_ok-opened.ensures.built c.requires c.in_ok-opened.ensures.publishers
     c.in_ok-opened.ensures.subscribers c.in_ok-opened.ensures.ties)
 
 pub returns-clause-joined : goal.returns-clause-joined
 returns-clause-joined g c =
-    subst (λ made. IsJoined g.T.Words.WORDS (middle_count c.args.domain.now.state.ports.sizes.sequence_numbers g.U.Words.WORDS)
+    subst (λ made. IsJoined
+    (spelling_of c.args.domain.now.state.ports.sizes.sequence_numbers g.T.Words.parts g.T.Words.WORDS g.U.Words.parts g.U.Words.WORDS)
     (length made.one.items) made.lanes.lanes
     c.args.domain.now.state.ports.publishers made.publishers.items (length made.subscribers.items) made.connections.items)
     (sym c.in_ok-kept.ensures.made)
-    (are_joined g.T.Words.parts (middle_words c.args.domain.now.state.ports.sizes.sequence_numbers g.U.Words.parts) g.T.Words.WORDS
-    (middle_count c.args.domain.now.state.ports.sizes.sequence_numbers g.U.Words.WORDS) c.args.domain.now c.in_ok-opened.opened.lanes
+    (are_joined
+    (spelling_of c.args.domain.now.state.ports.sizes.sequence_numbers g.T.Words.parts g.T.Words.WORDS g.U.Words.parts g.U.Words.WORDS)
+    c.args.domain.now c.in_ok-opened.opened.lanes
     c.in_ok-opened.opened.publishers.items c.in_ok-opened.opened.subscribers.items c.in_ok-opened.opened.connections.items c.requires
     c.in_ok-opened.ensures.sized
-    (lanes_hold g.T.Words.parts (middle_words c.args.domain.now.state.ports.sizes.sequence_numbers g.U.Words.parts) g.T.Words.WORDS
-    (middle_count c.args.domain.now.state.ports.sizes.sequence_numbers g.U.Words.WORDS) c.args.domain.now
+    (lanes_hold
+    (spelling_of c.args.domain.now.state.ports.sizes.sequence_numbers g.T.Words.parts g.T.Words.WORDS g.U.Words.parts g.U.Words.WORDS)
+    c.args.domain.now
     c.in_ok-opened.opened.publishers.items c.in_ok-opened.opened.subscribers.items c.in_ok-opened.opened.connections.items
     c.in_ok-opened.opened.lanes c.in_ok-opened.ensures.built c.requires c.in_ok-opened.ensures.publishers
     c.in_ok-opened.ensures.subscribers c.in_ok-opened.ensures.ties)
@@ -69,8 +75,9 @@ returns-clause-fails g c =
 pub returns-clause-few : goal.returns-clause-few
 returns-clause-few g c =
     subst (λ made. made.lanes.lanes.table.sizes.slots < 2 ^ 64) (sym c.in_ok-kept.ensures.made)
-    (few_slots g.T.Words.parts (middle_words c.args.domain.now.state.ports.sizes.sequence_numbers g.U.Words.parts) g.T.Words.WORDS
-    (middle_count c.args.domain.now.state.ports.sizes.sequence_numbers g.U.Words.WORDS) c.args.domain.now
+    (few_slots
+    (spelling_of c.args.domain.now.state.ports.sizes.sequence_numbers g.T.Words.parts g.T.Words.WORDS g.U.Words.parts g.U.Words.WORDS)
+    c.args.domain.now
     c.in_ok-opened.opened.publishers.items c.in_ok-opened.opened.subscribers.items c.in_ok-opened.opened.lanes
     c.in_ok-opened.ensures.built)
 
