@@ -109,8 +109,7 @@ both_are {A} {B} {a} {b} {x} {y} one other =
     let right : B → A × B = λ c. (b, c) in
     ap left one ∙ ap right other
 
-module _ {T U : Type 0} (spelling : Spelling T U) (first : ℕ)
-    (port : PublisherPort T U) where
+module _ {T U : Type 0} (spelling : Spelling T U) (first : ℕ) (port : PublisherPort T U) where
   -- the words of a message, header before user header before payload
   pub message_behind : (message : Message T U) (m first_word second_word third_word header after : World) (slot elements : ℕ)
       (user_header : Option ℕ × U) (values : List T)
@@ -127,8 +126,7 @@ module _ {T U : Type 0} (spelling : Spelling T U) (first : ℕ)
       behind_one m first_word after _ _ one
       (behind_one first_word second_word after _ _ two
       (behind_one second_word third_word after _ _ three (behind_lists third_word header after _ _ headed laid)))
-      ∙ ap (λ n. behind_findings m (words_findings spelling n port.owner.node_id
-      port.number elements user_header values)) at
+      ∙ ap (λ n. behind_findings m (words_findings spelling n port.owner.node_id port.number elements user_header values)) at
       ∙ ap (λ n. behind_findings m (words_findings spelling (slot_in first message.slot)
       port.owner.node_id port.number n user_header values)) many
       ∙ ap (λ u. behind_findings m (words_findings spelling (slot_in first message.slot)
@@ -140,14 +138,12 @@ module _ {T U : Type 0} (spelling : Spelling T U) (first : ℕ)
   pub next_message : (last : ℕ → Found) (messages : List (Message T U)) (at slot in_lanes : ℕ) (m now worded after : World)
       → slice_get (map (λ message. message.slot) messages) at ≡ Some slot
       → now ≡ behind_findings m (flat_map
-      (λ message. message_findings spelling first port message
-      ++ last (slot_in first message.slot) ∷ []) (take at messages))
+      (λ message. message_findings spelling first port message ++ last (slot_in first message.slot) ∷ []) (take at messages))
       → ((message : Message T U) → slice_get messages at ≡ Some message → message.slot ≡ slot
       → worded ≡ behind_findings now (message_findings spelling first port message))
       → in_lanes ≡ slot_in first slot → after ≡ behind_finding worded (last in_lanes)
       → after ≡ behind_findings m (flat_map
-      (λ message. message_findings spelling first port message
-      ++ last (slot_in first message.slot) ∷ []) (take (at + 1) messages))
+      (λ message. message_findings spelling first port message ++ last (slot_in first message.slot) ∷ []) (take (at + 1) messages))
   next_message last messages at slot in_lanes m now worded after there sofar words is behind_it =
       let found = mapped_at (λ (message : Message T U). message.slot) messages at slot there in
       next_of m now after (λ message. message_findings spelling first port message

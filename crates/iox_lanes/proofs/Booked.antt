@@ -95,8 +95,7 @@ module _ (table : TableSizes) (who first size kept : ℕ) where
       (subst (λ h. IsBooked h (with_found m (found.Newest who slot))) (ap (λ b. history ++ slot_if b slot) (itself who))
       (booked_on m (found.Newest who slot) history refl booked fits))
 
-  module _ {T U : Type 0} (spelling : Spelling T U)
-      (port : PublisherPort T U) where
+  module _ {T U : Type 0} (spelling : Spelling T U) (port : PublisherPort T U) where
     words_leave : (message : Message T U)
         → Each (LeavesBook who) (message_findings spelling first port message)
     words_leave message =

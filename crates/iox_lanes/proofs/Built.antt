@@ -30,8 +30,7 @@ pub are_built : {T U X Y D : Type 0} {F : X → Type 0} {G : Y → Type 0} (spel
     → AreAgreed domain.state.ports.sizes (length publishers) (length subscribers) spelling.payload_count spelling.middle_count sizes
     → WasFound last lanes → last ≡ sizes → HaveSlots domain.state.ports.publishers publishers sizes.slots
     → words_of (table_sizes sizes) < 2 ^ 64 → KeepAlone domain.state.ports publishers subscribers
-    → begun ≡ start sizes → laid ≡ publishers_behind spelling domain publishers subscribers
-    begun (length publishers)
+    → begun ≡ start sizes → laid ≡ publishers_behind spelling domain publishers subscribers begun (length publishers)
     → ordered ≡ readers_behind publishers domain.state.ports.subscribers subscribers laid (length subscribers) → lanes ≡ ordered
     → AreBuilt spelling domain publishers subscribers lanes
 are_built spelling domain publishers subscribers sizes last begun laid ordered lanes agreed

@@ -54,8 +54,7 @@ each_leaves P Q leaves [] m all q = q
 each_leaves P Q leaves (f ∷ fs) m all q = each_leaves P Q leaves fs (behind_finding m f) all.1 (leaves m f all.0 q)
 
 -- all that is found of messages of a publisher is found of it
-module _ {T U : Type 0} (spelling : Spelling T U)
-    (P : Found → Type 0) where
+module _ {T U : Type 0} (spelling : Spelling T U) (P : Found → Type 0) where
   pub each_payload : (slot : ℕ) (values : List T)
       → ((word : ℕ) → word < spelling.payload_count → (value : T) → slice_get values 0 ≡ Some value
       → P (found.Held slot (Payload word) (slice_index (spelling.payload value) word)))
@@ -120,17 +119,14 @@ module _ {T U : Type 0} (spelling : Spelling T U)
         → ((slot : ℕ) → P (found.Newest place slot)) → ((other slot : ℕ) → P (found.Waiting place other slot))
         → ((other messages : ℕ) → P (found.Buffer place other messages))
         → Each P (history_findings spelling place first port port.sender.uses.history)
-        × Each P (flat_listed (λ other. link_findings spelling place other first port
-        (tie other)) count)
+        × Each P (flat_listed (λ other. link_findings spelling place other first port (tie other)) count)
     each_of tie count remembered waiting newest waits buffers = (
       each_history port.sender.uses.history remembered newest,
-      each_flat_listed P (λ other. link_findings spelling place other first port
-          (tie other)) count
-          (λ other below. (
-            buffers other (connection_of (tie other) port).limit,
-            each_waiting other
-                (connection_of (tie other) port).waiting (waiting other below) (waits other),
-          )),
+      each_flat_listed P (λ other. link_findings spelling place other first port (tie other)) count (λ other below. (
+        buffers other (connection_of (tie other) port).limit,
+        each_waiting other
+            (connection_of (tie other) port).waiting (waiting other below) (waits other),
+      )),
     )
 
 -- what the order of a connection leaves, those of all connections do

@@ -137,14 +137,11 @@ module _ {T U X Y D : Type 0} {F : X → Type 0} {G : Y → Type 0} (spelling : 
         (λ word below. tt) (λ word below value there. tt)
 
     link_leave_other : (other at : ℕ) (own : PublisherPort T U) → (at ≡ place → ⊥)
-        → Each (LeavesLink place other) (history_findings spelling at (at * width) own
-        own.sender.uses.history)
+        → Each (LeavesLink place other) (history_findings spelling at (at * width) own own.sender.uses.history)
         × Each (LeavesLink place other) (flat_listed
-        (λ reader. link_findings spelling at reader (at * width) own (tie own reader))
-        (length subscribers))
+        (λ reader. link_findings spelling at reader (at * width) own (tie own reader)) (length subscribers))
     link_leave_other other at own apart =
-        each_of spelling (LeavesLink place other) at (at * width) own (tie own)
-        (length subscribers)
+        each_of spelling (LeavesLink place other) at (at * width) own (tie own) (length subscribers)
         (λ k message is. link_words other at own message) (λ reader below k message is. link_words other at own message)
         (λ slot. tt) (λ reader slot row same. absurd (apart row)) (λ reader messages row same. absurd (apart row))
 
@@ -186,8 +183,7 @@ module _ {T U X Y D : Type 0} {F : X → Type 0} {G : Y → Type 0} (spelling : 
         }
 
     abbrev reader_findings : ℕ → List Found
-    reader_findings other = link_findings spelling place other (place * width) port
-        (tie port other)
+    reader_findings other = link_findings spelling place other (place * width) port (tie port other)
 
     abbrev BothAt : (other : ℕ) → other < length subscribers → List ℕ → ℕ → World → Type 0
     BothAt other below waiting limit m
@@ -199,24 +195,19 @@ module _ {T U X Y D : Type 0} {F : X → Type 0} {G : Y → Type 0} (spelling : 
         → Each (λ f. LeavesBook place f × LeavesLink place other f) (reader_findings reader)
     reader_leaves other below reader apart = (
       ((refl, refl), λ row same. absurd (apart same)),
-      each_waiting spelling (λ f. LeavesBook place f × LeavesLink place other f) place
-          (place * width) port reader (at_tie reader).waiting
-          (λ k message is. each_word spelling
-          (λ f. LeavesBook place f × LeavesLink place other f) (slot_in (place * width) message.slot)
+      each_waiting spelling (λ f. LeavesBook place f × LeavesLink place other f) place (place * width) port reader (at_tie reader).waiting
+          (λ k message is. each_word spelling (λ f. LeavesBook place f × LeavesLink place other f) (slot_in (place * width) message.slot)
           port.owner.node_id port.number message.elements (message.sequence, message.user_header) message.values ((refl, refl), tt)
           ((refl, refl), tt)
           ((refl, refl), tt) (λ word within. ((refl, refl), tt)) (λ word within value there. ((refl, refl), tt)))
           (λ slot. ((refl, refl), λ row same. absurd (apart same))),
     )
 
-    inside_of : (message : Message T U) → IsLaidOf spelling domain publishers subscribers lanes
-        built port message → message.slot < size
+    inside_of : (message : Message T U) → IsLaidOf spelling domain publishers subscribers lanes built port message → message.slot < size
         → (slot_in (place * width) message.slot ≡ place * width + message.slot) × (message.slot < size)
     inside_of message laid small =
-        let beneath = below_width spelling domain publishers subscribers lanes built place
-        number port message listed found_port laid in (
-          (all_slots spelling domain publishers subscribers lanes built place
-              message.slot within beneath).1,
+        let beneath = below_width spelling domain publishers subscribers lanes built place number port message listed found_port laid in (
+          (all_slots spelling domain publishers subscribers lanes built place message.slot within beneath).1,
           small,
         )
 
@@ -227,8 +218,7 @@ module _ {T U X Y D : Type 0} {F : X → Type 0} {G : Y → Type 0} (spelling : 
         let mail = mail_fits other below in
         let beneath = of_sizes other below in
         let buffer = found.Buffer place other (at_tie other).limit in
-        let waits = waiting_findings spelling place other (place * width) port
-        (at_tie other).waiting in
+        let waits = waiting_findings spelling place other (place * width) port (at_tie other).waiting in
         let begun : BothAt other below [] (at_tie other).limit (behind_finding w buffer) = (
           booked_stays table place (place * width) size ((built.sized).sizes).history w buffer kept_slots (refl, refl) both.0,
           linked_buffer (built.sized).sizes place other beneath w (both.0).lane (at_tie other).limit ((built.sized).sizes).buffer
@@ -285,34 +275,27 @@ module _ {T U X Y D : Type 0} {F : X → Type 0} {G : Y → Type 0} (spelling : 
         (λ word below. (refl, refl)) (λ word below value there. (refl, refl))
 
     leave_other : (at : ℕ) (own : PublisherPort T U) → (at ≡ place → ⊥)
-        → Each (LeavesBook place) (history_findings spelling at (at * width) own
-        own.sender.uses.history)
+        → Each (LeavesBook place) (history_findings spelling at (at * width) own own.sender.uses.history)
         × Each (LeavesBook place) (flat_listed
-        (λ other. link_findings spelling at other (at * width) own (tie own other))
-        (length subscribers))
+        (λ other. link_findings spelling at other (at * width) own (tie own other)) (length subscribers))
     leave_other at own apart =
         each_of spelling (LeavesBook place) at (at * width) own (tie own) (length subscribers)
         (λ k message is. words at own message) (λ reader below k message is. words at own message)
         (λ slot. (refl, ap (λ b. slot_if b slot) (not_same at place apart))) (λ reader slot. (refl, refl)) (λ reader messages. (refl, refl))
 
     links_leave : Each (LeavesBook place) (flat_listed
-        (λ other. link_findings spelling place other (place * width) port (tie port other))
-        (length subscribers))
+        (λ other. link_findings spelling place other (place * width) port (tie port other)) (length subscribers))
     links_leave = each_flat_listed (LeavesBook place)
-        (λ other. link_findings spelling place other (place * width) port (tie port other))
-        (length subscribers)
-        (λ other below. (
+        (λ other. link_findings spelling place other (place * width) port (tie port other)) (length subscribers) (λ other below. (
           (refl, refl),
-          each_waiting spelling (LeavesBook place) place
-              (place * width) port other (connection_of (tie port other) port).waiting
+          each_waiting spelling (LeavesBook place) place (place * width) port other (connection_of (tie port other) port).waiting
               (λ k message is. words place port message) (λ slot. (refl, refl)),
         ))
 
     lay_one : (m : World) (reached : ℕ) (own : Option (PublisherPort T U)) → reached < length publishers
         → port_of (slice_index publishers reached) ports ≡ own
         → m.moments ≡ 0 → slice_get m.publishers reached ≡ slice_get (start (built.sized).sizes).publishers reached → IsBookedTo m reached
-        → IsBookedTo (publisher_behind spelling domain.state.ports.subscribers subscribers
-        m reached
+        → IsBookedTo (publisher_behind spelling domain.state.ports.subscribers subscribers m reached
         (would_fail (kept_under (slice_index publishers reached) domain.state.publisher_handlers)) own) (suc reached)
     lay_one m reached None below is fresh rest sofar = record {
       steady = sofar.steady;
@@ -389,16 +372,14 @@ module _ {T U X Y D : Type 0} {F : X → Type 0} {G : Y → Type 0} (spelling : 
         kept = history_findings spelling reached (reached * width) own own.sender.uses.history
 
         links : List Found
-        links = flat_listed (λ other. link_findings spelling reached other (reached * width)
-            own (tie own other)) (length subscribers)
+        links = flat_listed (λ other. link_findings spelling reached other (reached * width) own (tie own other)) (length subscribers)
 
         same_port : place ≡ reached → own ≡ port
         same_port same = some_is own port (sym is ∙ ap (λ n. port_of (slice_index publishers n) ports) (sym same) ∙ ap
             (λ n. port_of n ports) (get_or_from_slice_get publishers place number 0 listed) ∙ found_port)
 
         Left : ℕ → PublisherPort T U → Type 0
-        Left at of_it = Booked (messages_behind spelling domain.state.ports.subscribers
-            subscribers at of_it (at * width) begun)
+        Left at of_it = Booked (messages_behind spelling domain.state.ports.subscribers subscribers at of_it (at * width) begun)
 
         whole : slots_in own ≡ own.sender.uses.first + own.sender.uses.size
         whole = counted own width (built.room reached (slice_index publishers reached) own here is)
@@ -434,8 +415,7 @@ module _ {T U X Y D : Type 0} {F : X → Type 0} {G : Y → Type 0} (spelling : 
         own_booked : place ≡ reached → Left place port
         own_booked same =
             each_leaves (LeavesBook place) Booked (λ n f leave is. stays n f leave is)
-            (flat_listed (λ other. link_findings spelling place other (place * width) port
-            (tie port other)) (length subscribers))
+            (flat_listed (λ other. link_findings spelling place other (place * width) port (tie port other)) (length subscribers))
             (behind_findings begun (history_findings spelling place (place * width) port
             port.sender.uses.history)) links_leave (history_booked same)
 
@@ -461,8 +441,7 @@ module _ {T U X Y D : Type 0} {F : X → Type 0} {G : Y → Type 0} (spelling : 
         own_linked : (other : ℕ) → other < length subscribers → place ≡ reached → LeftAt other place port
         own_linked other beneath same =
             let linked = begun_linked other beneath [] ((built.sized).sizes).buffer (sofar.fresh other beneath (omega (arith, same))) in
-            let history = history_findings spelling place (place * width) port
-            port.sender.uses.history in
+            let history = history_findings spelling place (place * width) port port.sender.uses.history in
             let both : BothAt other beneath [] ((built.sized).sizes).buffer (behind_findings begun history) = (
               history_booked same,
               linked_behind other beneath history begun [] ((built.sized).sizes).buffer (link_history other) linked,
@@ -494,8 +473,7 @@ module _ {T U X Y D : Type 0} {F : X → Type 0} {G : Y → Type 0} (spelling : 
         }
 
     lay_all : (reached : ℕ) → reached ≤ length publishers
-        → IsBookedTo (so_far spelling domain publishers subscribers lanes built reached)
-        reached
+        → IsBookedTo (so_far spelling domain publishers subscribers lanes built reached) reached
     lay_all zero few = record {
       steady = record {
         moments = refl;
@@ -519,8 +497,7 @@ module _ {T U X Y D : Type 0} {F : X → Type 0} {G : Y → Type 0} (spelling : 
         subst Booked (sym built.behind) (readers_leave Booked
         (λ m who one other is. booked_stays table place (place * width) size ((built.sized).sizes).history m (found.Swapped who one other)
         kept_slots (refl, refl) is) publishers domain.state.ports.subscribers subscribers
-        (so_far spelling domain publishers subscribers lanes built (length publishers))
-        (length subscribers) (laid.booked within))
+        (so_far spelling domain publishers subscribers lanes built (length publishers)) (length subscribers) (laid.booked within))
 
     ends_linked : (other : ℕ) → other < length subscribers → Linked other (mail_slots other) (at_tie other).limit lanes
     ends_linked other below =
@@ -556,8 +533,7 @@ module _ {T U X Y D : Type 0} {F : X → Type 0} {G : Y → Type 0} (spelling : 
 
 module _ {T U X Y Z : Type 0} {F : X → Type 0} {G : Y → Type 0} {H : Z → Type 0} (spelling : Spelling T U)
     (domain : Domain T U (Handlers X Y F G) (DegradationHandler Z H)) (publishers subscribers : List ℕ) (lanes : World)
-    (built : AreBuilt spelling domain publishers subscribers lanes)
-    (none : first_reason domain ≡ None)
+    (built : AreBuilt spelling domain publishers subscribers lanes) (none : first_reason domain ≡ None)
     (numbered : publishers ≡ numbers_of (λ entry. entry.publisher) domain.state.ports.publisher_list.places)
     (read : subscribers ≡ numbers_of (λ entry. entry.subscriber) domain.state.ports.subscriber_list.places) where
   -- a publisher's messages for each subscriber go to a connection that is there

@@ -22,8 +22,7 @@ pub lanes_hold : {T U X Y Z : Type 0} {F : X → Type 0} {G : Y → Type 0} {H :
     → subscribers ≡ numbers_of (λ entry. entry.subscriber) domain.state.ports.subscriber_list.places
     → AreTies domain.state.ports publishers subscribers indices
     → LanesHold spelling domain lanes publishers subscribers indices
-lanes_hold spelling domain publishers subscribers indices lanes built none numbered read
-    ties =
+lanes_hold spelling domain publishers subscribers indices lanes built none numbered read ties =
     let counted = are_counted _ _ _ _ _ _ built.sized in
     record {
       moments = counted.moments;
@@ -35,17 +34,12 @@ lanes_hold spelling domain publishers subscribers indices lanes built none numbe
       subscriber_count = counted.subscriber_count;
       link_count = counted.link_count;
       sending = λ place below. sender_whole spelling domain publishers subscribers lanes built
-          none place (senders_keep spelling domain publishers subscribers lanes built none
-          numbered read place below);
+          none place (senders_keep spelling domain publishers subscribers lanes built none numbered read place below);
       linking = λ publisher subscriber below beneath.
-          link_whole spelling domain publishers subscribers lanes built none indices
-          publisher subscriber beneath read
-          (links_wait spelling domain publishers subscribers lanes built none numbered read
-          indices ties publisher subscriber below beneath)
+          link_whole spelling domain publishers subscribers lanes built none indices publisher subscriber beneath read
+          (links_wait spelling domain publishers subscribers lanes built none numbered read indices ties publisher subscriber below beneath)
           (leads_at _ _ _ _ _ _ built.sized publisher subscriber beneath)
           (are_tied domain none publishers subscribers indices numbered ties publisher subscriber beneath);
       receiving = λ place below.
-          reader_holds spelling domain publishers subscribers lanes built built.sized none
-          numbered
-          read place below;
+          reader_holds spelling domain publishers subscribers lanes built built.sized none numbered read place below;
     }

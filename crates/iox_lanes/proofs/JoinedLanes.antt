@@ -82,8 +82,7 @@ joins_at spelling places lanes ports senders readers indices place number joined
 }
 
 -- the publishers at the first places are as the lanes leave them, each other one is as it was
-pub record LeftSoFar {T U : Type 0} (reading : ReadingBack T U) (lanes : World) (senders : List ℕ)
-    (readers : ℕ)
+pub record LeftSoFar {T U : Type 0} (reading : ReadingBack T U) (lanes : World) (senders : List ℕ) (readers : ℕ)
     (indices : List ℕ) (start now : List (ℕ × PublisherPort T U)) (count : ℕ) : Type 0 where
   pub done : (number place : ℕ) → place_of number senders ≡ Some place → place < count
       → IsPortLeftIf reading lanes (place * readers) (row_of readers indices place) (slice_get lanes.publishers place)

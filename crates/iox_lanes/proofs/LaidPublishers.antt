@@ -22,14 +22,12 @@ pub next_publisher : {T U X Y D : Type 0} {F : X → Type 0} {G : Y → Type 0} 
     → now ≡ publishers_behind spelling domain publishers subscribers m place
     → named ≡ sender_behind now place (would_fail (kept_under (slice_index publishers place) domain.state.publisher_handlers)) port
     → first ≡ first_slot (slice_get named.publishers place)
-    → kept ≡ behind_findings named (history_findings spelling place first port
-    port.sender.uses.history)
+    → kept ≡ behind_findings named (history_findings spelling place first port port.sender.uses.history)
     → after ≡ behind_findings kept (flat_listed
     (λ other. link_findings spelling place other first port
     (tie_for port (subscriber_of (slice_index subscribers other) domain.state.ports.subscribers))) (length subscribers))
     → after ≡ publishers_behind spelling domain publishers subscribers m (place + 1)
-next_publisher spelling domain publishers subscribers m now named kept after place first
-    port there sofar naming begins history links =
+next_publisher spelling domain publishers subscribers m now named kept after place first port there sofar naming begins history links =
     let readers = domain.state.ports.subscribers in
     let fails = would_fail (kept_under (slice_index publishers place) domain.state.publisher_handlers) in
     let next : suc place ≡ place + 1 = omega arith in
@@ -38,8 +36,7 @@ next_publisher spelling domain publishers subscribers m now named kept after pla
     (λ other. link_findings spelling place other first port
     (tie_for port (subscriber_of (slice_index subscribers other) readers))) (length subscribers))) history
     ∙ ap (λ n. messages_behind spelling readers subscribers place port n named) begins
-    ∙ ap (λ (w : World). messages_behind spelling readers subscribers place port
-    (first_slot (slice_get w.publishers place)) w) naming
+    ∙ ap (λ (w : World). messages_behind spelling readers subscribers place port (first_slot (slice_get w.publishers place)) w) naming
     ∙ ap (publisher_behind spelling readers subscribers now place fails) (sym there)
     ∙ ap (λ w. publisher_behind spelling readers subscribers w place fails
     (port_of (slice_index publishers place) domain.state.ports.publishers)) sofar

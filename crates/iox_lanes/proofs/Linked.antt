@@ -255,8 +255,7 @@ module _ (sizes : LaneSizes) (who other : ℕ) where
         linked_stays m f waiting limit leaves.1 both.1,
       )
 
-      module _ {T U : Type 0} (spelling : Spelling T U)
-          (port : PublisherPort T U) where
+      module _ {T U : Type 0} (spelling : Spelling T U) (port : PublisherPort T U) where
         words_leave : (message : Message T U)
             → Each LeavesBoth (message_findings spelling first port message)
         words_leave message =

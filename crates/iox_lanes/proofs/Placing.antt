@@ -53,16 +53,13 @@ first_is words (first ∷ rest) value there = ap words (sym (some_is first value
 abbrev pub content_of : {T U : Type 0} → Spelling T U → PublisherPort T U → Message T U → SlotWord → ℕ
 content_of spelling port message (Header word)
     = slice_index (port.owner.node_id ∷ port.number ∷ message.elements ∷ []) word
-content_of spelling port message (UserHeader word) = slice_index (spelling.middle (message.sequence, message.user_header))
-    word
+content_of spelling port message (UserHeader word) = slice_index (spelling.middle (message.sequence, message.user_header)) word
 content_of spelling port message (Payload word) = slice_index (first_words spelling.payload message.values) word
 
-module _ {T U : Type 0} (spelling : Spelling T U) (first : ℕ)
-    (port : PublisherPort T U) where
+module _ {T U : Type 0} (spelling : Spelling T U) (first : ℕ) (port : PublisherPort T U) where
   -- what is found of a message is that
   agree_own : (slot : ℕ) (message : Message T U)
-      → Each (Agrees slot (content_of spelling port message))
-      (message_findings spelling first port message)
+      → Each (Agrees slot (content_of spelling port message)) (message_findings spelling first port message)
   agree_own slot message =
       each_word spelling (Agrees slot (content_of spelling port message))
       (slot_in first message.slot) port.owner.node_id port.number message.elements (message.sequence, message.user_header) message.values
@@ -100,8 +97,7 @@ module _ {T U : Type 0} (spelling : Spelling T U) (first : ℕ)
       (header_findings spelling.middle spelling.middle_count (slot_in first message.slot) (message.sequence, message.user_header))
       (payload_findings spelling.payload spelling.payload_count (slot_in first message.slot) message.values)
       (in_listed (λ at. found.Held (slot_in first message.slot) (UserHeader at)
-      (slice_index (spelling.middle (message.sequence, message.user_header)) at))
-      spelling.middle_count word (omega (arith, is, header))))))
+      (slice_index (spelling.middle (message.sequence, message.user_header)) at)) spelling.middle_count word (omega (arith, is, header))))))
   in_message sizes message value (Payload word) there payload header is =
       inr (inr (inr (in_right (found.Held (slot_in first message.slot) (Payload word)
       (slice_index (first_words spelling.payload message.values) word))
@@ -218,22 +214,18 @@ module _ {T U X Y D : Type 0} {F : X → Type 0} {G : Y → Type 0} (spelling : 
               subst (λ (p : PublisherPort T U). Each (Agrees slot content)
               (message_findings spelling (at * width) p other)) (sym (same_port same))
               (subst (λ (m : Message T U). Each (Agrees slot content)
-              (message_findings spelling (at * width) port m)) is
-              (agree_own spelling (at * width) port slot message))
+              (message_findings spelling (at * width) port m)) is (agree_own spelling (at * width) port slot message))
           | inr apart ↦ agree_apart spelling (at * width) own slot content other
               (λ equal. apart.1 (omega (arith, sym own_slot ∙ equal ∙ slot_is, ap (λ n. n * width) same)))
         ]
 
     agree_all : (at other_number : ℕ) (own : PublisherPort T U) → slice_get publishers at ≡ Some other_number
         → port_of other_number ports ≡ Some own
-        → Each (Agrees slot content) (history_findings spelling at (at * width) own
-        own.sender.uses.history)
+        → Each (Agrees slot content) (history_findings spelling at (at * width) own own.sender.uses.history)
         × Each (Agrees slot content) (flat_listed
-        (λ other. link_findings spelling at other (at * width) own (tie_at own other))
-        (length subscribers))
+        (λ other. link_findings spelling at other (at * width) own (tie_at own other)) (length subscribers))
     agree_all at other_number own there found =
-        each_of spelling (Agrees slot content) at (at * width) own (tie_at own)
-        (length subscribers)
+        each_of spelling (Agrees slot content) at (at * width) own (tie_at own) (length subscribers)
         (λ k other is. agree_any at other_number own other there found (inl (k, is)))
         (λ reader below k other is. agree_any at other_number own other there found (inr (reader, k, below, is)))
         (λ n. tt) (λ reader n. tt) (λ reader n. tt)
@@ -258,16 +250,14 @@ module _ {T U X Y D : Type 0} {F : X → Type 0} {G : Y → Type 0} (spelling : 
       comes_own : (m : World) → AreSteady table m
           → Holds (behind_findings (behind_findings m
           (history_findings spelling place (place * width) port port.sender.uses.history))
-          (flat_listed (λ other. link_findings spelling place other (place * width) port
-          (tie_at port other)) (length subscribers)))
+          (flat_listed (λ other. link_findings spelling place other (place * width) port (tie_at port other)) (length subscribers)))
       comes_own m steady = by laid
         where
           kept : List Found
           kept = history_findings spelling place (place * width) port port.sender.uses.history
 
           links : List Found
-          links = flat_listed (λ other. link_findings spelling place other (place * width)
-              port (tie_at port other)) (length subscribers)
+          links = flat_listed (λ other. link_findings spelling place other (place * width) port (tie_at port other)) (length subscribers)
 
           agree : Each (Agrees slot content) kept × Each (Agrees slot content) links
           agree = agree_all place number port listed found_port
@@ -277,17 +267,14 @@ module _ {T U X Y D : Type 0} {F : X → Type 0} {G : Y → Type 0} (spelling : 
               hold_behind table slot content word whole_word (behind_findings m kept) links agree.1
               (comes_behind table slot content word whole_word m kept
               (in_flat (found.Held slot word (content word))
-              (λ one. message_findings spelling (place * width) port one
-              ++ found.Newest place (slot_in (place * width) one.slot) ∷ [])
+              (λ one. message_findings spelling (place * width) port one ++ found.Newest place (slot_in (place * width) one.slot) ∷ [])
               port.sender.uses.history there.0 message there.1
               (in_left (found.Held slot word (content word))
-              (message_findings spelling (place * width) port message)
-              (found.Newest place slot ∷ []) in_words)) agree.0 steady)
+              (message_findings spelling (place * width) port message) (found.Newest place slot ∷ []) in_words)) agree.0 steady)
           by (inr waits) =
               comes_behind table slot content word whole_word (behind_findings m kept) links
               (in_flat_listed (found.Held slot word (content word))
-              (λ other. link_findings spelling place other (place * width) port
-              (tie_at port other)) (length subscribers) waits.0 waits.2
+              (λ other. link_findings spelling place other (place * width) port (tie_at port other)) (length subscribers) waits.0 waits.2
               (inr (in_flat (found.Held slot word (content word))
               (λ one. message_findings spelling (place * width) port one
               ++ found.Waiting place waits.0 (slot_in (place * width) one.slot) ∷ [])
@@ -304,8 +291,7 @@ module _ {T U X Y D : Type 0} {F : X → Type 0} {G : Y → Type 0} (spelling : 
       lay_one : (m : World) (count : ℕ) (own : Option (PublisherPort T U)) → count < length publishers
           → port_of (slice_index publishers count) ports ≡ own
           → m.moments ≡ 0 → slice_get m.publishers count ≡ slice_get (start (built.sized).sizes).publishers count → AreLaidTo m count
-          → AreLaidTo (publisher_behind spelling domain.state.ports.subscribers subscribers
-          m count
+          → AreLaidTo (publisher_behind spelling domain.state.ports.subscribers subscribers m count
           (would_fail (kept_under (slice_index publishers count) domain.state.publisher_handlers)) own) (suc count)
       lay_one m count None below is fresh rest sofar = record {
         steady = sofar.steady;
@@ -359,8 +345,7 @@ module _ {T U X Y D : Type 0} {F : X → Type 0} {G : Y → Type 0} (spelling : 
           kept = history_findings spelling count (count * width) own own.sender.uses.history
 
           links : List Found
-          links = flat_listed (λ other. link_findings spelling count other (count * width)
-              own (tie_at own other)) (length subscribers)
+          links = flat_listed (λ other. link_findings spelling count other (count * width) own (tie_at own other)) (length subscribers)
 
           agree : Each (Agrees slot content) kept × Each (Agrees slot content) links
           agree = agree_all count (slice_index publishers count) own here is

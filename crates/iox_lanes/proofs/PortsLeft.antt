@@ -176,8 +176,7 @@ may_remember lanes place lane port keep rest found has = record {
     remembers = keep.histories (rest 0).few place lane found
 
 -- so a publisher that was restored is as the lanes leave it
-pub port_left : {T U : Type 0} (reading : ReadingBack T U) (lanes : World) (place readers : ℕ)
-    (indices : List ℕ)
+pub port_left : {T U : Type 0} (reading : ReadingBack T U) (lanes : World) (place readers : ℕ) (indices : List ℕ)
     (lane : PublisherLaneState) (old new : PublisherPort T U)
     → LanesKeep lanes → AllRest lanes → slice_get lanes.publishers place ≡ Some lane → JoinsAt lanes (Some old) place readers indices
     → new ≡ record old { last_sequence = lane.last; sender = new.sender }

@@ -169,16 +169,12 @@ module _ {T U X Y Z : Type 0} {F : X → Type 0} {G : Y → Type 0} {H : Z → T
   list_routes fs m leave has = each_leaves LeavesOrder HasRoutes routes_on fs m leave has
 
   lay_one : (m : World) (place : ℕ) (fails : Bool) (own : Option (PublisherPort T U)) → HasRoutes m
-      → HasRoutes (publisher_behind spelling domain.state.ports.subscribers subscribers
-      m place fails own)
+      → HasRoutes (publisher_behind spelling domain.state.ports.subscribers subscribers m place fails own)
   lay_one m place fails None has = has
   lay_one m place fails (Some own) has =
-      list_routes (flat_listed (λ other. link_findings spelling place other first own
-      (tie own other)) (length subscribers))
-      (behind_findings begun (history_findings spelling place first own
-      own.sender.uses.history)) leave.1
-      (list_routes (history_findings spelling place first own own.sender.uses.history) begun
-      leave.0
+      list_routes (flat_listed (λ other. link_findings spelling place other first own (tie own other)) (length subscribers))
+      (behind_findings begun (history_findings spelling place first own own.sender.uses.history)) leave.1
+      (list_routes (history_findings spelling place first own own.sender.uses.history) begun leave.0
       (routes_on (behind_finding m (found.Slots place (slots_in own) own.sender.uses.most_loans))
       (found.Sender place own.owner.node_id own.number fails own.last_sequence) tt
       (routes_on m (found.Slots place (slots_in own) own.sender.uses.most_loans) tt has)))
@@ -189,11 +185,9 @@ module _ {T U X Y Z : Type 0} {F : X → Type 0} {G : Y → Type 0} {H : Z → T
       first : ℕ
       first = first_slot (slice_get begun.publishers place)
 
-      leave : Each LeavesOrder (history_findings spelling place first own
-          own.sender.uses.history)
+      leave : Each LeavesOrder (history_findings spelling place first own own.sender.uses.history)
           × Each LeavesOrder (flat_listed
-          (λ other. link_findings spelling place other first own (tie own other))
-          (length subscribers))
+          (λ other. link_findings spelling place other first own (tie own other)) (length subscribers))
       leave = each_of spelling LeavesOrder place first own (tie own) (length subscribers)
           (λ k message is. each_word spelling LeavesOrder (slot_in first message.slot)
           own.owner.node_id own.number message.elements (message.sequence, message.user_header) message.values tt tt tt

@@ -102,8 +102,7 @@ stay_on who m n f of_it stay = behind_by (StaySaid who m) n f stay (λ fits. rec
       stay.others place apart;
 })
 
-module _ {T U : Type 0} (spelling : Spelling T U) (place first : ℕ)
-    (port : PublisherPort T U) where
+module _ {T U : Type 0} (spelling : Spelling T U) (place first : ℕ) (port : PublisherPort T U) where
   words_of_message : (message : Message T U)
       → Each (IsOfMessage place) (message_findings spelling first port message)
   words_of_message message =
@@ -119,11 +118,9 @@ module _ {T U : Type 0} (spelling : Spelling T U) (place first : ℕ)
       let all = each_of spelling (IsOfMessage place) place first port tie
       (length subscribers) (λ at message there. words_of_message message)
       (λ other below at message there. words_of_message message) (λ slot. refl) (λ other slot. refl) (λ other messages. refl) in
-      let kept = behind_findings m (history_findings spelling place first port
-      port.sender.uses.history) in
+      let kept = behind_findings m (history_findings spelling place first port port.sender.uses.history) in
       each_leaves (IsOfMessage place) (StaySaid place m) (λ n f of_it stay. stay_on place m n f of_it stay)
-      (flat_listed (λ other. link_findings spelling place other first port (tie other))
-      (length subscribers)) kept all.1
+      (flat_listed (λ other. link_findings spelling place other first port (tie other)) (length subscribers)) kept all.1
       (each_leaves (IsOfMessage place) (StaySaid place m) (λ n f of_it stay. stay_on place m n f of_it stay)
       (history_findings spelling place first port port.sender.uses.history) m all.0
       (record { moments = refl; says = refl; others = λ other apart. refl }))
@@ -236,8 +233,7 @@ module _ {T U X Y D : Type 0} {F : X → Type 0} {G : Y → Type 0} (spelling : 
 
   settle_one : (m : World) (count : ℕ) (port : Option (PublisherPort T U)) → count < length publishers
       → port_of (slice_index publishers count) ports ≡ port → AreSettled m count
-      → AreSettled (publisher_behind spelling domain.state.ports.subscribers subscribers m
-      count (fails_at count) port) (suc count)
+      → AreSettled (publisher_behind spelling domain.state.ports.subscribers subscribers m count (fails_at count) port) (suc count)
   settle_one m count None below is sofar = record {
     moments = sofar.moments;
     says = λ place within. elim (eqb_tells place count) [
@@ -255,8 +251,7 @@ module _ {T U X Y D : Type 0} {F : X → Type 0} {G : Y → Type 0} (spelling : 
       let intro = introduces sizes m count (fails_at count) port sofar.moments there (fits_in count port below is) in
       let stay = messages_stay spelling count
       (first_slot (slice_get begun.publishers count)) port domain.state.ports.subscribers subscribers begun in
-      let after = publisher_behind spelling domain.state.ports.subscribers subscribers m
-      count (fails_at count) (Some port) in
+      let after = publisher_behind spelling domain.state.ports.subscribers subscribers m count (fails_at count) (Some port) in
       record {
         moments = stay.moments ∙ intro.moments;
         says = λ place within. elim (eqb_tells place count) [

@@ -29,8 +29,7 @@ use Rattle.iox_lanes.proofs.Saying.{told}
 
 module _ {T U X Y Z : Type 0} {F : X → Type 0} {G : Y → Type 0} {H : Z → Type 0} (spelling : Spelling T U)
     (domain : Domain T U (Handlers X Y F G) (DegradationHandler Z H)) (publishers subscribers : List ℕ) (lanes : World)
-    (built : AreBuilt spelling domain publishers subscribers lanes)
-    (none : first_reason domain ≡ None) where
+    (built : AreBuilt spelling domain publishers subscribers lanes) (none : first_reason domain ≡ None) where
   abbrev ports : List (ℕ × PublisherPort T U)
   ports = domain.state.ports.publishers
 
@@ -46,13 +45,11 @@ module _ {T U X Y Z : Type 0} {F : X → Type 0} {G : Y → Type 0} {H : Z → T
       → KeepsIf (Some port) lane → IsLaneIf spelling lanes.table (Some port) lane
   lane_whole place number port None listed found there keeps = absurd keeps
   lane_whole place number port (Some lane) listed found there keeps =
-      let says = told spelling domain publishers subscribers lanes built place number port
-      lane listed found there in
+      let says = told spelling domain publishers subscribers lanes built place number port lane listed found there in
       record {
         slots = says.slots;
         most_loans = says.most_loans;
-        history = laid_so spelling lanes.table lane.port.book.first port lane.port.book.history
-            port.sender.uses.history keeps
+        history = laid_so spelling lanes.table lane.port.book.first port lane.port.book.history port.sender.uses.history keeps
             (λ at message is.
             let one = remembers_one domain number port none found at message is in
             moved_to place port lane message says.first
@@ -91,11 +88,9 @@ module _ {T U X Y Z : Type 0} {F : X → Type 0} {G : Y → Type 0} {H : Z → T
         → slice_get subscribers subscriber ≡ Some reader_number → subscriber_of reader_number domain.state.ports.subscribers ≡ Some reader
         → WaitsIf (Some port) (Some lane) (Some index) (Some link)
         → IsTied (Some port) (Some reader) (Some index)
-        → IsLinkIf spelling lanes.table (Some port) (Some reader) (Some lane)
-        (Some index) (Some link)
+        → IsLinkIf spelling lanes.table (Some port) (Some reader) (Some lane) (Some index) (Some link)
     link_whole_of number reader_number port reader lane index link listed found there read stands waits tied =
-        let says = told spelling domain publishers subscribers lanes built publisher number
-        port lane listed found there in
+        let says = told spelling domain publishers subscribers lanes built publisher number port lane listed found there in
         let tie_is : index ≡ tie_for port (subscriber_of (slice_index subscribers subscriber) domain.state.ports.subscribers) =
         sym (ap (λ n. tie_for port (subscriber_of n domain.state.ports.subscribers))
         (get_or_from_slice_get subscribers subscriber reader_number 0 read) ∙ ap (tie_for port) stands ∙ ap (λ t. unwrap_or t 0)
@@ -103,8 +98,7 @@ module _ {T U X Y Z : Type 0} {F : X → Type 0} {G : Y → Type 0} {H : Z → T
         record {
           tie = tied.0;
           limit = waits.0;
-          waiting = laid_so spelling lanes.table lane.port.book.first port link.found
-              (connection_of index port).waiting waits.1
+          waiting = laid_so spelling lanes.table lane.port.book.first port link.found (connection_of index port).waiting waits.1
               (λ at message is.
               let one = waits_one domain number port none found index at message is in
               let laid = ap (λ n. slice_get (connection_of n port).waiting at) (sym tie_is) ∙ is in
@@ -144,8 +138,7 @@ module _ {T U X Y Z : Type 0} {F : X → Type 0} {G : Y → Type 0} {H : Z → T
         → port_of number ports ≡ port
         → slice_get subscribers subscriber ≡ Some reader_number → WaitsIf port lane_at index_at link_at
         → IsTied port (subscriber_of reader_number domain.state.ports.subscribers) index_at
-        → IsLinkIf spelling lanes.table port
-        (subscriber_of reader_number domain.state.ports.subscribers) lane_at index_at link_at
+        → IsLinkIf spelling lanes.table port (subscriber_of reader_number domain.state.ports.subscribers) lane_at index_at link_at
     by_port number reader_number None listed found read waits tied = absurd waits
     by_port number reader_number (Some port) listed found read waits tied =
         link_whole_by number reader_number port (subscriber_of reader_number domain.state.ports.subscribers) lane_at index_at link_at
@@ -155,8 +148,7 @@ module _ {T U X Y Z : Type 0} {F : X → Type 0} {G : Y → Type 0} {H : Z → T
     by_reader : (number : ℕ) (reader : Option ℕ) → slice_get publishers publisher ≡ Some number → slice_get subscribers subscriber ≡ reader
         → WaitsIf (port_of number ports) lane_at index_at link_at
         → IsTied (port_of number ports) (reader_if domain.state.ports.subscribers reader) index_at
-        → IsLinkIf spelling lanes.table (port_of number ports)
-        (reader_if domain.state.ports.subscribers reader) lane_at index_at link_at
+        → IsLinkIf spelling lanes.table (port_of number ports) (reader_if domain.state.ports.subscribers reader) lane_at index_at link_at
     by_reader number None listed read waits tied = absurd (omega (arith, below, none_past subscribers subscriber read))
     by_reader number (Some reader_number) listed read waits tied
         = by_port number reader_number (port_of number ports) listed refl read waits tied

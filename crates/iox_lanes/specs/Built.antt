@@ -32,8 +32,7 @@ abbrev pub domain_behind : {T U X Y D : Type 0} {F : X → Type 0} {G : Y → Ty
     → Domain T U (Handlers X Y F G) D → List ℕ → List ℕ → World → World
 domain_behind spelling domain publishers subscribers m =
     readers_behind publishers domain.state.ports.subscribers subscribers
-    (publishers_behind spelling domain publishers subscribers m (length publishers))
-    (length subscribers)
+    (publishers_behind spelling domain publishers subscribers m (length publishers)) (length subscribers)
 
 -- The lanes of a domain are those that are made of sizes as agreed, with as many slots for each publisher as any has, and behind all
 -- that they find of the domain; memory has room for their words, and each message that is laid was alone in its slot.

@@ -84,8 +84,7 @@ SenderKeeps domain lanes publishers place =
 -- the publisher at a place of the lanes is the one of the domain that has the number of this place
 abbrev pub SenderHolds : {T U B D : Type 0} → Spelling T U → Domain T U B D → World → List ℕ → ℕ → Type 0
 SenderHolds spelling domain lanes publishers place =
-    IsLaneIf spelling lanes.table (port_if domain.state.ports.publishers (slice_get publishers place))
-    (slice_get lanes.publishers place)
+    IsLaneIf spelling lanes.table (port_if domain.state.ports.publishers (slice_get publishers place)) (slice_get lanes.publishers place)
 
 -- A link is a connection of a publisher to a subscriber, the one that its messages for the subscriber's place go to: as many may wait,
 -- and the same messages do.

@@ -55,8 +55,7 @@ message_findings spelling first port message =
 -- that these are the messages of the history of the publisher at a place, oldest first: of each its words, and that it is the newest then
 abbrev pub history_findings : {T U : Type 0} → Spelling T U → ℕ → ℕ → PublisherPort T U → List (Message T U) → List Found
 history_findings spelling place first port messages =
-    flat_map (λ message. message_findings spelling first port message
-    ++ found.Newest place (slot_in first message.slot) ∷ []) messages
+    flat_map (λ message. message_findings spelling first port message ++ found.Newest place (slot_in first message.slot) ∷ []) messages
 
 -- that these messages wait at the connection of the publisher at a place to the subscriber at another, oldest first: of each its words,
 -- and that it waits behind those before it
@@ -97,8 +96,7 @@ sender_behind m place fails port =
 -- this one
 abbrev pub messages_behind : {T U : Type 0} → Spelling T U → List (ℕ × SubscriberPort) → List ℕ → ℕ → PublisherPort T U → ℕ → World → World
 messages_behind spelling readers subscribers place port first m =
-    behind_findings (behind_findings m (history_findings spelling place first port
-    port.sender.uses.history))
+    behind_findings (behind_findings m (history_findings spelling place first port port.sender.uses.history))
     (flat_listed (λ other. link_findings spelling place other first port
     (tie_for port (subscriber_of (slice_index subscribers other) readers))) (length subscribers))
 

@@ -315,8 +315,7 @@ module _ {T U X Y Z : Type 0} {F : X → Type 0} {G : Y → Type 0} {H : Z → T
   laid_same : (number first size : ℕ) (port : PublisherPort T U)
       → ((slot : ℕ) → slot < size → own.message (first + slot) ≡ names.message number slot)
       → (laid : List ℕ) (messages : List (Message T U)) → length laid ≡ length messages
-      → ((place : ℕ) → IsLaidAt spelling m.table first port (slice_get laid place)
-      (slice_get messages place))
+      → ((place : ℕ) → IsLaidAt spelling m.table first port (slice_get laid place) (slice_get messages place))
       → ((place slot : ℕ) → slice_get laid place ≡ Some slot → slot < first + size)
       → All Back messages
       → map (message_as (names.message number)) messages ≡ map (slot_message value own m.table) laid

@@ -21,8 +21,7 @@ use Rattle.iox_lanes_machine.specs.Links.{LinkState}
 use Rattle.iox_lanes_machine.specs.World.{World}
 use Rattle.iox_lanes_sound.proofs.Having.{lane_of, link_of}
 
-module _ {T U B D : Type 0} (spelling : Spelling T U)
-    (domain : Domain T U B D) (m : World) (senders readers indices : List ℕ)
+module _ {T U B D : Type 0} (spelling : Spelling T U) (domain : Domain T U B D) (m : World) (senders readers indices : List ℕ)
     (h : LanesHold spelling domain m senders readers indices) where
   abbrev ports : ServicePorts T U
   ports = domain.state.ports

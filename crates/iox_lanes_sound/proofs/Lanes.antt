@@ -454,8 +454,7 @@ module _ {T U X Y Z : Type 0} {F : X → Type 0} {G : Y → Type 0} {H : Z → T
         (sized.routes place lane there) (λ index route is.
         let within : index < length readers =
         omega (arith, slice_get_within lane.port.routes index route is, sized.routes place lane there) in
-        let (link, found, from, to) = link_there spelling domain m senders readers indices h
-        place index o.below within in
+        let (link, found, from, to) = link_there spelling domain m senders readers indices h place index o.below within in
         ap (reader_name own m.links) (in_order index route is)
         ∙ ap (λ (l : Option LinkState). option_map_or (λ (one : LinkState). own.subscriber one.subscriber) l 0) found
         ∙ ap own.subscriber to))
@@ -544,8 +543,7 @@ module _ {T U X Y Z : Type 0} {F : X → Type 0} {G : Y → Type 0} {H : Z → T
             listed in
             let reads : slice_get readers index ≡ Some member.value.subscriber = ap (λ ns. slice_get ns index) h.subscribers ∙ found in
             let within : index < length readers = slice_get_within readers index member.value.subscriber reads in
-            let (link, there_is, from, to) = link_there spelling domain m senders readers
-            indices h place index o.below within in
+            let (link, there_is, from, to) = link_there spelling domain m senders readers indices h place index o.below within in
             let number_is : get_or readers index 0 ≡ member.value.subscriber =
             some_is (get_or readers index 0) member.value.subscriber (sym (reader_is index within) ∙ reads) in
             apart (place * length readers + index) link there_is from (ap own.subscriber to ∙ ap names.subscriber number_is ∙ same)
@@ -662,8 +660,7 @@ module _ {T U X Y Z : Type 0} {F : X → Type 0} {G : Y → Type 0} {H : Z → T
     is_met index route is =
         let ends = all_at (lanes.IsLinkOf m.links receiver place) lane.port.routes index route is
         (kept.within.receivers place lane there) in
-        let j = joint spelling domain m senders readers indices h route.connection
-        ends.link ends.found in
+        let j = joint spelling domain m senders readers indices h route.connection ends.link ends.found in
         let sender = sender_there (ends.link).publisher j.lane j.got in
         let met = sender.follows.met o.spot o.member o.listed in
         let same : met.subscriber ≡ o.port =
@@ -734,8 +731,7 @@ module _ {T U X Y Z : Type 0} {F : X → Type 0} {G : Y → Type 0} {H : Z → T
         by_key spot publisher None keyed is = absurd (cc (is, ap (option_map name_by) keyed))
         by_key spot publisher (Some key) keyed is =
             let (sender, within, named) = comes_from spot key keyed in
-            let (link, found, from, to) = link_there spelling domain m senders readers indices h
-            sender place within o.below in
+            let (link, found, from, to) = link_there spelling domain m senders readers indices h sender place within o.below in
             let among = (fresh.subscribers place lane there).connections.each (sender * length readers + place) link found to in
             let key_is : name_by key ≡ publisher = some_is (name_by key) publisher (sym (ap (option_map name_by) keyed) ∙ is) in
             record {

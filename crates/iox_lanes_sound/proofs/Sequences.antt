@@ -145,10 +145,8 @@ module _ {T U X Y Z : Type 0} {F : X → Type 0} {G : Y → Type 0} {H : Z → T
 
   pub found_go_up : SequencesWait ports → SequencesFound m (found_messages m)
   found_go_up wait = λ connection last link lane there got is.
-      let j = joint (spelling ports.sizes.sequence_numbers) domain m senders readers indices h
-      connection link there in
-      let l = laid (spelling ports.sizes.sequence_numbers) domain m senders readers indices h
-      link.publisher lane got in
+      let j = joint (spelling ports.sizes.sequence_numbers) domain m senders readers indices h connection link there in
+      let l = laid (spelling ports.sizes.sequence_numbers) domain m senders readers indices h link.publisher lane got in
       let same_port : l.port ≡ j.port = some_is l.port j.port (sym l.found ∙ j.found) in
       let last_is : j.port.last_sequence ≡ Some last =
       ap (λ (p : PublisherPort T U). p.last_sequence) (sym same_port) ∙ sym (l.is).last ∙ is in
@@ -160,8 +158,7 @@ module _ {T U X Y Z : Type 0} {F : X → Type 0} {G : Y → Type 0} {H : Z → T
       (some_middle ports.sizes.sequence_numbers header_count numbered) in
       let goes = goes_there domain none link.publisher (get_or senders link.publisher 0) (get_or readers link.subscriber 0) j.port j.reader
       (ap (λ numbers. slice_get numbers link.publisher) (sym h.publishers)
-      ∙ sender_at (spelling ports.sizes.sequence_numbers) domain m senders readers indices h
-      link.publisher j.from) j.found j.read in
+      ∙ sender_at (spelling ports.sizes.sequence_numbers) domain m senders readers indices h link.publisher j.from) j.found j.read in
       let index_is : tie_for j.port (Some j.reader) ≡ j.index = some_is (tie_for j.port (Some j.reader)) j.index (sym goes.0 ∙ j.tie) in
       let leads : leads_at (tie_for j.port (Some j.reader)) (get_or readers link.subscriber 0) j.port ≡ true =
       leads_so (get_or readers link.subscriber 0) (tie_for j.port (Some j.reader)) j.port

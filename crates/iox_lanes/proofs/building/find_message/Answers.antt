@@ -10,8 +10,7 @@ use Rattle.iox_lanes.proofs.building.find_message.Goals as goal
 pub returns-in-Some-clause-waiting : goal.returns-in-Some-clause-waiting
 returns-in-Some-clause-waiting g c = on_ok_weaker c.find_value.result
     (λ laid index at message there same. message_behind
-    (spelling_of c.args.numbered g.T.Words.parts g.T.Words.WORDS g.U.Words.parts g.U.Words.WORDS) c.args.first
-    c.args.port.now message
+    (spelling_of c.args.numbered g.T.Words.parts g.T.Words.WORDS g.U.Words.parts g.U.Words.WORDS) c.args.first c.args.port.now message
     c.args.lanes.now.lanes c.find_word.new.lanes.lanes c.find_word-2.new.lanes.lanes c.find_word-3.new.lanes.lanes
     c.find_middle.new.lanes.lanes c.find_value.new.lanes.lanes
     c.saturating_add-at.result c.elements.result (c.sequence.result, c.user_header.result.now) c.payload.result.now
@@ -29,8 +28,7 @@ pub returns-in-Some-clause-remembered : goal.returns-in-Some-clause-remembered
 returns-in-Some-clause-remembered g c
     = on_ok_weaker c.find_value.result
     (λ laid at message there same. message_behind
-    (spelling_of c.args.numbered g.T.Words.parts g.T.Words.WORDS g.U.Words.parts g.U.Words.WORDS) c.args.first
-    c.args.port.now message
+    (spelling_of c.args.numbered g.T.Words.parts g.T.Words.WORDS g.U.Words.parts g.U.Words.WORDS) c.args.first c.args.port.now message
     c.args.lanes.now.lanes c.find_word.new.lanes.lanes c.find_word-2.new.lanes.lanes c.find_word-3.new.lanes.lanes
     c.find_middle.new.lanes.lanes c.find_value.new.lanes.lanes
     c.saturating_add-at.result c.elements.result (c.sequence.result, c.user_header.result.now) c.payload.result.now
@@ -62,8 +60,7 @@ returns-in-None-clause-waiting g c = λ index at message there same. message_beh
 pub returns-in-None-clause-remembered : goal.returns-in-None-clause-remembered
 returns-in-None-clause-remembered g c
     = λ at message there same. message_behind
-    (spelling_of c.args.numbered g.T.Words.parts g.T.Words.WORDS g.U.Words.parts g.U.Words.WORDS) c.args.first
-    c.args.port.now message
+    (spelling_of c.args.numbered g.T.Words.parts g.T.Words.WORDS g.U.Words.parts g.U.Words.WORDS) c.args.first c.args.port.now message
     c.args.lanes.now.lanes c.find_word.new.lanes.lanes c.find_word-2.new.lanes.lanes c.find_word-3.new.lanes.lanes
     c.find_middle.new.lanes.lanes c.find_middle.new.lanes.lanes
     c.saturating_add-at.result c.elements.result (c.sequence.result, c.user_header.result.now) c.payload.result.now
