@@ -46,7 +46,7 @@ use Rattle.iox_hub_commands.specs.Creating.{CreatesAgreed, CreatesAs, CreatesNum
 use Rattle.iox_hub_commands.specs.Either.{EitherAs, EitherJudged, EitherNumbered}
 use Rattle.iox_hub_commands.specs.Opening.{OpensAs, OpensNumbered}
 use Rattle.iox_hub_commands.specs.Refusing.{IsUncreated, create_refused, either_refused, open_absent, open_locked, either_locked}
-use Rattle.iox_hub_commands.specs.OpeningCalls.{ByCall, CallsNumbered, OpensUnlessLacking, told_of}
+use Rattle.iox_hub_commands.specs.OpeningCalls.{ByCall, CallsNumbered, IsToldFirst, OpensUnlessLacking}
 use Rattle.iox_hub_commands.specs.Refusing.{first_look, open_told, create_told, either_told}
 use Rattle.iox_hub_commands.specs.ServicesNumbering.{GetsNumber}
 use Rattle.iox_hub_commands.specs.ServicesTables.{FactoryTable}
@@ -346,16 +346,12 @@ module _ {T U B D : Type 0} (payload user_header : Detail) (types : MessageTypeD
 -- ---- the calls
 
 -- who is told one refusal is told no other
-answers : {one other : Refusal} → Some one ≡ Some other → one ≡ other
+pub answers : {one other : Refusal} → Some one ≡ Some other → one ≡ other
 answers {one} {other} same = cc
 
 -- and isn't told nothing
 pub none_told : {told : Option Refusal} {why : Refusal} → None ≡ told → Some why ≡ told → ⊥
 none_told {told} {why} none some = let same : None ≡ Some why = none ∙ sym some in cc
-
--- what is told is one thing
-pub one_told : {told : Option Refusal} {one other : Refusal} → Some one ≡ told → Some other ≡ told → one ≡ other
-one_told some also = answers (some ∙ sym also)
 
 module _ {T U B D : Type 0} (payload user_header : Detail) (types : MessageTypeDetails) (asked : ServiceAsked) (steps : List StepBefore)
     (table : FactoryTable) (hub new : Hub T U B D) (answer : Refusal)
@@ -476,36 +472,37 @@ module _ {T U B D : Type 0} (payload user_header : Detail) (types : MessageTypeD
         )
 
   -- So is what it tells whoever calls, and what the settings tell.
-  pub told_at_first_look : (call : OpeningCall) (refused : Option CreateFailure) → IsUncreated (settings_of types asked.options) refused
+  pub told_at_first_look : (call : OpeningCall)
       → ByCall call (λ attributes. HasForm (agreed_of asked.name asked.options types attributes)) (λ attributes. Unit {0})
       (λ attributes. HasForm (agreed_of asked.name asked.options types attributes.pairs))
-      → Some answer ≡ told_of call asked.options refused (first_look asked steps hub)
+      → IsToldFirst call types asked.options (first_look asked steps hub) (Some answer)
       → CallsNumbered call true payload user_header types asked steps table hub (Some (Err answer)) table new
-  told_at_first_look (opening.Create attributes) (Some failure) is agreed told = (
+  told_at_first_look (opening.Create attributes) agreed (Some failure, is, told) = (
     Some failure,
     inl is,
     (ap (λ (it : Refusal). Some (Err it)) (answers told), refl, same),
   )
-  told_at_first_look (opening.Create attributes) None accepted agreed told = uncreated_at_first_look attributes.now accepted agreed told
-  told_at_first_look (opening.Open attributes) refused is agreed told = unopened_at_first_look attributes told
-  told_at_first_look (opening.OpenOrCreate attributes) refused is agreed told = neither_at_first_look attributes refused is agreed told
+  told_at_first_look (opening.Create attributes) agreed (None, accepted, told) =
+      uncreated_at_first_look attributes.now accepted agreed told
+  told_at_first_look (opening.Open attributes) agreed told = unopened_at_first_look attributes told
+  told_at_first_look (opening.OpenOrCreate attributes) agreed (refused, is, told) =
+      neither_at_first_look attributes refused is agreed told
 
 module _ {T U B D : Type 0} (payload user_header : Detail) (types : MessageTypeDetails) (asked : ServiceAsked) (steps : List StepBefore)
     (table : FactoryTable) (hub : Hub T U B D) where
   -- Where nothing is told, the call goes on.
   pub goes_on : (answer : Option (Result ℕ Refusal)) (after : FactoryTable) (new : Hub T U B D) (call : OpeningCall)
-      (refused : Option CreateFailure) → IsUncreated (settings_of types asked.options) refused
-      → None ≡ told_of call asked.options refused (first_look asked steps hub)
+      → IsToldFirst call types asked.options (first_look asked steps hub) None
       → OpensUnlessLacking call payload user_header types asked steps table hub answer after new
       → CallsNumbered call true payload user_header types asked steps table hub answer after new
-  goes_on answer after new (opening.Create attributes) (Some failure) is none does = absurd cc
-  goes_on answer after new (opening.Create attributes) None accepted none does = (
+  goes_on answer after new (opening.Create attributes) (Some failure, is, none) does = absurd cc
+  goes_on answer after new (opening.Create attributes) (None, accepted, none) does = (
     None,
     (accepted, λ stands. none_told none (sym (ap (λ found. create_told asked.options None found) stands))),
     does,
   )
-  goes_on answer after new (opening.Open attributes) refused is none does = does
-  goes_on answer after new (opening.OpenOrCreate attributes) refused is none does = does
+  goes_on answer after new (opening.Open attributes) none does = does
+  goes_on answer after new (opening.OpenOrCreate attributes) none does = does
 
   -- Where the node isn't there, nothing happens.
   pub is_skipped : (call : OpeningCall) → CallsNumbered call false payload user_header types asked steps table hub None table hub

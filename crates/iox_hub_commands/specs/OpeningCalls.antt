@@ -11,11 +11,12 @@ use Rattle.iox_hub_base.specs.DescribeBase.declared.attribute.Attribute.{Attribu
 use Rattle.iox_hub_base.specs.DescribeBase.declared.message_type.MessageTypeDetails.{MessageTypeDetails}
 use Rattle.iox_hub_base.specs.declared.hub.HashState.{HashState}
 use Rattle.iox_hub_base.specs.declared.hub.Hub.{Hub}
+use Rattle.iox_machine.specs.Asked.{settings_of}
 use Rattle.iox_negotiate_table.specs.declared.step.ForeignStep.{ForeignStep}
 use Rattle.iox_hub_commands.specs.Creating.{CreatesAs, CreatesNumbered, CreatesPrepared, create_lacking}
 use Rattle.iox_hub_commands.specs.Either.{EitherAs, EitherNumbered, EitherPrepared, either_lacking}
 use Rattle.iox_hub_commands.specs.Opening.{OpensAs, OpensNumbered, OpensPrepared, open_lacking}
-use Rattle.iox_hub_commands.specs.Refusing.{create_told, either_told, open_told}
+use Rattle.iox_hub_commands.specs.Refusing.{IsUncreated, create_told, either_told, open_told}
 use Rattle.iox_hub_commands.specs.ServicesNumbering.{Prepares}
 use Rattle.iox_hub_commands.specs.ServicesTables.{FactoryTable}
 use Rattle.iox_hub_commands.specs.declared.services.asked.ServiceAsked.{ServiceAsked}
@@ -54,11 +55,14 @@ OpensUnlessLacking call payload user_header types asked steps table old answer a
     (λ attributes. EitherPrepared prepared payload user_header types asked attributes roomier old reply after new)
     × (answer ≡ Some reply)
 
--- why a call comes to nothing, if settings that are refused so, or a first look that finds this, tell it with no memory
-abbrev pub told_of : OpeningCall → ServiceOptions → Option CreateFailure → Option HashState → Option Refusal
-told_of (opening.Create attributes) named refused found = create_told named refused found
-told_of (opening.Open attributes) named refused found = open_told named found
-told_of (opening.OpenOrCreate attributes) named refused found = either_told named refused found
+-- A call is told this with no memory, why it comes to nothing, or nothing: of the settings, where it may create, and of what its first
+-- look finds.
+abbrev pub IsToldFirst : OpeningCall → MessageTypeDetails → ServiceOptions → Option HashState → Option Refusal → Type 0
+IsToldFirst (opening.Create attributes) types named found told =
+    (refused : Option CreateFailure) × IsUncreated (settings_of types named) refused × (told ≡ create_told named refused found)
+IsToldFirst (opening.Open attributes) types named found told = told ≡ open_told named found
+IsToldFirst (opening.OpenOrCreate attributes) types named found told =
+    (refused : Option CreateFailure) × IsUncreated (settings_of types named) refused × (told ≡ either_told named refused found)
 
 -- A call is made for the service that is asked for, and its factory gets a number. Nothing happens where the node isn't there.
 abbrev pub CallsNumbered : {T U B D : Type 0} → OpeningCall → Bool → Detail → Detail → MessageTypeDetails → ServiceAsked → List StepBefore

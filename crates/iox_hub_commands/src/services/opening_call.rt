@@ -2,7 +2,6 @@
 ghost use Rattle.std.specs.Prelude.{◌≡◌, ◌<◌, ◌+◌, ◌^◌, ℕ, true, Option, Result, Some, Err, length};
 ghost use Rattle.std.specs.List.{AllByRecursion};
 ghost use Rattle.std.specs.Result.{result_map_both};
-ghost use Rattle.iox_command.specs.NegotiateBase.declared.failure.CreateFailure.{CreateFailure};
 ghost use Rattle.iox_command.specs.declared.refusal.Refusal.{Refusal};
 ghost use Rattle.iox_hub_base.specs.DescribeBase.Detail.{detail};
 ghost use Rattle.iox_hub_base.specs.DescribeBase.Hash.{service_hash_of};
@@ -11,12 +10,11 @@ ghost use Rattle.iox_hub_base.specs.Hubs.{is_node};
 ghost use Rattle.iox_hub_base.specs.OfPattern.{CreatesOfPattern, OpensJudged, EitherOfPattern};
 ghost use Rattle.iox_hub_commands.specs.Asked.{types_of};
 ghost use Rattle.iox_hub_commands.specs.Asking.{agreed_of};
-ghost use Rattle.iox_hub_commands.specs.OpeningCalls.{ByCall, CallsNumbered, OpensByCall, OpensUnlessLacking, lacking_of, told_of};
-ghost use Rattle.iox_hub_commands.specs.Refusing.{IsUncreated, first_look};
+ghost use Rattle.iox_hub_commands.specs.OpeningCalls.{ByCall, CallsNumbered, IsToldFirst, OpensByCall, OpensUnlessLacking, lacking_of};
+ghost use Rattle.iox_hub_commands.specs.Refusing.{first_look};
 ghost use Rattle.iox_hub_commands.specs.ServicesNumbering.{GetsNumber, Numbers};
 ghost use Rattle.iox_hub_commands.specs.ServicesTables.{FactoryTable};
 ghost use Rattle.iox_hub_commands.specs.Steps.{PublishesInForm, lists_of};
-ghost use Rattle.iox_machine.specs.Asked.{settings_of};
 ghost use Rattle.iox_negotiate_table.specs.Describe.Within.{HasForm};
 
 use crate::services::asked::ServiceAsked;
@@ -33,7 +31,6 @@ use iox_describe::pattern::{Event, PublishSubscribe, RequestResponse};
 use iox_describe_base::{AttributeSpecifier, AttributeVerifier, ZeroCopySend};
 use iox_hub_base::{HashState, Hub, HubBuilder, PortFactory};
 use iox_negotiate::{Builder, ServiceBuilder};
-use iox_negotiate_base::CreateFailure;
 use iox_negotiate_table::StepList;
 use iox_queues_base::Words;
 use std::alloc::Global;
@@ -61,19 +58,18 @@ impl<'a> OpeningCall<'a> {
         }
     }
 
-    // Why it comes to nothing, if settings that are refused so, or a first look that finds this, tell it.
-    fn told(
+    // Why it comes to nothing, if the settings or a first look that finds this tell it. One that only opens doesn't ask the settings.
+    fn told<T: ZeroCopySend, U: ZeroCopySend>(
         &self,
         options: &ServiceOptions,
-        refused: Option<CreateFailure>,
         found: Option<HashState>,
     ) -> Option<Refusal>
-        ensures { result ≡ told_of self.now options.now refused found }
+        ensures { IsToldFirst self.now (types_of T.name T.size T.alignment U.name U.size U.alignment) options.now found result }
     {
         match self {
-            OpeningCall::Create(_) => create_told(options, refused, found),
+            OpeningCall::Create(_) => create_told(options, uncreated::<T, U>(options), found),
             OpeningCall::Open(_) => open_told(options, found),
-            OpeningCall::OpenOrCreate(_) => either_told(options, refused, found),
+            OpeningCall::OpenOrCreate(_) => either_told(options, uncreated::<T, U>(options), found),
         }
     }
 
@@ -86,14 +82,12 @@ impl<'a> OpeningCall<'a> {
         asked: &ServiceAsked,
         steps: &[StepBefore],
     ) -> Option<Refusal>
-        ensures told { (refused : Option CreateFailure)
-            × IsUncreated (settings_of (types_of T.name T.size T.alignment U.name U.size U.alignment) asked.now.options) refused
-            × (result ≡ told_of self.now asked.now.options refused (first_look asked.now steps.now hub.old)) }
+        ensures told { IsToldFirst self.now (types_of T.name T.size T.alignment U.name U.size U.alignment) asked.now.options
+            (first_look asked.now steps.now hub.old) result }
         ensures same { hub.new ≡ hub.old }
     {
-        let refused = uncreated::<T, U>(&asked.options);
         let found = first_look(hub, asked, steps);
-        self.told(&asked.options, refused, found)
+        self.told::<T, U>(&asked.options, found)
     }
 
     // What the steps publish, and what would be agreed of a service that the call creates, has the form of a description, which is told
@@ -141,9 +135,9 @@ impl Factories {
             (detail FixedSize U.name U.size U.alignment) (types_of T.name T.size T.alignment U.name U.size U.alignment) asked.now
             steps.now self.old.made hub.old result self.new.made hub.new }
         ensures told_first { is_node asked.now.node hub.old.nodes ≡ true → (refusal : Refusal)
-            → ((refused : Option CreateFailure)
-            → IsUncreated (settings_of (types_of T.name T.size T.alignment U.name U.size U.alignment) asked.now.options) refused
-            → Some refusal ≡ told_of call.entry asked.now.options refused (first_look asked.now steps.now hub.old))
+            → ((told : Option Refusal)
+            → IsToldFirst call.entry (types_of T.name T.size T.alignment U.name U.size U.alignment) asked.now.options
+            (first_look asked.now steps.now hub.old) told → told ≡ Some refusal)
             → (result ≡ Some (Err refusal)) × (self.new.made ≡ self.old.made) × (hub.new ≡ hub.old) }
     {
         if !hub.has_node(asked.node) {

@@ -1,8 +1,8 @@
-use Rattle.std.proofs.Common.{◌∙◌, Some, Err, ap, refl, sym}
+use Rattle.std.proofs.Common.{◌∙◌, None, Some, Err, ap, refl, sym}
 use Rattle.iox_hub_base.specs.DescribeBase.Detail.{detail}
 use Rattle.iox_hub_base.specs.DescribeBase.declared.type_detail.TypeVariant.TheVariants.{FixedSize}
 use Rattle.iox_hub_commands.specs.Asked.{types_of}
-use Rattle.iox_hub_commands.proofs.FirstLook.{goes_on, is_skipped, none_told, one_told, told_at_first_look}
+use Rattle.iox_hub_commands.proofs.FirstLook.{answers, goes_on, is_skipped, none_told, told_at_first_look}
 use Rattle.iox_hub_commands.proofs.services.factories.Factories.called.Goals as goal
 
 pub returns-then-not-has_node-clause-calls : goal.returns-then-not-has_node-clause-calls
@@ -16,31 +16,27 @@ returns-then-not-has_node-clause-calls g c =
 
 pub returns-in-Some-clause-calls : goal.returns-in-Some-clause-calls
 returns-in-Some-clause-calls g c =
-    let told = c.in-Some.ensures.told in
     rw (sym c.has_node.ensures ∙ c.if-not-has_node.false) (told_at_first_look
     (detail FixedSize g.T.ZeroCopySend.name g.T.ZeroCopySend.size g.T.ZeroCopySend.alignment)
     (detail FixedSize g.U.ZeroCopySend.name g.U.ZeroCopySend.size g.U.ZeroCopySend.alignment)
     (types_of g.T.ZeroCopySend.name g.T.ZeroCopySend.size g.T.ZeroCopySend.alignment g.U.ZeroCopySend.name g.U.ZeroCopySend.size
     g.U.ZeroCopySend.alignment)
     c.args.asked.now c.args.steps.now c.args.self.now.made c.args.hub.now c.refusal_at_first_look.new.hub c.in-Some.refusal
-    c.asked_has_form.ensures.steps c.in-Some.ensures.same c.args.call told.0 told.1 c.asked_has_form.ensures.agreed told.2)
+    c.asked_has_form.ensures.steps c.in-Some.ensures.same c.args.call c.asked_has_form.ensures.agreed c.in-Some.ensures.told)
 
 pub returns-in-Some-clause-told_first : goal.returns-in-Some-clause-told_first
 returns-in-Some-clause-told_first g c is_there refusal is =
-    let told = c.in-Some.ensures.told in
-    (ap (λ why. Some (Err why)) (one_told told.2 (is told.0 told.1)), refl, c.in-Some.ensures.same)
+    (ap (λ why. Some (Err why)) (answers (is (Some c.in-Some.refusal) c.in-Some.ensures.told)), refl, c.in-Some.ensures.same)
 
 pub returns-in-None-clause-calls : goal.returns-in-None-clause-calls
 returns-in-None-clause-calls g c =
-    let told = c.in-None.ensures.told in
     rw (sym c.has_node.ensures ∙ c.if-not-has_node.false) (goes_on
     (detail FixedSize g.T.ZeroCopySend.name g.T.ZeroCopySend.size g.T.ZeroCopySend.alignment)
     (detail FixedSize g.U.ZeroCopySend.name g.U.ZeroCopySend.size g.U.ZeroCopySend.alignment)
     (types_of g.T.ZeroCopySend.name g.T.ZeroCopySend.size g.T.ZeroCopySend.alignment g.U.ZeroCopySend.name g.U.ZeroCopySend.size
     g.U.ZeroCopySend.alignment)
-    c.args.asked.now c.args.steps.now c.args.self.now.made c.args.hub.now _ _ _ c.args.call told.0 told.1 told.2
+    c.args.asked.now c.args.steps.now c.args.self.now.made c.args.hub.now _ _ _ c.args.call c.in-None.ensures.told
     (rw c.in-None.ensures.same at c.looked.ensures))
 
 pub returns-in-None-clause-told_first : goal.returns-in-None-clause-told_first
-returns-in-None-clause-told_first g c is_there refusal is =
-    let told = c.in-None.ensures.told in absurd (none_told told.2 (is told.0 told.1))
+returns-in-None-clause-told_first g c is_there refusal is = absurd (none_told refl (sym (is None c.in-None.ensures.told)))
