@@ -21,19 +21,14 @@ use Rattle.iox_delivery.specs.declared.loan.Written.{Written}
 use Rattle.iox_delivery.specs.declared.port_id.PortId.{PortId}
 use Rattle.iox_delivery.specs.declared.sent.Sent.{Sent}
 use Rattle.iox_delivery.specs.declared.sent.Sent.TheVariants as sent
-use Rattle.iox_domain.specs.Fitting.{asked_types}
 use Rattle.iox_domain.specs.Steps.{LoansBy, SendsBy}
 use Rattle.iox_hub_base.specs.AsHome.{hub_ports, with_hub_ports}
 use Rattle.iox_hub_base.specs.declared.hub.Hub.{Hub}
 use Rattle.iox_hub_commands.specs.Calls.{AtPort, Lends, LendsWritten, may_lend}
 use Rattle.iox_hub_commands.specs.CommandSteps.{publisher_may_decide, publisher_may_degrade}
-use Rattle.iox_hub_commands.specs.DescribeBase.Detail.{Detail}
-use Rattle.iox_hub_commands.specs.DescribeBase.declared.message_type.MessageTypeDetails.{MessageTypeDetails}
 use Rattle.iox_hub_commands.specs.DescribeBase.declared.type_detail.TypeVariant.TheVariants.{Dynamic}
-use Rattle.iox_hub_commands.specs.DomainValues.declared.backpressure.BackpressureAction.{BackpressureAction}
 use Rattle.iox_hub_commands.specs.DomainValues.declared.backpressure.BackpressureDecision.{BackpressureDecision}
 use Rattle.iox_hub_commands.specs.DomainValues.declared.backpressure.BackpressureInfo.{BackpressureInfo}
-use Rattle.iox_hub_commands.specs.DomainValues.declared.backpressure_strategy.BackpressureStrategy.{BackpressureStrategy}
 use Rattle.iox_hub_commands.specs.DomainValues.declared.degradation.DegradationAction.{DegradationAction}
 use Rattle.iox_hub_commands.specs.DomainValues.declared.degradation.DegradationCause.{DegradationCause}
 use Rattle.iox_hub_commands.specs.DomainValues.declared.degradation.DegradationInfo.{DegradationInfo}
@@ -64,6 +59,8 @@ use Rattle.iox_hub.specs.RecordedNames.{back_by, named_by}
 use Rattle.iox_hub.specs.Recording.{IsDoneIf, asked_with, is_written_with, may_send, numbered, told_sent_if}
 use Rattle.iox_hub.specs.declared.recorded.named.Named.{Named}
 use Rattle.iox_hub.specs.declared.recorded.named.Number.{Number}
+use Rattle.iox_hub_commands.specs.Terms.{Terms}
+use Rattle.iox_hub_machine.specs.TypedTerms.{asked_terms}
 
 module _ {T U B D : Type 0} where
   lend_none_if : (b : Bool) (elements : ℕ) (who : PortId) (hub : Hub T U B D) → may_lend hub_ports who hub ≡ false
@@ -196,27 +193,21 @@ module _ {T U B D : Type 0} (degrades : B → DegradationCause → DegradationIn
   sample_waits (Ok answer) (outcome, sends, is) = outcome_waits T U sample.it.port answer outcome is
   sample_waits (Err back) done = tt
 
-module _ {T U B D : Type 0} (payload user_header : Detail) (is_default : T → Type 0)
-    (is_default_header : U → Type 0) (fixed : BackpressureStrategy → Option BackpressureAction → DegradationAction → B)
-    (degrades : B → DegradationCause → DegradationInfo → DegradationAction → Type 0)
-    (decides : B → BackpressureInfo → BackpressureDecision → Type 0) (fixed_reader : DegradationAction → D)
-    (reader_degrades : D → DegradationCause → DegradationInfo → DegradationAction → Type 0) where
-  -- the types of the messages: slices
-  abbrev types : MessageTypeDetails
-  types = asked_types Dynamic payload user_header
+module _ {T U B D : Type 0} (terms : Terms T U B D) where
+  -- the terms of a hub whose messages are slices
+  abbrev terms_so : Terms T U B D
+  terms_so = asked_terms Dynamic terms
 
   abbrev GoesOn : Type 0
-  GoesOn = CallsGoOn {T = T} {U = U} payload user_header types is_default is_default_header fixed degrades decides fixed_reader
-      reader_degrades
+  GoesOn = CallsGoOn terms_so
 
   abbrev Kept : Bool → Calls T → Hub T U B D → Type 0
   Kept fit calls hub
-      = Recorded payload user_header is_default is_default_header fixed degrades decides fixed_reader reader_degrades fit calls hub
+      = Recorded terms fit calls hub
 
   abbrev IsOne : Command T → Calls T → Hub T U B D → Reply T → Made → Hub T U B D → Type 0
   IsOne asked old hub answer made after =
-      Steps payload user_header is_default is_default_header fixed degrades decides fixed_reader reader_degrades asked (numbered old hub)
-      answer (hub_after_call (numbered old hub) made after)
+      Steps terms asked (numbered old hub) answer (hub_after_call (numbered old hub) made after)
 
   -- a publisher lends by a command, which is a step
   lent_on : {S : Type 0} {fit : Bool} → GoesOn → (old : Calls T) (hub after : Hub T U B D) (asked : Command T)
@@ -235,24 +226,21 @@ module _ {T U B D : Type 0} (payload user_header : Detail) (is_default : T → T
         id = kept ∙ was.id;
         all_fit = was.all_fit;
         told = told_too asked (reply.LoanMade old.made.loans.next) was.told;
-        run = run_on payload user_header is_default is_default_header fixed degrades decides fixed_reader reader_degrades goes_on old hub
-            after asked (reply.LoanMade old.made.loans.next) (having_lent (Ok loan) old.made) old.factories does was.run;
+        run = run_on terms goes_on old hub after asked (reply.LoanMade old.made.loans.next) (having_lent (Ok loan) old.made) old.factories
+            does was.run;
       }
   lent_on goes_on old hub after asked (Err why) kept does was =
-      plain_on payload user_header is_default is_default_header fixed degrades decides fixed_reader reader_degrades goes_on old hub after
-      asked (reply.Refused (refusal.Loan why)) kept does was
+      plain_on terms goes_on old hub after asked (reply.Refused (refusal.Loan why)) kept does was
 
   pub lent_recorded : {fit : Bool} → GoesOn
-      → LoanUninitIsStep Slice payload user_header types is_default is_default_header fixed degrades decides fixed_reader reader_degrades
+      → LoanUninitIsStep Slice terms_so
       → (old : Calls T) (hub after : Hub T U B D) (number len : ℕ) (who : PortId)
       (answer : Option (Result (Lent T U Slice Uninit) LoanError)) → port_under (value_at old.made.publishers number) ≡ Some who
       → IsDoneIf (may_lend hub_ports who hub) (LendsSlice hub_ports with_hub_ports who len) hub answer after
       → Kept fit old hub → Kept fit (calls_lent (command.LoanUninit number len) answer old) after
   lent_recorded {fit} goes_on steps old hub after number len who None there (never, same) was =
       subst (λ (it : Hub T U B D). Kept fit (asked_too (command.LoanUninit number len) reply.Skipped old) it) (sym same)
-      (skipped_on payload user_header is_default is_default_header fixed degrades decides fixed_reader reader_degrades goes_on old hub hub
-      (command.LoanUninit number len) refl
-      (λ names most state it. (
+      (skipped_on terms goes_on old hub hub (command.LoanUninit number len) refl (λ names most state it. (
         (
           Ok None,
           (old.made, as_roomy old.made, (None, lend_none len (value_at old.made.publishers number) who hub there never, (refl, refl))),
@@ -266,17 +254,15 @@ module _ {T U B D : Type 0} (payload user_header : Detail) (is_default : T → T
       (steps number len who (numbered old hub) after answer there (lent, lends, is)) was
 
   pub defaults_recorded : {fit : Bool} → GoesOn
-      → LoanIsStep Slice payload user_header types is_default is_default_header fixed degrades decides fixed_reader reader_degrades
+      → LoanIsStep Slice terms_so
       → (old : Calls T) (hub after : Hub T U B D) (number len : ℕ) (who : PortId)
       (answer : Option (Result (Lent T U Slice Written) LoanError)) → port_under (value_at old.made.publishers number) ≡ Some who
-      → IsDoneIf (may_lend hub_ports who hub) (LendsDefaults hub_ports with_hub_ports is_default who len) hub answer after
-      → (value : T) × is_default value
+      → IsDoneIf (may_lend hub_ports who hub) (LendsDefaults hub_ports with_hub_ports terms.is_default who len) hub answer after
+      → (value : T) × terms.is_default value
       → Kept fit old hub → Kept fit (calls_lent (command.Loan number len) answer old) after
   defaults_recorded {fit} goes_on steps old hub after number len who None there (never, same) (value, default) was =
       subst (λ (it : Hub T U B D). Kept fit (asked_too (command.Loan number len) reply.Skipped old) it) (sym same)
-      (skipped_on payload user_header is_default is_default_header fixed degrades decides fixed_reader reader_degrades goes_on old hub hub
-      (command.Loan number len) refl
-      (λ names most state it. (
+      (skipped_on terms goes_on old hub hub (command.Loan number len) refl (λ names most state it. (
         (
           value,
           default,
@@ -296,14 +282,14 @@ module _ {T U B D : Type 0} (payload user_header : Detail) (is_default : T → T
         refl,
       )) was)
   defaults_recorded goes_on steps old hub after number len who (Some answer) there (may, lends) default was =
-      lent_on goes_on old hub after (command.Loan number len) answer (defaults_keep is_default who len hub after answer lends)
+      lent_on goes_on old hub after (command.Loan number len) answer (defaults_keep terms.is_default who len hub after answer lends)
       (steps number len who (numbered old hub) after answer there
       (not_waiting (publisher_stands who.number (hub_ports who.domain hub)) (publisher_blocked who.number (hub_ports who.domain hub)) may)
       lends) was
 
   -- all values of a loan are written, if it has as many
   pub filled_recorded : {fit : Bool} → GoesOn
-      → WriteIsStep Slice payload user_header types is_default is_default_header fixed degrades decides fixed_reader reader_degrades
+      → WriteIsStep Slice terms_so
       → (old : Calls T) (hub after : Hub T U B D) (number : ℕ) (made : MadeLoan) (values : List T) (done : Bool)
       → value_at old.made.loans number ≡ Some made → WritesAll hub_ports with_hub_ports made.port made.slot values hub after
       → done ≡ is_written_with (loan_found made.port.number made.slot (hub_ports made.port.domain after)) (length values)
@@ -312,8 +298,8 @@ module _ {T U B D : Type 0} (payload user_header : Detail) (is_default : T → T
       let same : done ≡ fits_in values made.port.number made.slot (hub_ports made.port.domain hub)
       = is ∙ written_where_fits values made.port made.slot hub after writes in
       subst (λ (b : Bool). Kept fit (asked_too (command.Fill number values) (done_reply b) old) after) (sym same)
-      (plain_on payload user_header is_default is_default_header fixed degrades decides fixed_reader reader_degrades goes_on old hub after
-      (command.Fill number values) (done_reply (fits_in values made.port.number made.slot (hub_ports made.port.domain hub)))
+      (plain_on terms goes_on old hub after (command.Fill number values)
+      (done_reply (fits_in values made.port.number made.slot (hub_ports made.port.domain hub)))
       (ap (λ hub. hub.table.id) writes ∙ changed_keeps made.port.domain _ (hub_ports made.port.domain hub) hub)
       (steps number made values (numbered old hub) after there writes) was)
 
@@ -333,12 +319,11 @@ module _ {T U B D : Type 0} (payload user_header : Detail) (is_default : T → T
         id = kept ∙ was.id;
         all_fit = was.all_fit;
         told = told_too asked answer was.told;
-        run = run_on payload user_header is_default is_default_header fixed degrades decides fixed_reader reader_degrades goes_on old hub
-            after asked answer (without_loan number old.made) old.factories does was.run;
+        run = run_on terms goes_on old hub after asked answer (without_loan number old.made) old.factories does was.run;
       }
 
   pub dropped_recorded : {fit : Bool} → GoesOn
-      → DropIsStep Slice payload user_header types is_default is_default_header fixed degrades decides fixed_reader reader_degrades
+      → DropIsStep Slice terms_so
       → (old : Calls T) (hub after : Hub T U B D) (number : ℕ) (made : MadeLoan) → value_at old.made.loans number ≡ Some made
       → GivesUpLoan hub_ports with_hub_ports made.port made.slot hub after
       → Kept fit old hub → Kept fit (asked_with (without_loan number old.made) (command.Drop number) (done_reply true) old) after
@@ -348,31 +333,29 @@ module _ {T U B D : Type 0} (payload user_header : Detail) (is_default : T → T
       (steps number made (numbered old hub) after there gives) was
 
   pub sent_recorded : {fit : Bool} → GoesOn
-      → SendIsStep Slice payload user_header types is_default is_default_header fixed degrades decides fixed_reader reader_degrades
+      → SendIsStep Slice terms_so
       → (old : Calls T) (hub after : Hub T U B D) (number : ℕ) (sample : Lent T U Slice Written)
       (answer : Result (Result (Sent T U) SendError) (Lent T U Slice Written))
       → value_at old.made.loans number ≡ Some (record { port = sample.port; slot = sample.slot })
-      → SendsOrBack degrades decides sample hub answer after
+      → SendsOrBack terms.degrades terms.decides sample hub answer after
       → Kept fit old hub
       → Kept fit (asked_with (removed_if (is_ok answer) (without_loan number) old.made) (command.Send number)
       (told_sent_if (result_ok answer)) old) after
   sent_recorded goes_on steps old hub after number sample (Ok answer) there (outcome, sends, is) was =
       spent_on goes_on old hub after (command.Send number) (told_sent answer) number
-      (at_keeps sample.port.domain (SendsBy (publisher_may_degrade degrades sample.port.domain sample.port.number hub)
-      (publisher_may_decide decides sample.port.domain sample.port.number hub) sample.port.number sample.slot)
+      (at_keeps sample.port.domain (SendsBy (publisher_may_degrade terms.degrades sample.port.domain sample.port.number hub)
+      (publisher_may_decide terms.decides sample.port.domain sample.port.number hub) sample.port.number sample.slot)
       (hub_ports sample.port.domain hub) hub after (Some outcome) sends)
       (steps number (record { port = sample.port; slot = sample.slot }) (numbered old hub) after answer there (outcome, sends, is)) was
   sent_recorded {fit} goes_on steps old hub after number sample (Err back) there (is, same, never) was =
       subst (λ (it : Hub T U B D). Kept fit (asked_too (command.Send number) reply.Skipped old) it) (sym same)
-      (skipped_on payload user_header is_default is_default_header fixed degrades decides fixed_reader reader_degrades goes_on old hub hub
-      (command.Send number) refl
-      (λ names most state it. (
+      (skipped_on terms goes_on old hub hub (command.Send number) refl (λ names most state it. (
         (
           None,
-          subst (λ (found : Option MadeLoan). SendsUnder hub_ports with_hub_ports (publisher_may_degrade degrades)
-              (publisher_may_decide decides) found hub None hub) (sym there)
-              (sends_none (publisher_may_degrade degrades sample.port.domain sample.port.number hub)
-              (publisher_may_decide decides sample.port.domain sample.port.number hub) sample.port sample.slot hub never),
+          subst (λ (found : Option MadeLoan). SendsUnder hub_ports with_hub_ports (publisher_may_degrade terms.degrades)
+              (publisher_may_decide terms.decides) found hub None hub) (sym there)
+              (sends_none (publisher_may_degrade terms.degrades sample.port.domain sample.port.number hub)
+              (publisher_may_decide terms.decides sample.port.domain sample.port.number hub) sample.port sample.slot hub never),
           refl,
           refl,
         ),

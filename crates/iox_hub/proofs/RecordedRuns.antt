@@ -53,14 +53,9 @@ use Rattle.iox_hub_base.specs.declared.hub.HubConfig.{HubConfig}
 use Rattle.iox_hub_base.specs.declared.node.NodeHandle.{NodeHandle}
 use Rattle.iox_hub_commands.proofs.Rooms.{new_rises}
 use Rattle.iox_hub_commands.specs.CommandSteps.{publisher_may_decide, publisher_may_degrade, subscriber_may_degrade}
-use Rattle.iox_hub_commands.specs.DescribeBase.Detail.{Detail}
 use Rattle.iox_hub_commands.specs.DescribeBase.declared.header.Header.{Header}
 use Rattle.iox_hub_commands.specs.DescribeBase.declared.message_type.MessageTypeDetails.{MessageTypeDetails}
 use Rattle.iox_hub_commands.specs.DescribeBase.declared.type_detail.TypeVariant.TheVariants.{Dynamic}
-use Rattle.iox_hub_commands.specs.DomainValues.declared.backpressure.BackpressureAction.{BackpressureAction}
-use Rattle.iox_hub_commands.specs.DomainValues.declared.backpressure.BackpressureDecision.{BackpressureDecision}
-use Rattle.iox_hub_commands.specs.DomainValues.declared.backpressure.BackpressureInfo.{BackpressureInfo}
-use Rattle.iox_hub_commands.specs.DomainValues.declared.backpressure_strategy.BackpressureStrategy.{BackpressureStrategy}
 use Rattle.iox_hub_commands.specs.DomainValues.declared.create_error.PublisherCreateError.{PublisherCreateError}
 use Rattle.iox_hub_commands.specs.DomainValues.declared.create_error.SubscriberCreateError.{SubscriberCreateError}
 use Rattle.iox_hub_commands.specs.DomainValues.declared.degradation.DegradationAction.{DegradationAction}
@@ -107,6 +102,8 @@ use Rattle.iox_hub.specs.Recording.{IsDoneIf, IsDoneOrBack, IsRecorded, IsRun, n
 use Rattle.iox_hub.specs.Recording.{AllFit, asked_with, no_calls, told_sent_if, values_there}
 use Rattle.iox_hub.proofs.RecordedIds.{at_keeps, drops_keeps, leaves_keeps, makes_keeps, receive_keeps, retry_keeps}
 use Rattle.iox_hub.proofs.RecordedIds.{slice_keeps}
+use Rattle.iox_hub_commands.specs.Terms.{Terms}
+use Rattle.iox_hub_machine.specs.TypedTerms.{asked_terms}
 
 -- what is below is told to be
 low : (n m : ℕ) → n < m → nat_lt n m ≡ true
@@ -209,35 +206,35 @@ module _ {T U B D : Type 0} (degrades : D → DegradationCause → DegradationIn
   came_there receiver old new sample (Ok None, takes, is) = cc
   came_there receiver old new sample (Err why, takes, is) = cc
 
-module _ {T U B D : Type 0} (payload user_header : Detail) (is_default : T → Type 0)
-    (is_default_header : U → Type 0) (fixed : BackpressureStrategy → Option BackpressureAction → DegradationAction → B)
-    (degrades : B → DegradationCause → DegradationInfo → DegradationAction → Type 0)
-    (decides : B → BackpressureInfo → BackpressureDecision → Type 0) (fixed_reader : DegradationAction → D)
-    (reader_degrades : D → DegradationCause → DegradationInfo → DegradationAction → Type 0) where
+module _ {T U B D : Type 0} (terms : Terms T U B D) where
+  -- the terms of a hub whose messages are slices
+  abbrev pub terms_so : Terms T U B D
+  terms_so = asked_terms Dynamic terms
+
   -- the types of the messages: slices
   abbrev pub types : MessageTypeDetails
-  types = asked_types Dynamic payload user_header
+  types = asked_types Dynamic terms.payload terms.user_header
 
   abbrev pub Run : Bool → Calls T → Hub T U B D → Type 0
   Run fit calls hub
-      = IsRun payload user_header types is_default is_default_header fixed degrades decides fixed_reader reader_degrades fit calls hub
+      = IsRun terms_so fit calls hub
 
   abbrev pub Recorded : Bool → Calls T → Hub T U B D → Type 0
   Recorded fit calls hub
-      = IsRecorded payload user_header types is_default is_default_header fixed degrades decides fixed_reader reader_degrades fit calls hub
+      = IsRecorded terms_so fit calls hub
 
   abbrev pub Steps : Command T → NumberedHub T U B D → Reply T → NumberedHub T U B D → Type 0
-  Steps = IsStepBy payload user_header types is_default is_default_header fixed degrades decides fixed_reader reader_degrades
+  Steps = IsStepBy terms_so
 
   abbrev pub Followed : Calls T → Type 0
-  Followed calls = AreFollowed fixed degrades decides fixed_reader reader_degrades calls
+  Followed calls = AreFollowed terms.fixed terms.degrades terms.decides terms.fixed_reader terms.reader_degrades calls
 
   abbrev pub Stood : List (List ℕ) → ℕ → NumberedHub T U B D → State T → Type 0
-  Stood names most hub state = StandsAfter types (as_named is_default) degrades decides reader_degrades names most hub state
+  Stood names most hub state = StandsAfter types (as_named terms.is_default) terms.degrades terms.decides terms.reader_degrades names most
+      hub state
 
   -- one call more, which is a step, and what is known then
-  run_to : (fit known : Bool) → CallsGoOn payload user_header types is_default is_default_header fixed degrades decides fixed_reader
-      reader_degrades
+  run_to : (fit known : Bool) → CallsGoOn terms_so
       → (old : Calls T) (hub after : Hub T U B D) (asked : Command T) (answer : Reply T) (made : Made) (factories : FactoryTable)
       (received : List (List T)) → (AllFit received → AllFit old.received)
       → (AllFit received → Steps asked (numbered old hub) answer (numbered (then old asked answer made factories received) after))
@@ -258,8 +255,7 @@ module _ {T U B D : Type 0} (payload user_header : Detail) (is_default : T → T
       (now, kept ∙ same, knows names (all_asked (old.asked ++ asked ∷ [])) now.state now.stands fits so)
 
   -- one call more, which is a step, and nothing more is known then
-  pub run_on : {fit : Bool} → CallsGoOn payload user_header types is_default is_default_header fixed degrades decides fixed_reader
-      reader_degrades
+  pub run_on : {fit : Bool} → CallsGoOn terms_so
       → (old : Calls T) (hub after : Hub T U B D) (asked : Command T) (answer : Reply T) (made : Made) (factories : FactoryTable)
       → Steps asked (numbered old hub) answer (numbered (then old asked answer made factories old.received) after)
       → Run fit old hub → Run fit (then old asked answer made factories old.received) after
@@ -268,13 +264,10 @@ module _ {T U B D : Type 0} (payload user_header : Detail) (is_default : T → T
       (λ names most state stands fits so. so) was
 
   abbrev pub Skips : Command T → Calls T → Hub T U B D → Hub T U B D → Type 0
-  Skips asked old hub after = Does payload user_header Dynamic is_default is_default_header fixed degrades decides fixed_reader
-      reader_degrades
-      asked (numbered old hub) reply.Skipped (numbered old after)
+  Skips asked old hub after = Does Dynamic terms asked (numbered old hub) reply.Skipped (numbered old after)
 
   -- a call that leaves what the program holds as it was
-  pub plain_on : {fit : Bool} → CallsGoOn payload user_header types is_default is_default_header fixed degrades decides fixed_reader
-      reader_degrades
+  pub plain_on : {fit : Bool} → CallsGoOn terms_so
       → (old : Calls T) (hub after : Hub T U B D) (asked : Command T) (answer : Reply T)
       → after.table.id ≡ hub.table.id → Steps asked (numbered old hub) answer (numbered old after)
       → Recorded fit old hub → Recorded fit (asked_too asked answer old) after
@@ -287,20 +280,17 @@ module _ {T U B D : Type 0} (payload user_header : Detail) (is_default : T → T
   }
 
   -- a call that isn't made is a command that is skipped
-  pub skipped_on : {fit : Bool} → CallsGoOn payload user_header types is_default is_default_header fixed degrades decides fixed_reader
-      reader_degrades
+  pub skipped_on : {fit : Bool} → CallsGoOn terms_so
       → (old : Calls T) (hub after : Hub T U B D) (asked : Command T) → after.table.id ≡ hub.table.id
       → ((names : List (List ℕ)) (most : ℕ) (state : State T) → Stood names most (numbered old hub) state → Skips asked old hub after)
       → Recorded fit old hub → Recorded fit (asked_too asked reply.Skipped old) after
   skipped_on goes_on old hub after asked kept skips was =
       plain_on goes_on old hub after asked reply.Skipped kept
-      (by_step payload user_header Dynamic is_default is_default_header fixed degrades decides fixed_reader reader_degrades
-      asked (numbered old hub) (numbered old after) reply.Skipped skips) was
+      (by_step Dynamic terms asked (numbered old hub) (numbered old after) reply.Skipped skips) was
 
   -- a subscriber that the program holds stands, so that no call of it is skipped
-  pub absent_on : {fit : Bool} → CallsGoOn payload user_header types is_default is_default_header fixed degrades decides fixed_reader
-      reader_degrades
-      → HeldMayBeUsed U types is_default degrades decides reader_degrades
+  pub absent_on : {fit : Bool} → CallsGoOn terms_so
+      → HeldMayBeUsed terms_so
       → (old : Calls T) (hub after : Hub T U B D) (asked : Command T) → (number : ℕ) (who : PortId)
       → value_at old.made.subscribers number ≡ Some who → subscriber_stands who.number (hub_ports who.domain hub) ≡ false → after ≡ hub
       → Recorded fit old hub → Recorded fit (asked_too asked reply.Skipped old) after
@@ -311,7 +301,7 @@ module _ {T U B D : Type 0} (payload user_header : Detail) (is_default : T → T
       ((may_use names most (numbered old hub) state it).subscribers number who there) never) was)
 
   -- nothing was asked of a new hub
-  pub new_recorded : CallsBegin payload user_header types is_default is_default_header fixed degrades decides fixed_reader reader_degrades
+  pub new_recorded : CallsBegin terms_so
       → (config : HubConfig) (hub : Hub T U B D) → IsNewHub config hub
       → Recorded true (no_calls config) hub
   new_recorded begins config hub is =
@@ -341,7 +331,7 @@ module _ {T U B D : Type 0} (payload user_header : Detail) (is_default : T → T
 
   -- what was asked and answered is a run of the machine
   pub answers_so : {fit : Bool} (calls : Calls T) (hub : Hub T U B D) → Run fit calls hub → Followed calls
-      → Answers types (as_named is_default) calls.config.expired_connection_buffer calls.asked false calls.answers
+      → Answers types (as_named terms.is_default) calls.config.expired_connection_buffer calls.asked false calls.answers
   answers_so calls hub run (decides_so, answer_so, own, few, fit) =
       let (called, same, known) = run (names_in calls.asked) decides_so answer_so own (all_among calls.asked) few fit in (
         calls.asked,
@@ -349,7 +339,7 @@ module _ {T U B D : Type 0} (payload user_header : Detail) (is_default : T → T
         called.state,
         sym (append-nil calls.asked),
         refl,
-        subst (λ (n : ℕ). Runs types (as_named is_default) n calls.asked new_state calls.answers called.state) same called.run,
+        subst (λ (n : ℕ). Runs types (as_named terms.is_default) n calls.asked new_state calls.answers called.state) same called.run,
       )
 
   -- by the premises it is known that all that was received fits
@@ -358,15 +348,14 @@ module _ {T U B D : Type 0} (payload user_header : Detail) (is_default : T → T
       (run (names_in calls.asked) decides_so answer_so own (all_among calls.asked) few fit).2
 
   -- what the program holds may be used
-  pub may_be_used : {fit : Bool} → HeldMayBeUsed U types is_default degrades decides reader_degrades
+  pub may_be_used : {fit : Bool} → HeldMayBeUsed terms_so
       → (calls : Calls T) (hub : Hub T U B D) → Recorded fit calls hub → Followed calls → MayBeUsed (numbered calls hub)
   may_be_used may calls hub recorded (decides_so, answers_so, own, few, fit) =
       let (called, same, known) = recorded.run (names_in calls.asked) decides_so answers_so own (all_among calls.asked) few fit in
       may (names_in calls.asked) (all_asked calls.asked) (numbered calls hub) called.state called.stands
 
-  pub node_recorded : {fit : Bool} → CallsGoOn payload user_header types is_default is_default_header fixed degrades decides fixed_reader
-      reader_degrades
-      → NewNodeIsStep payload user_header types is_default is_default_header fixed degrades decides fixed_reader reader_degrades
+  pub node_recorded : {fit : Bool} → CallsGoOn terms_so
+      → NewNodeIsStep terms_so
       → (old : Calls T) (hub after : Hub T U B D) (answer : Result NodeHandle HubError)
       → answer ≡ Ok (record { hub = hub.table.id; number = one_more hub.nodes })
       → after ≡ record hub { nodes = one_more hub.nodes }
@@ -375,13 +364,13 @@ module _ {T U B D : Type 0} (payload user_header : Detail) (is_default : T → T
       plain_on goes_on old hub after command.Node (told_node answer) (ap (λ hub. hub.table.id) same)
       (steps (numbered old hub) after answer is same) was
 
-  pub put_recorded : {fit : Bool} → CallsGoOn payload user_header types is_default is_default_header fixed degrades decides fixed_reader
-      reader_degrades
-      → SendSliceIsStep Slice payload user_header types is_default is_default_header fixed degrades decides fixed_reader reader_degrades
+  pub put_recorded : {fit : Bool} → CallsGoOn terms_so
+      → SendSliceIsStep Slice terms_so
       → (old : Calls T) (hub after : Hub T U B D) (number : ℕ) (lender : PortId) (values : List T)
       (answer : Option (Result (Sent T U) SendError)) → port_under (value_at old.made.publishers number) ≡ Some lender
       → IsDoneIf (may_lend hub_ports lender hub)
-      (SendsSlice hub_ports with_hub_ports (publisher_may_degrade degrades) (publisher_may_decide decides) lender values) hub answer after
+      (SendsSlice hub_ports with_hub_ports (publisher_may_degrade terms.degrades) (publisher_may_decide terms.decides) lender values) hub
+      answer after
       → Recorded fit old hub → Recorded fit (asked_too (command.Put number values) (told_sent_if answer) old) after
   put_recorded {fit} goes_on steps old hub after number lender values None there (never, same) was =
       subst (λ (it : Hub T U B D). Recorded fit (asked_too (command.Put number values) reply.Skipped old) it) (sym same)
@@ -389,8 +378,8 @@ module _ {T U B D : Type 0} (payload user_header : Detail) (is_default : T → T
       (λ names most state it. (
         (
           None,
-          subst (λ (found : Option PortId). AtPort (Puts hub_ports with_hub_ports (publisher_may_degrade degrades)
-              (publisher_may_decide decides) values) found hub None hub)
+          subst (λ (found : Option PortId). AtPort (Puts hub_ports with_hub_ports (publisher_may_degrade terms.degrades)
+              (publisher_may_decide terms.decides) values) found hub None hub)
               (sym (none_ready (length values) (value_at old.made.publishers number) lender hub there never)) (refl, refl),
           refl,
         ),
@@ -398,19 +387,19 @@ module _ {T U B D : Type 0} (payload user_header : Detail) (is_default : T → T
       )) was)
   put_recorded goes_on steps old hub after number lender values (Some answer) there (may, sends) was =
       plain_on goes_on old hub after (command.Put number values) (told_sent answer)
-      (slice_keeps degrades decides lender values hub after answer sends)
+      (slice_keeps terms.degrades terms.decides lender values hub after answer sends)
       (steps number lender values (numbered old hub) after answer there
       (not_waiting (publisher_stands lender.number (hub_ports lender.domain hub))
       (publisher_blocked lender.number (hub_ports lender.domain hub)) may) sends) was
 
   -- a send that waits is tried again, or what doesn't wait is handed back
   pub retry_recorded : {fit : Bool} {W : Type 0}
-      → CallsGoOn payload user_header types is_default is_default_header fixed degrades decides fixed_reader reader_degrades
-      → RetryIsStep Slice payload user_header types is_default is_default_header fixed degrades decides fixed_reader reader_degrades
+      → CallsGoOn terms_so
+      → RetryIsStep Slice terms_so
       → (old : Calls T) (hub after : Hub T U B D) (number nanoseconds : ℕ) (sender : PortId) (waits : W)
       (answer : Result (Result (Sent T U) SendError) W) → port_under (value_at old.made.publishers number) ≡ Some sender
       → IsDoneOrBack (publisher_blocked sender.number (hub_ports sender.domain hub)) waits
-      (RetriesSend hub_ports with_hub_ports (publisher_may_decide decides) sender nanoseconds) hub answer after
+      (RetriesSend hub_ports with_hub_ports (publisher_may_decide terms.decides) sender nanoseconds) hub answer after
       → Recorded fit old hub → Recorded fit (asked_too (command.Retry number nanoseconds) (told_sent_if (result_ok answer)) old) after
   retry_recorded {fit} goes_on steps old hub after number nanoseconds sender waits (Err back) there (never, is, same) was =
       subst (λ (it : Hub T U B D). Recorded fit (asked_too (command.Retry number nanoseconds) reply.Skipped old) it) (sym same)
@@ -418,9 +407,9 @@ module _ {T U B D : Type 0} (payload user_header : Detail) (is_default : T → T
       (λ names most state it. (
         (
           None,
-          subst (λ (found : Option PortId). AtPort (Retries hub_ports with_hub_ports (publisher_may_decide decides) nanoseconds) found hub
-              None hub) (sym there)
-              (tries_none (publisher_may_decide decides sender.domain sender.number hub) nanoseconds sender hub
+          subst (λ (found : Option PortId). AtPort (Retries hub_ports with_hub_ports (publisher_may_decide terms.decides) nanoseconds) found
+              hub None hub) (sym there)
+              (tries_none (publisher_may_decide terms.decides sender.domain sender.number hub) nanoseconds sender hub
               (hub_ports sender.domain hub) refl never),
           refl,
         ),
@@ -428,12 +417,11 @@ module _ {T U B D : Type 0} (payload user_header : Detail) (is_default : T → T
       )) was)
   retry_recorded goes_on steps old hub after number nanoseconds sender waits (Ok answer) there tries was =
       plain_on goes_on old hub after (command.Retry number nanoseconds) (told_sent answer)
-      (retry_keeps decides sender nanoseconds hub after answer tries)
+      (retry_keeps terms.decides sender nanoseconds hub after answer tries)
       (steps number nanoseconds sender (numbered old hub) after answer there tries) was
 
-  pub give_up_recorded : {fit : Bool} → CallsGoOn payload user_header types is_default is_default_header fixed degrades decides fixed_reader
-      reader_degrades
-      → GiveUpIsStep Slice payload user_header types is_default is_default_header fixed degrades decides fixed_reader reader_degrades
+  pub give_up_recorded : {fit : Bool} → CallsGoOn terms_so
+      → GiveUpIsStep Slice terms_so
       → (old : Calls T) (hub after : Hub T U B D) (number : ℕ) (sender : PortId) (answer : Option ℕ)
       → port_under (value_at old.made.publishers number) ≡ Some sender
       → EndsSend hub_ports with_hub_ports sender hub answer after
@@ -444,14 +432,13 @@ module _ {T U B D : Type 0} (payload user_header : Detail) (is_default : T → T
       (steps number sender (numbered old hub) after answer there ends) was
 
   -- a sample that came is told with its values; a subscriber that the program holds stands
-  pub receive_recorded : {fit : Bool} → CallsGoOn payload user_header types is_default is_default_header fixed degrades decides fixed_reader
-      reader_degrades
-      → ReceiveIsStep Slice payload user_header types is_default is_default_header fixed degrades decides fixed_reader reader_degrades
-      → HeldMayBeUsed U types is_default degrades decides reader_degrades
+  pub receive_recorded : {fit : Bool} → CallsGoOn terms_so
+      → ReceiveIsStep Slice terms_so
+      → HeldMayBeUsed terms_so
       → (old : Calls T) (hub after : Hub T U B D) (number : ℕ) (receiver : PortId)
       (answer : Option (Result (Option (Sample T U Slice)) ReceiveError)) → value_at old.made.subscribers number ≡ Some receiver
       → IsDoneIf (subscriber_stands receiver.number (hub_ports receiver.domain hub))
-      (ReceivesSample hub_ports with_hub_ports (subscriber_may_degrade reader_degrades) receiver) hub answer after
+      (ReceivesSample hub_ports with_hub_ports (subscriber_may_degrade terms.reader_degrades) receiver) hub answer after
       → Recorded fit old hub → Recorded (fit && newest_is_known answer after) (calls_received after number answer old) after
   receive_recorded {fit} goes_on steps may_use old hub after number receiver None there (never, same) was =
       subst (λ (it : Bool). Recorded it (asked_too (command.Receive number) reply.Skipped old) after) (sym (and_true fit))
@@ -463,7 +450,7 @@ module _ {T U B D : Type 0} (payload user_header : Detail) (is_default : T → T
       let short : Bool = nat_lt (length values) (2 ^ 63) in
       let (factories, publishers, subscribers, loans, samples) = was.rise in record {
         rise = (factories, publishers, subscribers, loans, Rises-push 1 old.made.samples.next old.made.samples.entries it samples);
-        id = receive_keeps reader_degrades receiver hub after (Ok (Some sample)) receives ∙ was.id;
+        id = receive_keeps terms.reader_degrades receiver hub after (Ok (Some sample)) receives ∙ was.id;
         all_fit = λ is. let (before, newest) = both_so fit (held && short) is in
             one_fits old.received values (was.all_fit before) (below (length values) (2 ^ 63) (both_so held short newest).1);
         told = told_received number (vector values) it was.told;
@@ -474,7 +461,7 @@ module _ {T U B D : Type 0} (payload user_header : Detail) (is_default : T → T
             (λ fits. steps number receiver (numbered old hub) after (Ok (Some sample))
             (reply.Received old.made.samples.next (vector values)) there receives (
               vector values,
-              there_is (payload_there sample after) (came_there reader_degrades receiver hub after sample receives)
+              there_is (payload_there sample after) (came_there terms.reader_degrades receiver hub after sample receives)
                   ∙ ap Some (sym (vector_is values (both_fit old.received (values ∷ []) fits).1.0)),
               refl,
             ))
@@ -487,22 +474,22 @@ module _ {T U B D : Type 0} (payload user_header : Detail) (is_default : T → T
   receive_recorded {fit} goes_on steps may_use old hub after number receiver (Some (Ok None)) there (may, receives) was =
       subst (λ (it : Bool). Recorded it (asked_too (command.Receive number) reply.NothingWaits old) after) (sym (and_true fit))
       (plain_on goes_on old hub after (command.Receive number) reply.NothingWaits
-      (receive_keeps reader_degrades receiver hub after (Ok None) receives)
+      (receive_keeps terms.reader_degrades receiver hub after (Ok None) receives)
       (steps number receiver (numbered old hub) after (Ok None) reply.NothingWaits there receives refl) was)
   receive_recorded {fit} goes_on steps may_use old hub after number receiver (Some (Err why)) there (may, receives) was =
       subst (λ (it : Bool). Recorded it (asked_too (command.Receive number) (reply.Refused (refusal.Receive why)) old) after)
       (sym (and_true fit))
       (plain_on goes_on old hub after (command.Receive number) (reply.Refused (refusal.Receive why))
-      (receive_keeps reader_degrades receiver hub after (Err why) receives)
+      (receive_keeps terms.reader_degrades receiver hub after (Err why) receives)
       (steps number receiver (numbered old hub) after (Err why) (reply.Refused (refusal.Receive why)) there receives refl) was)
 
   -- a subscriber that the program holds receives
-  pub receives_some : {fit : Bool} → HeldMayBeUsed U types is_default degrades decides reader_degrades
+  pub receives_some : {fit : Bool} → HeldMayBeUsed terms_so
       → (old : Calls T) (hub after : Hub T U B D) (number : ℕ) (receiver : PortId)
       (answer : Option (Result (Option (Sample T U Slice)) ReceiveError)) (named : Number)
       → value_at old.made.subscribers number ≡ Some receiver
       → IsDoneIf (subscriber_stands receiver.number (hub_ports receiver.domain hub))
-      (ReceivesSample hub_ports with_hub_ports (subscriber_may_degrade reader_degrades) receiver) hub answer after
+      (ReceivesSample hub_ports with_hub_ports (subscriber_may_degrade terms.reader_degrades) receiver) hub answer after
       → Recorded fit old hub → Followed old → IsSome (received_by named answer)
   receives_some may_use old hub after number receiver None named there (never, same) was followed =
       never_so (subscriber_stands receiver.number (hub_ports receiver.domain hub))
@@ -512,14 +499,13 @@ module _ {T U B D : Type 0} (payload user_header : Detail) (is_default : T → T
   receives_some may_use old hub after number receiver (Some (Err why)) named there done was followed = refl
 
   -- what a sample that goes by a number is read as, the machine may answer
-  pub read_so : {fit : Bool} → CallsGoOn payload user_header types is_default is_default_header fixed degrades decides fixed_reader
-      reader_degrades
-      → PayloadIsStep Slice payload user_header types is_default is_default_header fixed degrades decides fixed_reader reader_degrades
+  pub read_so : {fit : Bool} → CallsGoOn terms_so
+      → PayloadIsStep Slice terms_so
       → (calls : Calls T) (hub : Hub T U B D) (number : ℕ) (made : MadeSample) (values : List T)
       → value_at calls.made.samples number ≡ Some made → values_under hub_ports (Some made) hub ≡ Some values → Recorded fit calls hub
       → Followed (record calls { asked = calls.asked ++ command.Read number ∷ [] }) → length values < 2 ^ 63
       → (told : Vec T) × (vec_items told ≡ values)
-      × Answers types (as_named is_default) calls.config.expired_connection_buffer (calls.asked ++ command.Read number ∷ []) false
+      × Answers types (as_named terms.is_default) calls.config.expired_connection_buffer (calls.asked ++ command.Read number ∷ []) false
       (calls.answers ++ reply.Values told ∷ [])
   read_so goes_on steps calls hub number made values there read was followed small = (
     vector values,
@@ -531,27 +517,24 @@ module _ {T U B D : Type 0} (payload user_header : Detail) (is_default : T → T
   )
 
   -- what the header of a sample that goes by a number tells as its sequence number, the machine may answer
-  pub sequence_so : {fit : Bool} → CallsGoOn payload user_header types is_default is_default_header fixed degrades decides fixed_reader
-      reader_degrades
+  pub sequence_so : {fit : Bool} → CallsGoOn terms_so
       → (calls : Calls T) (hub : Hub T U B D) (number : ℕ) (made : MadeSample) (header : Header)
       → value_at calls.made.samples number ≡ Some made → Some header ≡ header_found made.taken (hub_ports made.port.domain hub)
       → Recorded fit calls hub → Followed (record calls { asked = calls.asked ++ command.Sequence number ∷ [] })
-      → Answers types (as_named is_default) calls.config.expired_connection_buffer (calls.asked ++ command.Sequence number ∷ []) false
+      → Answers types (as_named terms.is_default) calls.config.expired_connection_buffer (calls.asked ++ command.Sequence number ∷ []) false
       (calls.answers ++ reply.Sequence header.sequence ∷ [])
   sequence_so goes_on calls hub number made header there is was followed =
       answers_so (then calls (command.Sequence number) (reply.Sequence header.sequence) calls.made calls.factories calls.received) hub
       (run_on goes_on calls hub hub (command.Sequence number) (reply.Sequence header.sequence) calls.made calls.factories
-      (by_step payload user_header Dynamic is_default is_default_header fixed degrades decides fixed_reader reader_degrades
-      (command.Sequence number) (numbered calls hub) (numbered calls hub) (reply.Sequence header.sequence)
+      (by_step Dynamic terms (command.Sequence number) (numbered calls hub) (numbered calls hub) (reply.Sequence header.sequence)
       (λ names most state it. (
         ap sequence_reply (sequence_told made.taken header (hub_ports made.port.domain hub) is
             ∙ sym (ap (λ (found : Option MadeSample). sequence_under hub_ports found hub) there)),
         refl,
       ))) was.run) followed
 
-  pub release_recorded : {fit : Bool} → CallsGoOn payload user_header types is_default is_default_header fixed degrades decides
-      fixed_reader reader_degrades
-      → ReleaseIsStep Slice payload user_header types is_default is_default_header fixed degrades decides fixed_reader reader_degrades
+  pub release_recorded : {fit : Bool} → CallsGoOn terms_so
+      → ReleaseIsStep Slice terms_so
       → (old : Calls T) (hub after : Hub T U B D) (number : ℕ) (made : MadeSample) (released : Bool)
       → value_at old.made.samples number ≡ Some made
       → DropsSample hub_ports with_hub_ports made.port made.taken hub released after
@@ -574,7 +557,7 @@ module _ {T U B D : Type 0} (payload user_header : Detail) (is_default : T → T
       }
 
   -- a sample that goes by a number was held
-  pub release_held : {fit : Bool} → HeldMayBeUsed U types is_default degrades decides reader_degrades
+  pub release_held : {fit : Bool} → HeldMayBeUsed terms_so
       → (old : Calls T) (hub after : Hub T U B D) (number : ℕ) (made : MadeSample) (released : Bool)
       → value_at old.made.samples number ≡ Some made
       → DropsSample hub_ports with_hub_ports made.port made.taken hub released after
@@ -585,10 +568,8 @@ module _ {T U B D : Type 0} (payload user_header : Detail) (is_default : T → T
 
   -- ---- ports that come and leave
 
-  pub subscriber_ended : {fit : Bool} → CallsGoOn payload user_header types is_default is_default_header fixed degrades decides
-      fixed_reader reader_degrades
-      → SubscriberLeaveIsStep Slice payload user_header types is_default is_default_header fixed degrades decides fixed_reader
-      reader_degrades
+  pub subscriber_ended : {fit : Bool} → CallsGoOn terms_so
+      → SubscriberLeaveIsStep Slice terms_so
       → (old : Calls T) (hub after : Hub T U B D) (number : ℕ) (leaver : PortId) (left : Bool)
       → value_at old.made.subscribers number ≡ Some leaver
       → EndsSubscriber hub_ports with_hub_ports without_hub_subscriber leaver hub left after
@@ -619,10 +600,8 @@ module _ {T U B D : Type 0} (payload user_header : Detail) (is_default : T → T
       )
       rises false = was.rise
 
-  pub publisher_ended : {fit : Bool} → CallsGoOn payload user_header types is_default is_default_header fixed degrades decides
-      fixed_reader reader_degrades
-      → PublisherLeaveIsStep Slice payload user_header types is_default is_default_header fixed degrades decides fixed_reader
-      reader_degrades
+  pub publisher_ended : {fit : Bool} → CallsGoOn terms_so
+      → PublisherLeaveIsStep Slice terms_so
       → (old : Calls T) (hub after : Hub T U B D) (number : ℕ) (leaver : PortId) (left : Bool)
       → port_under (value_at old.made.publishers number) ≡ Some leaver
       → EndsPublisher hub_ports with_hub_ports without_hub_publisher leaver hub left after
@@ -657,38 +636,36 @@ module _ {T U B D : Type 0} (payload user_header : Detail) (is_default : T → T
       (there : publish_subscribe_in (value_at old.factories factory) ≡ Some parts) where
     publisher_keeps : (named : PublisherOptions) (header : U) (answer : Option (Result ℕ PublisherCreateError))
         → MakesAt (λ after. with_hub_ports (domain_of_factory parts) after hub)
-        (λ number. with_hub_publisher (domain_of_factory parts) number (publisher_handlers fixed named))
+        (λ number. with_hub_publisher (domain_of_factory parts) number (publisher_handlers terms.fixed named))
         (PublisherComes (λ worst_case slots. slots ≡ unwrap_or named.preallocated_samples worst_case)
-        (degrades (publisher_handlers fixed named) FailedToEstablishConnection)
+        (terms.degrades (publisher_handlers terms.fixed named) FailedToEstablishConnection)
         (publisher_config (owner_of_factory parts) named) header) (why_no_publisher (publisher_config (owner_of_factory parts) named))
         (hub_ports (domain_of_factory parts) hub) hub answer after
         → after.table.id ≡ hub.table.id
     publisher_keeps named header answer makes =
         makes_keeps (domain_of_factory parts)
-        (λ number. with_hub_publisher (domain_of_factory parts) number (publisher_handlers fixed named))
+        (λ number. with_hub_publisher (domain_of_factory parts) number (publisher_handlers terms.fixed named))
         (λ number hub. refl) (PublisherComes (λ worst_case slots. slots ≡ unwrap_or named.preallocated_samples worst_case)
-        (degrades (publisher_handlers fixed named) FailedToEstablishConnection)
+        (terms.degrades (publisher_handlers terms.fixed named) FailedToEstablishConnection)
         (publisher_config (owner_of_factory parts) named) header) (why_no_publisher (publisher_config (owner_of_factory parts) named))
         (hub_ports (domain_of_factory parts) hub) hub after answer makes
 
-    pub publisher_recorded : {fit : Bool} → CallsGoOn payload user_header types is_default is_default_header fixed degrades decides
-        fixed_reader reader_degrades
+    pub publisher_recorded : {fit : Bool} → CallsGoOn terms_so
         → (named : PublisherOptions)
-        → PublisherIsStep payload user_header types is_default is_default_header fixed degrades decides fixed_reader reader_degrades
-        (λ worst_case slots. slots ≡ unwrap_or named.preallocated_samples worst_case)
+        → PublisherIsStep terms_so (λ worst_case slots. slots ≡ unwrap_or named.preallocated_samples worst_case)
         → (header : U) (answer : Option (Result ℕ PublisherCreateError))
-        → is_default_header header
+        → terms.is_default_header header
         → MakesAt (λ after. with_hub_ports (domain_of_factory parts) after hub)
-        (λ number. with_hub_publisher (domain_of_factory parts) number (publisher_handlers fixed named))
+        (λ number. with_hub_publisher (domain_of_factory parts) number (publisher_handlers terms.fixed named))
         (PublisherComes (λ worst_case slots. slots ≡ unwrap_or named.preallocated_samples worst_case)
-        (degrades (publisher_handlers fixed named) FailedToEstablishConnection)
+        (terms.degrades (publisher_handlers terms.fixed named) FailedToEstablishConnection)
         (publisher_config (owner_of_factory parts) named) header) (why_no_publisher (publisher_config (owner_of_factory parts) named))
         (hub_ports (domain_of_factory parts) hub) hub answer after
         → Recorded fit old hub → Recorded fit (calls_publisher factory named (domain_of_factory parts) answer old) after
     publisher_recorded goes_on named steps header None default makes was =
         skipped_on goes_on old hub after (command.Publisher factory named) (publisher_keeps named header None makes)
-        (λ names most state it. subst (λ (found : Option Opened). services.PublisherComes is_default_header fixed degrades found named
-        (numbered old hub) reply.Skipped (numbered old after)) (sym there) (
+        (λ names most state it. subst (λ (found : Option Opened). services.PublisherComes terms.is_default_header terms.fixed terms.degrades
+        found named (numbered old hub) reply.Skipped (numbered old after)) (sym there) (
           (header, default, None, (old.made, as_roomy old.made, (None, makes, (refl, refl))), refl),
           refl,
         )) was
@@ -716,32 +693,31 @@ module _ {T U B D : Type 0} (payload user_header : Detail) (is_default : T → T
 
     subscriber_keeps : (named : SubscriberOptions) (answer : Option (Result ℕ SubscriberCreateError))
         → MakesAt (λ after. with_hub_ports (domain_of_factory parts) after hub)
-        (λ number. with_hub_subscriber (domain_of_factory parts) number (subscriber_handler fixed_reader named))
-        (SubscriberComes (reader_degrades (subscriber_handler fixed_reader named) FailedToEstablishConnection)
+        (λ number. with_hub_subscriber (domain_of_factory parts) number (subscriber_handler terms.fixed_reader named))
+        (SubscriberComes (terms.reader_degrades (subscriber_handler terms.fixed_reader named) FailedToEstablishConnection)
         (subscriber_config (owner_of_factory parts) named)) (why_no_subscriber (subscriber_config (owner_of_factory parts) named))
         (hub_ports (domain_of_factory parts) hub) hub answer after
         → after.table.id ≡ hub.table.id
     subscriber_keeps named answer makes =
         makes_keeps (domain_of_factory parts)
-        (λ number. with_hub_subscriber (domain_of_factory parts) number (subscriber_handler fixed_reader named)) (λ number hub. refl)
-        (SubscriberComes (reader_degrades (subscriber_handler fixed_reader named) FailedToEstablishConnection)
+        (λ number. with_hub_subscriber (domain_of_factory parts) number (subscriber_handler terms.fixed_reader named)) (λ number hub. refl)
+        (SubscriberComes (terms.reader_degrades (subscriber_handler terms.fixed_reader named) FailedToEstablishConnection)
         (subscriber_config (owner_of_factory parts) named)) (why_no_subscriber (subscriber_config (owner_of_factory parts) named))
         (hub_ports (domain_of_factory parts) hub) hub after answer makes
 
-    pub subscriber_recorded : {fit : Bool} → CallsGoOn payload user_header types is_default is_default_header fixed degrades decides
-        fixed_reader reader_degrades
-        → SubscriberIsStep payload user_header types is_default is_default_header fixed degrades decides fixed_reader reader_degrades
+    pub subscriber_recorded : {fit : Bool} → CallsGoOn terms_so
+        → SubscriberIsStep terms_so
         → (named : SubscriberOptions) (answer : Option (Result ℕ SubscriberCreateError))
         → MakesAt (λ after. with_hub_ports (domain_of_factory parts) after hub)
-        (λ number. with_hub_subscriber (domain_of_factory parts) number (subscriber_handler fixed_reader named))
-        (SubscriberComes (reader_degrades (subscriber_handler fixed_reader named) FailedToEstablishConnection)
+        (λ number. with_hub_subscriber (domain_of_factory parts) number (subscriber_handler terms.fixed_reader named))
+        (SubscriberComes (terms.reader_degrades (subscriber_handler terms.fixed_reader named) FailedToEstablishConnection)
         (subscriber_config (owner_of_factory parts) named)) (why_no_subscriber (subscriber_config (owner_of_factory parts) named))
         (hub_ports (domain_of_factory parts) hub) hub answer after
         → Recorded fit old hub → Recorded fit (calls_subscriber factory named (domain_of_factory parts) answer old) after
     subscriber_recorded goes_on steps named None makes was =
         skipped_on goes_on old hub after (command.Subscriber factory named) (subscriber_keeps named None makes)
-        (λ names most state it. subst (λ (found : Option Opened). services.SubscriberComes fixed_reader reader_degrades found named
-        (numbered old hub) reply.Skipped (numbered old after)) (sym there) (
+        (λ names most state it. subst (λ (found : Option Opened). services.SubscriberComes terms.fixed_reader terms.reader_degrades found
+        named (numbered old hub) reply.Skipped (numbered old after)) (sym there) (
           (None, (old.made, as_roomy old.made, (None, makes, (refl, refl))), refl),
           refl,
         )) was

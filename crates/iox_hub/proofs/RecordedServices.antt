@@ -21,18 +21,10 @@ use Rattle.iox_hub_base.specs.Hubs.{is_node}
 use Rattle.iox_hub_base.specs.declared.hub.Hub.{Hub}
 use Rattle.iox_hub_commands.specs.Creating.{CreatesAs, CreatesNumbered}
 use Rattle.iox_hub_commands.specs.DescribeBase.Attributes.{Required}
-use Rattle.iox_hub_commands.specs.DescribeBase.Detail.{Detail}
 use Rattle.iox_hub_commands.specs.DescribeBase.declared.attribute.Attribute.{Attribute}
 use Rattle.iox_hub_commands.specs.DescribeBase.declared.message_type.MessageTypeDetails.{MessageTypeDetails}
 use Rattle.iox_hub_commands.specs.DescribeBase.declared.pattern.MessagingPattern.{MessagingPattern}
 use Rattle.iox_hub_commands.specs.DescribeBase.declared.type_detail.TypeVariant.TheVariants.{Dynamic}
-use Rattle.iox_hub_commands.specs.DomainValues.declared.backpressure.BackpressureAction.{BackpressureAction}
-use Rattle.iox_hub_commands.specs.DomainValues.declared.backpressure.BackpressureDecision.{BackpressureDecision}
-use Rattle.iox_hub_commands.specs.DomainValues.declared.backpressure.BackpressureInfo.{BackpressureInfo}
-use Rattle.iox_hub_commands.specs.DomainValues.declared.backpressure_strategy.BackpressureStrategy.{BackpressureStrategy}
-use Rattle.iox_hub_commands.specs.DomainValues.declared.degradation.DegradationAction.{DegradationAction}
-use Rattle.iox_hub_commands.specs.DomainValues.declared.degradation.DegradationCause.{DegradationCause}
-use Rattle.iox_hub_commands.specs.DomainValues.declared.degradation.DegradationInfo.{DegradationInfo}
 use Rattle.iox_hub_commands.specs.Either.{EitherAs, EitherNumbered}
 use Rattle.iox_hub_commands.specs.Foreign.{ActsNamed}
 use Rattle.iox_hub_commands.specs.Opening.{OpensAs, OpensNumbered}
@@ -48,23 +40,24 @@ use Rattle.iox_hub.proofs.RecordedIds.{closes_keeps, creates_keeps, either_keeps
 use Rattle.iox_hub.proofs.RecordedRuns.{Recorded, Skips, Steps, plain_on, run_on, skipped_on}
 use Rattle.iox_hub.specs.Recorded.{Calls, asked_too}
 use Rattle.iox_hub.specs.Recording.{OpensIf, calls_closed, calls_opened, numbered}
+use Rattle.iox_hub_commands.specs.Terms.{Terms}
+use Rattle.iox_hub_machine.specs.TypedTerms.{asked_terms}
 
-module _ {T U B D : Type 0} (payload user_header : Detail) (is_default : T → Type 0)
-    (is_default_header : U → Type 0) (fixed : BackpressureStrategy → Option BackpressureAction → DegradationAction → B)
-    (degrades : B → DegradationCause → DegradationInfo → DegradationAction → Type 0)
-    (decides : B → BackpressureInfo → BackpressureDecision → Type 0) (fixed_reader : DegradationAction → D)
-    (reader_degrades : D → DegradationCause → DegradationInfo → DegradationAction → Type 0) where
+module _ {T U B D : Type 0} (terms : Terms T U B D) where
+  -- the terms of a hub whose messages are slices
+  abbrev terms_so : Terms T U B D
+  terms_so = asked_terms Dynamic terms
+
   -- the types of the messages: slices
   abbrev types : MessageTypeDetails
-  types = asked_types Dynamic payload user_header
+  types = asked_types Dynamic terms.payload terms.user_header
 
   abbrev GoesOn : Type 0
-  GoesOn = CallsGoOn {T = T} {U = U} payload user_header types is_default is_default_header fixed degrades decides fixed_reader
-      reader_degrades
+  GoesOn = CallsGoOn terms_so
 
   abbrev Kept : Bool → Calls T → Hub T U B D → Type 0
   Kept fit calls hub
-      = Recorded payload user_header is_default is_default_header fixed degrades decides fixed_reader reader_degrades fit calls hub
+      = Recorded terms fit calls hub
 
   -- a node asks for a service by a command, which is a step
   module _ {E : Type 0} (asked : Command T) (refused : E → Refusal) (node : ℕ)
@@ -74,19 +67,16 @@ module _ {T U B D : Type 0} (payload user_header : Detail) (is_default : T → T
       → after.table.id ≡ hub.table.id)
       (steps : (answer : Result ℕ Refusal) (table : FactoryTable) → is_node node hub.nodes ≡ true
       → asks old.factories hub answer table after
-      → Steps payload user_header is_default is_default_header fixed degrades decides fixed_reader reader_degrades asked
-      (numbered old hub) (factory_reply (Some answer)) (opened_then (numbered old hub) table after))
+      → Steps terms asked (numbered old hub) (factory_reply (Some answer)) (opened_then (numbered old hub) table after))
       (skips : is_node node hub.nodes ≡ false
-      → Skips payload user_header is_default is_default_header fixed degrades decides fixed_reader reader_degrades asked old hub hub)
+      → Skips terms asked old hub hub)
     where
       asked_recorded : {fit : Bool} → GoesOn → (answer : Option (Result MadeFactory E))
           → OpensIf refused node asks old.factories hub answer after → Kept fit old hub
           → Kept fit (calls_opened asked refused answer old) after
       asked_recorded {fit} goes_on None (never, same) was =
           subst (λ (it : Hub T U B D). Kept fit (asked_too asked reply.Skipped old) it) (sym same)
-          (skipped_on payload user_header is_default is_default_header fixed degrades decides fixed_reader reader_degrades goes_on old hub
-          hub
-          asked refl (λ names most state it. skips never) was)
+          (skipped_on terms goes_on old hub hub asked refl (λ names most state it. skips never) was)
       asked_recorded goes_on (Some (Ok factory)) (there, opens) was =
           let (factories, publishers, subscribers, loans, samples) = was.rise in record {
             rise = (
@@ -99,36 +89,33 @@ module _ {T U B D : Type 0} (payload user_header : Detail) (is_default : T → T
             id = keeps (Ok old.factories.next) (inserted old.factories factory) opens ∙ was.id;
             all_fit = was.all_fit;
             told = told_too asked (reply.FactoryMade old.factories.next) was.told;
-            run = run_on payload user_header is_default is_default_header fixed degrades decides fixed_reader reader_degrades goes_on old
-                hub
-                after asked (reply.FactoryMade old.factories.next) old.made (inserted old.factories factory)
+            run = run_on terms goes_on old hub after asked (reply.FactoryMade old.factories.next) old.made (inserted old.factories factory)
                 (steps (Ok old.factories.next) (inserted old.factories factory) there opens) was.run;
           }
       asked_recorded goes_on (Some (Err why)) (there, opens) was =
-          plain_on payload user_header is_default is_default_header fixed degrades decides fixed_reader reader_degrades goes_on old hub
-          after
-          asked (reply.Refused (refused why)) (keeps (Err (refused why)) old.factories opens)
+          plain_on terms goes_on old hub after asked (reply.Refused (refused why)) (keeps (Err (refused why)) old.factories opens)
           (steps (Err (refused why)) old.factories there opens) was
 
   module _ (old : Calls T) (hub after : Hub T U B D) (node : ℕ) (name : List ℕ) (named : PublishSubscribeOptions) where
     pub created_recorded : {fit : Bool} → GoesOn
-        → CreateIsStep payload user_header types is_default is_default_header fixed degrades decides fixed_reader reader_degrades
+        → CreateIsStep terms_so
         → (attributes : List Attribute) (answer : Option (Result MadeFactory PublishSubscribeCreateError))
         → OpensIf refusal.PublishSubscribeCreate node
-        (CreatesAs (options.PublishSubscribe named) payload user_header types node name attributes []) old.factories hub answer after
+        (CreatesAs (options.PublishSubscribe named) terms.payload terms.user_header types node name attributes []) old.factories hub answer
+        after
         → Kept fit old hub
         → Kept fit (calls_opened (command.Create node name (options.PublishSubscribe named) attributes [])
         refusal.PublishSubscribeCreate answer old) after
     created_recorded goes_on steps attributes answer opens was =
         asked_recorded (command.Create node name (options.PublishSubscribe named) attributes []) refusal.PublishSubscribeCreate node
-        (CreatesAs (options.PublishSubscribe named) payload user_header types node name attributes []) old hub after
-        (λ answer table creates. creates_keeps payload user_header types node name named attributes old.factories table hub after answer
-        creates)
+        (CreatesAs (options.PublishSubscribe named) terms.payload terms.user_header types node name attributes []) old hub after
+        (λ answer table creates. creates_keeps terms.payload terms.user_header types node name named attributes old.factories table hub
+        after answer creates)
         (λ answer table there creates. steps node name (options.PublishSubscribe named) attributes [] (numbered old hub) after answer table
         there tt creates)
         (λ never. (
           None,
-          subst (λ (b : Bool). CreatesNumbered b payload user_header types
+          subst (λ (b : Bool). CreatesNumbered b terms.payload terms.user_header types
               (record { node = node; name = name; options = options.PublishSubscribe named }) attributes [] old.factories hub None
               old.factories hub) (sym never) (refl, refl, refl),
           refl,
@@ -136,22 +123,24 @@ module _ {T U B D : Type 0} (payload user_header : Detail) (is_default : T → T
         )) goes_on answer opens was
 
     pub opened_recorded : {fit : Bool} → GoesOn
-        → OpenIsStep payload user_header types is_default is_default_header fixed degrades decides fixed_reader reader_degrades
+        → OpenIsStep terms_so
         → (required : Required) (answer : Option (Result MadeFactory PublishSubscribeOpenError))
         → OpensIf refusal.PublishSubscribeOpen node
-        (OpensAs (options.PublishSubscribe named) payload user_header types node name required []) old.factories hub answer after
+        (OpensAs (options.PublishSubscribe named) terms.payload terms.user_header types node name required []) old.factories hub answer
+        after
         → Kept fit old hub
         → Kept fit (calls_opened (command.Open node name (options.PublishSubscribe named) required []) refusal.PublishSubscribeOpen answer
         old) after
     opened_recorded goes_on steps required answer opens was =
         asked_recorded (command.Open node name (options.PublishSubscribe named) required []) refusal.PublishSubscribeOpen node
-        (OpensAs (options.PublishSubscribe named) payload user_header types node name required []) old hub after
-        (λ answer table does. opens_keeps payload user_header types node name named required old.factories table hub after answer does)
+        (OpensAs (options.PublishSubscribe named) terms.payload terms.user_header types node name required []) old hub after
+        (λ answer table does. opens_keeps terms.payload terms.user_header types node name named required old.factories table hub after
+        answer does)
         (λ answer table there does. steps node name (options.PublishSubscribe named) required [] (numbered old hub) after answer table
         there tt does)
         (λ never. (
           None,
-          subst (λ (b : Bool). OpensNumbered b payload user_header types
+          subst (λ (b : Bool). OpensNumbered b terms.payload terms.user_header types
               (record { node = node; name = name; options = options.PublishSubscribe named }) required [] old.factories hub None
               old.factories hub) (sym never) (refl, refl, refl),
           refl,
@@ -159,23 +148,25 @@ module _ {T U B D : Type 0} (payload user_header : Detail) (is_default : T → T
         )) goes_on answer opens was
 
     pub either_recorded : {fit : Bool} → GoesOn
-        → OpenOrCreateIsStep payload user_header types is_default is_default_header fixed degrades decides fixed_reader reader_degrades
+        → OpenOrCreateIsStep terms_so
         → (required : Required) (answer : Option (Result MadeFactory PublishSubscribeOpenOrCreateError))
         → OpensIf refusal.PublishSubscribeOpenOrCreate node
-        (EitherAs (options.PublishSubscribe named) payload user_header types node name required []) old.factories hub answer after
+        (EitherAs (options.PublishSubscribe named) terms.payload terms.user_header types node name required []) old.factories hub answer
+        after
         → Kept fit old hub
         → Kept fit (calls_opened (command.OpenOrCreate node name (options.PublishSubscribe named) required [])
         refusal.PublishSubscribeOpenOrCreate answer old) after
     either_recorded goes_on steps required answer opens was =
         asked_recorded (command.OpenOrCreate node name (options.PublishSubscribe named) required [])
         refusal.PublishSubscribeOpenOrCreate node
-        (EitherAs (options.PublishSubscribe named) payload user_header types node name required []) old hub after
-        (λ answer table does. either_keeps payload user_header types node name named required old.factories table hub after answer does)
+        (EitherAs (options.PublishSubscribe named) terms.payload terms.user_header types node name required []) old hub after
+        (λ answer table does. either_keeps terms.payload terms.user_header types node name named required old.factories table hub after
+        answer does)
         (λ answer table there does. steps node name (options.PublishSubscribe named) required [] (numbered old hub) after answer table
         there tt does)
         (λ never. (
           None,
-          subst (λ (b : Bool). EitherNumbered b payload user_header types
+          subst (λ (b : Bool). EitherNumbered b terms.payload terms.user_header types
               (record { node = node; name = name; options = options.PublishSubscribe named }) required [] old.factories hub None
               old.factories hub) (sym never) (refl, refl, refl),
           refl,
@@ -186,10 +177,9 @@ module _ {T U B D : Type 0} (payload user_header : Detail) (is_default : T → T
       (steps : List ForeignStep) (answer : Result (Unit {0}) HubError) → ActsNamed kind name types steps hub answer after
       → Kept fit old hub → Kept fit (asked_too (command.Foreign kind name steps) (foreign_reply answer) old) after
   foreign_recorded goes_on old hub after kind name steps answer acts was =
-      plain_on payload user_header is_default is_default_header fixed degrades decides fixed_reader reader_degrades goes_on old hub after
-      (command.Foreign kind name steps) (foreign_reply answer) (foreign_keeps kind name types steps hub after answer acts)
-      (by_step payload user_header Dynamic is_default is_default_header fixed degrades decides fixed_reader reader_degrades
-      (command.Foreign kind name steps) (numbered old hub) (numbered old after) (foreign_reply answer)
+      plain_on terms goes_on old hub after (command.Foreign kind name steps) (foreign_reply answer) (foreign_keeps kind name types steps hub
+      after answer acts)
+      (by_step Dynamic terms (command.Foreign kind name steps) (numbered old hub) (numbered old after) (foreign_reply answer)
       (λ names most state it. (answer, acts, refl, refl))) was
 
   -- ---- a factory that is closed
@@ -201,7 +191,7 @@ module _ {T U B D : Type 0} (payload user_header : Detail) (is_default : T → T
   closed_rises (Err (why, Some factory)) number table rises = rises
 
   pub closed_recorded : {fit : Bool} {F : Type 0} → GoesOn
-      → CloseIsStep payload user_header types is_default is_default_header fixed degrades decides fixed_reader reader_degrades F
+      → CloseIsStep terms_so F
       → (old : Calls T) (hub after : Hub T U B D) (number : ℕ) (made : MadeFactory) (factory : F)
       (answer : Result (Unit {0}) (CloseError × Option F)) → value_at old.factories number ≡ Some made
       → Closes (parts_of made).0 (parts_of made).1 factory hub answer after
@@ -213,7 +203,6 @@ module _ {T U B D : Type 0} (payload user_header : Detail) (is_default : T → T
             ∙ was.id;
         all_fit = was.all_fit;
         told = told_too (command.Close number) (told_closed answer) was.told;
-        run = run_on payload user_header is_default is_default_header fixed degrades decides fixed_reader reader_degrades goes_on old hub
-            after (command.Close number) (told_closed answer) old.made (factories_then answer number old.factories)
-            (steps number made factory (numbered old hub) after answer there closes) was.run;
+        run = run_on terms goes_on old hub after (command.Close number) (told_closed answer) old.made
+            (factories_then answer number old.factories) (steps number made factory (numbered old hub) after answer there closes) was.run;
       }

@@ -24,15 +24,7 @@ use Rattle.iox_negotiate_base.specs.declared.request.Opened.{Opened as Joined}
 use Rattle.iox_command.specs.NegotiateBase.declared.errors.close.CloseError.{CloseError}
 use Rattle.iox_hub_commands.specs.Asking.{hash_of}
 use Rattle.iox_hub_commands.specs.DescribeBase.declared.attribute.Attribute.{Attribute}
-use Rattle.iox_hub_commands.specs.DescribeBase.Detail.{Detail}
 use Rattle.iox_hub_commands.specs.DescribeBase.declared.message_type.MessageTypeDetails.{MessageTypeDetails}
-use Rattle.iox_hub_commands.specs.DomainValues.declared.backpressure.BackpressureAction.{BackpressureAction}
-use Rattle.iox_hub_commands.specs.DomainValues.declared.backpressure.BackpressureDecision.{BackpressureDecision}
-use Rattle.iox_hub_commands.specs.DomainValues.declared.backpressure.BackpressureInfo.{BackpressureInfo}
-use Rattle.iox_hub_commands.specs.DomainValues.declared.backpressure_strategy.BackpressureStrategy.{BackpressureStrategy}
-use Rattle.iox_hub_commands.specs.DomainValues.declared.degradation.DegradationAction.{DegradationAction}
-use Rattle.iox_hub_commands.specs.DomainValues.declared.degradation.DegradationCause.{DegradationCause}
-use Rattle.iox_hub_commands.specs.DomainValues.declared.degradation.DegradationInfo.{DegradationInfo}
 use Rattle.iox_hub_base.specs.declared.hub.Hub.{Hub}
 use Rattle.iox_hub_base.specs.declared.hub.HubConfig.{HubConfig}
 use Rattle.iox_hub_commands.specs.Lives.{NumbersRise}
@@ -58,6 +50,7 @@ use Rattle.iox_hub_commands.specs.declared.ports.made.Made.{Made}
 use Rattle.iox_hub_commands.specs.declared.ports.made.MadeSample.{MadeSample}
 use Rattle.iox_hub_commands.specs.declared.services.made.MadeFactory.{MadeFactory}
 use Rattle.iox_hub.specs.Recorded.{Calls, asked_too}
+use Rattle.iox_hub_commands.specs.Terms.{Terms}
 
 -- nothing was asked yet
 abbrev pub no_calls : {T : Type 0} → HubConfig → Calls T
@@ -202,18 +195,15 @@ module _ {T U B D : Type 0} where
     pledged = record { loans = 0; samples = 0 };
   }
 
-module _ {T U B D : Type 0} (payload user_header : Detail) (types : MessageTypeDetails) (is_default : T → Type 0)
-    (is_default_header : U → Type 0) (fixed : BackpressureStrategy → Option BackpressureAction → DegradationAction → B)
-    (degrades : B → DegradationCause → DegradationInfo → DegradationAction → Type 0)
-    (decides : B → BackpressureInfo → BackpressureDecision → Type 0) (fixed_reader : DegradationAction → D)
-    (reader_degrades : D → DegradationCause → DegradationInfo → DegradationAction → Type 0) where
+-- The terms of the hub are given.
+module _ {T U B D : Type 0} (terms : Terms T U B D) where
   -- The calls were a run of the machine, and the hub stands for what that led to; it is as it was made, and this is true. So it is for any
   -- names among which are those that were asked for, of which no two services share a hash.
   abbrev pub IsRun : Bool → Calls T → Hub T U B D → Type 0
-  IsRun fit calls hub = (names : List (List ℕ)) → DecidesAsFixed fixed degrades decides → AnswersAsFixed fixed_reader reader_degrades
+  IsRun fit calls hub = (names : List (List ℕ)) → DecidesAsFixed terms.fixed terms.degrades terms.decides
+      → AnswersAsFixed terms.fixed_reader terms.reader_degrades
       → HaveOwnHashes names → AllByRecursion (AsksAmong names) calls.asked → all_asked calls.asked < 2 ^ 56 → AllFit calls.received
-      → HasCalled payload user_header types is_default is_default_header fixed degrades decides fixed_reader reader_degrades names
-      calls.asked calls.answers (numbered calls hub)
+      → HasCalled terms names calls.asked calls.answers (numbered calls hub)
       × (hub.expired_connection_buffer ≡ calls.config.expired_connection_buffer)
       × (fit ≡ true)
 

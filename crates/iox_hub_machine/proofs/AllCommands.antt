@@ -19,7 +19,6 @@ use Rattle.iox_hub_machine.proofs.ComesAskedPublisher.{publisher_coming_followed
 use Rattle.iox_hub_machine.proofs.Created.{create_matches}
 use Rattle.iox_hub_machine.proofs.Dropped.{drop_simulated}
 use Rattle.iox_hub_machine.proofs.EachCommand.{CommandLaws, each_followed}
-use Rattle.iox_hub_machine.proofs.FittingThen.{asked_terms}
 use Rattle.iox_hub_machine.proofs.Foreign.{foreign_matches}
 use Rattle.iox_hub_machine.proofs.GivenUp.{give_up_simulated}
 use Rattle.iox_hub_machine.proofs.Lent.{lend_simulated, lend_uninit_simulated}
@@ -39,6 +38,7 @@ use Rattle.iox_hub_machine.proofs.Updated.{publisher_update_simulated}
 use Rattle.iox_hub_machine.proofs.ValuesPut.{put_simulated}
 use Rattle.iox_hub_machine.specs.GoingOnLaws.{DecidedRunsGoOn, NewHubBegins, RunsGoOn, decided_terms}
 use Rattle.iox_hub_machine.specs.RunLaws.{RunAnswers, RunStands}
+use Rattle.iox_hub_machine.specs.TypedTerms.{asked_terms}
 use Rattle.iox_machine.specs.Choices.{Choices, as_named}
 use Rattle.iox_hub_commands.specs.Terms.{Terms}
 

@@ -42,7 +42,7 @@ use Rattle.iox_hub_commands.specs.Terms.{Terms}
 use Rattle.iox_hub_machine.proofs.Answered.{IsAnswered, answered, lacking_answered, room_lacking}
 use Rattle.iox_hub_machine.proofs.EnteredStands.{stands_entered}
 use Rattle.iox_hub_machine.proofs.Entering.{created_enters, uncreated_keeps}
-use Rattle.iox_hub_machine.proofs.FittingThen.{FitsHere, asked_terms, new_fits}
+use Rattle.iox_hub_machine.proofs.FittingThen.{FitsHere, new_fits}
 use Rattle.iox_hub_machine.proofs.Formed.{AreMade, formed_so, listed_so}
 use Rattle.iox_hub_machine.proofs.FoundStanding.{described_so, look_finds, refuses_to_create, same_phase}
 use Rattle.iox_hub_machine.proofs.Skipping.{by_none, skipped_matches, stands_still}
@@ -50,6 +50,7 @@ use Rattle.iox_hub_machine.specs.CreateLaws.{CreateMatches}
 use Rattle.iox_hub_machine.specs.OpenLaws.{HasNumbersFor}
 use Rattle.iox_hub_machine.specs.ServiceLaws.{IsFollowed}
 use Rattle.iox_hub_machine.specs.Services.{HubStandsFor}
+use Rattle.iox_hub_machine.specs.TypedTerms.{asked_terms}
 use Rattle.iox_machine.proofs.Shorthands.{RefusesNode}
 use Rattle.iox_machine.specs.Choices.{Choices}
 use Rattle.iox_machine.proofs.Calls.{creates-go}

@@ -18,7 +18,6 @@ use Rattle.iox_describe_base.specs.Compatible.{IsCompatible, is_compatible, same
 use Rattle.iox_domain.specs.Fitting.{FitTypes, Fits, any_payload, any_user_header, asked_types}
 use Rattle.iox_machine.specs.Agreement.{Agreement, verdict}
 use Rattle.iox_machine.specs.Asked.{settings_of}
-use Rattle.iox_hub_commands.specs.Terms.{Terms}
 
 -- of clauses that are met the first is
 first_met : {E : Type 0} (error : E) (met : Bool) (rest : Result (Unit {0}) E) → cond met rest (Err error) ≡ Ok tt → met ≡ true
@@ -27,10 +26,6 @@ first_met {E} error false rest is = absurd (differ is)
   where
     differ : ◌≡◌ {A = Result (Unit {0}) E} (Err error) (Ok tt) → ⊥
     differ e = cc
-
--- the terms of a hub whose services have messages of the types that are asked for: values, or slices of them
-abbrev pub asked_terms : {T U B D : Type 0} → TypeVariant → Terms T U B D → Terms T U B D
-asked_terms variant terms = record terms { types = asked_types variant terms.payload terms.user_header }
 
 module _ (payload user_header : Detail) where
   -- Publish-subscribe settings fit the hub, where they are within the limits.

@@ -105,6 +105,7 @@ pub mod TypedServices
 pub mod TypedReading
 mod CreatedBeside
 pub mod TypedOpening
+pub mod TypedCalls
 pub mod TypedRuns
 pub mod TypedHeaders
 pub mod TypedTelling

@@ -51,7 +51,7 @@ use Rattle.iox_hub_machine.proofs.Answered.{room_lacking, with_factory_in}
 use Rattle.iox_hub_machine.proofs.EnteredStands.{stands_entered}
 use Rattle.iox_hub_machine.proofs.Entering.{opened_enters, unopened_keeps}
 use Rattle.iox_hub_machine.proofs.FewHeld.{few_held}
-use Rattle.iox_hub_machine.proofs.FittingThen.{FitsHere, asked_terms, met_fits}
+use Rattle.iox_hub_machine.proofs.FittingThen.{FitsHere, met_fits}
 use Rattle.iox_hub_machine.proofs.Formed.{AreMade, formed_so, listed_so}
 use Rattle.iox_hub_machine.proofs.Skipping.{skipped_matches}
 use Rattle.iox_hub_machine.proofs.Verdicts.{event_judge, publish_subscribe_judge, request_response_judge}
@@ -59,6 +59,7 @@ use Rattle.iox_hub_machine.proofs.Verdicts.{same_event_verdict, same_publish_sub
 use Rattle.iox_hub_machine.specs.OpenLaws.{HasNumbersFor, OpeningMatches}
 use Rattle.iox_hub_machine.specs.ServiceLaws.{IsFollowed}
 use Rattle.iox_hub_machine.specs.Services.{HubStandsFor, factory_as}
+use Rattle.iox_hub_machine.specs.TypedTerms.{asked_terms}
 use Rattle.iox_machine.specs.Choices.{Choices}
 use Rattle.iox_machine.proofs.Names.{phase-there}
 use Rattle.iox_machine.proofs.Opened.{opened-meets-asked}

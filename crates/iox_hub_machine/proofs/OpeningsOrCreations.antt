@@ -53,7 +53,7 @@ use Rattle.iox_hub_machine.proofs.Answered.{room_lacking, with_factory_in}
 use Rattle.iox_hub_machine.proofs.EnteredStands.{stands_entered}
 use Rattle.iox_hub_machine.proofs.Entering.{either_enters, neither_keeps}
 use Rattle.iox_hub_machine.proofs.FewHeld.{few_held}
-use Rattle.iox_hub_machine.proofs.FittingThen.{FitsHere, asked_terms, met_fits, new_fits}
+use Rattle.iox_hub_machine.proofs.FittingThen.{FitsHere, met_fits, new_fits}
 use Rattle.iox_hub_machine.proofs.Formed.{AreMade, formed_so, listed_so}
 use Rattle.iox_hub_machine.proofs.Openings.{agreed_there, by_true, is_event, is_request_response}
 use Rattle.iox_hub_machine.proofs.Skipping.{skipped_matches}
@@ -63,6 +63,7 @@ use Rattle.iox_hub_machine.proofs.Verdicts.{same_request_response_verdict}
 use Rattle.iox_hub_machine.specs.OpenLaws.{HasNumbersFor, OpeningOrCreatingMatches}
 use Rattle.iox_hub_machine.specs.ServiceLaws.{IsFollowed}
 use Rattle.iox_hub_machine.specs.Services.{HubStandsFor, factory_as}
+use Rattle.iox_hub_machine.specs.TypedTerms.{asked_terms}
 use Rattle.iox_machine.specs.Choices.{Choices}
 use Rattle.iox_machine.proofs.Names.{phase-there}
 use Rattle.iox_machine.proofs.Opened.{either-meets-asked}

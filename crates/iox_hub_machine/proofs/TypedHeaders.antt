@@ -6,14 +6,11 @@ use Rattle.std.proofs.lemmas.Bool.Decides.{eqb_tells}
 use Rattle.std.specs.Map.{keys_of}
 use Rattle.std.specs.Option.{option_map_or}
 use Rattle.std.specs.Prelude.{option_and_then, option_map}
-use Rattle.iox_command.specs.DomainValues.declared.backpressure.BackpressureAction.{BackpressureAction}
 use Rattle.iox_command.specs.DomainValues.declared.backpressure.BackpressureDecision.{BackpressureDecision}
 use Rattle.iox_command.specs.DomainValues.declared.backpressure.BackpressureInfo.{BackpressureInfo}
-use Rattle.iox_command.specs.DomainValues.declared.backpressure_strategy.BackpressureStrategy.{BackpressureStrategy}
 use Rattle.iox_command.specs.DomainValues.declared.degradation.DegradationAction.{DegradationAction}
 use Rattle.iox_command.specs.DomainValues.declared.degradation.DegradationCause.{DegradationCause}
 use Rattle.iox_command.specs.DomainValues.declared.degradation.DegradationInfo.{DegradationInfo}
-use Rattle.iox_command.specs.NegotiateBase.DescribeBase.Detail.{Detail}
 use Rattle.iox_command.specs.NegotiateBase.DescribeBase.declared.message_type.MessageTypeDetails.{MessageTypeDetails}
 use Rattle.iox_command.specs.NegotiateBase.DescribeBase.declared.pattern.MessagingPattern.{MessagingPattern}
 use Rattle.iox_command.specs.NegotiateBase.DescribeBase.declared.type_detail.TypeVariant.{TypeVariant}
@@ -54,6 +51,7 @@ use Rattle.iox_hub_commands.proofs.Measures.{Counts, call_steps, changed_counts,
 use Rattle.iox_hub_commands.proofs.ServicesAgree.{kept_agrees}
 use Rattle.iox_hub_commands.specs.Reading.{sequence_under}
 use Rattle.iox_hub_commands.specs.Replies.{sequence_reply}
+use Rattle.iox_hub_commands.specs.Terms.{Terms}
 use Rattle.iox_hub_commands.specs.declared.numbered_hub.NumberedHub.{NumberedHub}
 use Rattle.iox_hub_commands.specs.declared.ports.made.MadeSample.{MadeSample}
 use Rattle.iox_hub_machine.proofs.Going.{sample_goes, some_place}
@@ -69,6 +67,7 @@ use Rattle.iox_hub_machine.specs.Services.{HubStandsFor}
 use Rattle.iox_hub_machine.specs.Standing.{PortsStandFor, held_in, lent_in}
 use Rattle.iox_hub_machine.specs.TypedHeaders.{ChangesUserHeader, HeaderIsStep, HeaderNamesPublisher, HeaderReadAsSent}
 use Rattle.iox_hub_machine.specs.TypedHeaders.{UserHeadersKeepStanding, UserHeadersNeedNoCommand}
+use Rattle.iox_hub_machine.specs.TypedTerms.{asked_terms}
 use Rattle.iox_machine.specs.Choices.{Choices, as_named}
 use Rattle.iox_machine.specs.Run.{Runs}
 use Rattle.iox_machine.specs.Service.{Service}
@@ -251,54 +250,50 @@ sequence_told taken header (Some ports) is = sequence_by_port taken header (port
 
 -- ---- the laws
 
-module _ {T U B D : Type 0} (payload user_header : Detail) (variant : TypeVariant) (is_default : T → Type 0)
-    (is_default_header : U → Type 0) (fixed : BackpressureStrategy → Option BackpressureAction → DegradationAction → B)
-    (degrades : B → DegradationCause → DegradationInfo → DegradationAction → Type 0)
-    (decides : B → BackpressureInfo → BackpressureDecision → Type 0) (fixed_reader : DegradationAction → D)
-    (reader_degrades : D → DegradationCause → DegradationInfo → DegradationAction → Type 0) where
+module _ {T U B D : Type 0} (variant : TypeVariant) (terms : Terms T U B D) where
+  -- the terms of a hub whose messages are values, or slices of them
+  abbrev terms_so : Terms T U B D
+  terms_so = asked_terms variant terms
+
   -- the types of the messages: values, or slices of them
   abbrev types : MessageTypeDetails
-  types = asked_types variant payload user_header
+  types = asked_types variant terms.payload terms.user_header
 
   -- the publishers of which a user header is written, if the slot is lent, or in any case
   its_test : (lender : PortId) (slot : ℕ) (written : U) (old later : Hub T U B D)
-      → ChangesUserHeader payload user_header types is_default is_default_header fixed degrades decides fixed_reader reader_degrades lender
-      slot written old later
+      → ChangesUserHeader terms_so lender slot written old later
       → (test : PublisherPort T U → Bool)
       × (later ≡ changed_at (λ after. with_hub_ports lender.domain after old)
       (written_in lender.number test slot (write_user_header written)) (hub_ports lender.domain old) old)
   its_test lender slot written old later (inl writes) = ((λ publisher. has_loan slot publisher.sender.uses), writes)
   its_test lender slot written old later (inr is) = ((λ publisher. true), is)
 
-  pub user_headers_keep : UserHeadersKeepStanding payload user_header types is_default is_default_header fixed degrades decides
-      fixed_reader reader_degrades
+  pub user_headers_keep : UserHeadersKeepStanding terms_so
   user_headers_keep slot lender written old hub names most state changes it =
       let (test, is) = its_test lender slot written old.hub hub changes in
-      subst (λ (one : Hub T U B D). StandsAfter types (as_named is_default) degrades decides reader_degrades names most
-      (record old { hub = one }) state) (sym is)
-      (header_keeps types (as_named is_default) degrades decides reader_degrades lender.domain lender.number slot test written old names
-      most state it)
+      subst (λ (one : Hub T U B D). StandsAfter types (as_named terms.is_default) terms.degrades terms.decides terms.reader_degrades names
+      most (record old { hub = one }) state) (sym is)
+      (header_keeps types (as_named terms.is_default) terms.degrades terms.decides terms.reader_degrades lender.domain lender.number slot
+      test written old names most state it)
 
-  pub user_headers_need_none : UserHeadersNeedNoCommand payload user_header types is_default is_default_header fixed degrades decides
-      fixed_reader reader_degrades
+  pub user_headers_need_none : UserHeadersNeedNoCommand terms_so
   user_headers_need_none slot lender written old hub names asked answers changes called =
       let (test, is) = its_test lender slot written old.hub hub changes in record {
         state = called.state;
-        run = subst (λ (n : ℕ). Runs types (as_named is_default) n asked new_state answers called.state)
+        run = subst (λ (n : ℕ). Runs types (as_named terms.is_default) n asked new_state answers called.state)
             (sym (ap (λ (one : Hub T U B D). one.expired_connection_buffer) is
-            ∙ header_buffer types (as_named is_default) degrades decides reader_degrades lender.domain lender.number slot test written
-            old)) called.run;
+            ∙ header_buffer types (as_named terms.is_default) terms.degrades terms.decides terms.reader_degrades lender.domain lender.number
+            slot test written old)) called.run;
         stands = user_headers_keep slot lender written old hub names _ called.state changes called.stands;
       }
 
-  pub header_names : HeaderNamesPublisher payload user_header types is_default is_default_header fixed degrades decides fixed_reader
-      reader_degrades
+  pub header_names : HeaderNamesPublisher terms_so
   header_names names most hub state number made header it there found =
-      let goes = sample_goes (as_named is_default) degrades decides reader_degrades it.naming it.order hub state it.stands.ports number made
-      there in
+      let goes = sample_goes (as_named terms.is_default) terms.degrades terms.decides terms.reader_degrades it.naming it.order hub state
+      it.stands.ports number made there in
       let id = made.port.domain in
-      let placed = some_place (as_named is_default) degrades decides reader_degrades it.naming it.order hub state it.stands.ports id
-      goes.ports goes.found in
+      let placed = some_place (as_named terms.is_default) terms.degrades terms.decides terms.reader_degrades it.naming it.order hub state
+      it.stands.ports id goes.ports goes.found in
       let (sample, has, tells) = header_matches T U (it.naming id.service) (those_of id.service (lent_in hub.made))
       (those_of id.service (held_in hub.made)) hub.hub.expired_connection_buffer goes.ports placed.service number made.taken placed.stands
       goes.mine in
@@ -314,16 +309,15 @@ module _ {T U B D : Type 0} (payload user_header : Detail) (variant : TypeVarian
             ∙ (it.stands.ports.publishers.known publisher port port_there).0),
       )
 
-  pub header_read_as_sent : HeaderReadAsSent payload user_header types is_default is_default_header fixed degrades decides fixed_reader
-      reader_degrades
+  pub header_read_as_sent : HeaderReadAsSent terms_so
   header_read_as_sent names most hub state number made sent it there tell =
-      let goes = sample_goes (as_named is_default) degrades decides reader_degrades it.naming it.order hub state it.stands.ports number made
-      there in
+      let goes = sample_goes (as_named terms.is_default) terms.degrades terms.decides terms.reader_degrades it.naming it.order hub state
+      it.stands.ports number made there in
       let id = made.port.domain in
       let ports = goes.ports in
       let found = goes.found in
-      let placed = some_place (as_named is_default) degrades decides reader_degrades it.naming it.order hub state it.stands.ports id
-      ports found in
+      let placed = some_place (as_named terms.is_default) terms.degrades terms.decides terms.reader_degrades it.naming it.order hub state
+      it.stands.ports id ports found in
       let lent = those_of id.service (lent_in hub.made) in
       let held = those_of id.service (held_in hub.made) in
       let (message, is) = message_there (it.naming id.service) lent held hub.hub.expired_connection_buffer ports placed.service number
@@ -347,12 +341,9 @@ module _ {T U B D : Type 0} (payload user_header : Detail) (variant : TypeVarian
             ∙ (it.stands.ports.publishers.known publisher port port_there).0),
       )
 
-  pub header_is_step : HeaderIsStep payload user_header types is_default is_default_header fixed degrades decides fixed_reader
-      reader_degrades
+  pub header_is_step : HeaderIsStep terms_so
   header_is_step number made old header there found =
-      by_step payload user_header variant is_default is_default_header fixed degrades decides fixed_reader reader_degrades
-      (command.Sequence number) old old (reply.Sequence header.sequence)
-      (λ names most state it. (
+      by_step variant terms (command.Sequence number) old old (reply.Sequence header.sequence) (λ names most state it. (
         sym (ap (λ (one : Option MadeSample). sequence_reply (sequence_under hub_ports one old.hub)) there
             ∙ ap sequence_reply (sequence_told made.taken header (hub_ports made.port.domain old.hub) found)),
         refl,

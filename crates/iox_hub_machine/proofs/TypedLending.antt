@@ -5,14 +5,11 @@ use Rattle.std.proofs.Math.Dec.{eqb}
 use Rattle.std.proofs.lemmas.Bool.{eq-eqb, eqb-true}
 use Rattle.std.proofs.lemmas.Bool.Decides.{nat_tests}
 use Rattle.std.specs.Prelude.{IfOk, get_or, option_map}
-use Rattle.iox_command.specs.DomainValues.declared.backpressure.BackpressureAction.{BackpressureAction}
 use Rattle.iox_command.specs.DomainValues.declared.backpressure.BackpressureDecision.{BackpressureDecision}
 use Rattle.iox_command.specs.DomainValues.declared.backpressure.BackpressureInfo.{BackpressureInfo}
-use Rattle.iox_command.specs.DomainValues.declared.backpressure_strategy.BackpressureStrategy.{BackpressureStrategy}
 use Rattle.iox_command.specs.DomainValues.declared.degradation.DegradationAction.{DegradationAction}
 use Rattle.iox_command.specs.DomainValues.declared.degradation.DegradationCause.{DegradationCause}
 use Rattle.iox_command.specs.DomainValues.declared.degradation.DegradationInfo.{DegradationInfo}
-use Rattle.iox_command.specs.NegotiateBase.DescribeBase.Detail.{Detail}
 use Rattle.iox_command.specs.NegotiateBase.DescribeBase.declared.message_type.MessageTypeDetails.{MessageTypeDetails}
 use Rattle.iox_command.specs.NegotiateBase.DescribeBase.declared.type_detail.TypeVariant.{TypeVariant}
 use Rattle.iox_command.specs.DomainValues.declared.port_error.LoanError.{LoanError}
@@ -64,6 +61,7 @@ use Rattle.iox_hub_commands.specs.Calls.{AtPort, Puts, ready}
 use Rattle.iox_hub_commands.specs.CommandSteps.{publisher_may_decide, publisher_may_degrade}
 use Rattle.iox_hub_commands.specs.Loans.{changed_under, filled_in, is_filled, is_set, loan_under, set_in}
 use Rattle.iox_hub_commands.specs.Tables.{lender, port_under}
+use Rattle.iox_hub_commands.specs.Terms.{Terms}
 use Rattle.iox_hub_commands.specs.declared.numbered_hub.NumberedHub.{NumberedHub}
 use Rattle.iox_hub_commands.specs.declared.ports.made.MadeLoan.{MadeLoan}
 use Rattle.iox_hub_machine.proofs.Going.{loan_goes, some_service}
@@ -78,6 +76,7 @@ use Rattle.iox_hub_machine.specs.Standing.{held_in, lent_in, lent_slot}
 use Rattle.iox_hub_machine.specs.TypedPublishing.{ChangeIsStep, LoanIsStep, LoanOfOneIsStep, SendCopyIsStep, SendSliceIsStep}
 use Rattle.iox_hub_machine.specs.TypedPublishing.{WriteEachIsStep, WriteOneIsStep}
 use Rattle.iox_hub_machine.specs.TypedSteps.{having_lent, hub_after_call, told_loan, told_sent}
+use Rattle.iox_hub_machine.specs.TypedTerms.{asked_terms}
 use Rattle.iox_machine.specs.State.{State}
 use Rattle.iox_machine.specs.Table.{at}
 use Rattle.iox_machine.specs.Choices.{as_named}
@@ -258,19 +257,18 @@ module _ {T U B D : Type 0} where
     sends_values who values old hub answer (Err why, middle, lends, (is, same)) =
         (Err (refusal.LoanError why), (Err why, middle, lends, (refl, same)), is)
 
-module _ {T U B D : Type 0} (payload user_header : Detail) (variant : TypeVariant) (is_default : T → Type 0)
-    (is_default_header : U → Type 0) (fixed : BackpressureStrategy → Option BackpressureAction → DegradationAction → B)
-    (degrades : B → DegradationCause → DegradationInfo → DegradationAction → Type 0)
-    (decides : B → BackpressureInfo → BackpressureDecision → Type 0) (fixed_reader : DegradationAction → D)
-    (reader_degrades : D → DegradationCause → DegradationInfo → DegradationAction → Type 0) where
+module _ {T U B D : Type 0} (variant : TypeVariant) (terms : Terms T U B D) where
+  -- the terms of a hub whose messages are values, or slices of them
+  abbrev terms_so : Terms T U B D
+  terms_so = asked_terms variant terms
+
   -- the types of the messages: values, or slices of them
   abbrev types : MessageTypeDetails
-  types = asked_types variant payload user_header
+  types = asked_types variant terms.payload terms.user_header
 
   abbrev Stood : NumberedHub T U B D → Type 0
   Stood old = (names : List (List ℕ)) × (most : ℕ) × (state : State T)
-      × Stands payload user_header variant is_default is_default_header fixed degrades decides fixed_reader reader_degrades
-      names most old state
+      × Stands variant terms names most old state
 
   -- who goes by a number may lend, if no send of it waits
   ready_is : (number length : ℕ) (who : PortId) (old : NumberedHub T U B D) → port_under (value_at old.made.publishers number) ≡ Some who
@@ -279,19 +277,18 @@ module _ {T U B D : Type 0} (payload user_header : Detail) (variant : TypeVarian
   ready_is number length who old there free (names, most, state, it) =
       let blocked : Bool = publisher_blocked who.number (hub_ports who.domain old.hub) in
       ap (λ (found : Option PortId). ready hub_ports found old.hub)
-      (lends_here payload user_header variant is_default is_default_header fixed degrades decides fixed_reader reader_degrades
-      number length who old names most state it there)
+      (lends_here variant terms number length who old names most state it there)
       ∙ ap (λ (up : Bool). cond (up && not blocked) (Some who) None) (it.stands.ports.publishers.known number who there).1
       ∙ ap (λ (b : Bool). cond (not b) (Some who) None) free
 
   module _ (K : Type 0) where
     abbrev Lends : (number length : ℕ) → NumberedHub T U B D → Hub T U B D → Result (Lent T U K Written) LoanError → Type 0
     Lends number length old hub answer =
-        Does payload user_header variant is_default is_default_header fixed degrades decides fixed_reader reader_degrades
+        Does variant terms
         (command.Loan number length) old (told_loan answer old.made) (hub_after_call old (having_lent answer old.made) hub)
 
     lent_does : (number length : ℕ) (who : PortId) (value : T) (old : NumberedHub T U B D) (hub : Hub T U B D) (lent : Result ℕ LoanError)
-        → is_default value → ready hub_ports (lender length (value_at old.made.publishers number)) old.hub ≡ Some who
+        → terms.is_default value → ready hub_ports (lender length (value_at old.made.publishers number)) old.hub ≡ Some who
         → LendsFilled hub_ports with_hub_ports who length value old.hub lent hub → Lends number length old hub (written_of who lent)
     lent_does number length who value old hub (Ok slot) default there lends = (
       (
@@ -326,16 +323,14 @@ module _ {T U B D : Type 0} (payload user_header : Detail) (variant : TypeVarian
       refl,
     )
 
-    pub loan_is_step : LoanIsStep K payload user_header types is_default is_default_header fixed degrades decides fixed_reader
-        reader_degrades
+    pub loan_is_step : LoanIsStep K terms_so
     loan_is_step number length who old hub answer there free (value, default, lent, lends, is) =
-        by_step payload user_header variant is_default is_default_header fixed degrades decides fixed_reader reader_degrades
+        by_step variant terms
         (command.Loan number length) old (hub_after_call old (having_lent answer old.made) hub) (told_loan answer old.made)
         (λ names most state it. subst (λ (a : Result (Lent T U K Written) LoanError). Lends number length old hub a) (sym is)
         (lent_does number length who value old hub lent default (ready_is number length who old there free (names, most, state, it)) lends))
 
-    pub loan_of_one_is_step : LoanOfOneIsStep K payload user_header types is_default is_default_header fixed degrades decides
-        fixed_reader reader_degrades
+    pub loan_of_one_is_step : LoanOfOneIsStep K terms_so
     loan_of_one_is_step number who old hub answer there free (value, default, lent, lends, is) =
         loan_is_step number 1 who old hub answer there free (value, default, lent, one_fills who value old.hub hub lent lends, is)
 
@@ -344,25 +339,23 @@ module _ {T U B D : Type 0} (payload user_header : Detail) (variant : TypeVarian
     puts_does : (number : ℕ) (who : PortId) (values : List T) (old : NumberedHub T U B D) (hub : Hub T U B D)
         (answer : Result (Sent T U) SendError)
         → ready hub_ports (lender (length values) (value_at old.made.publishers number)) old.hub ≡ Some who
-        → SendsSlice hub_ports with_hub_ports (publisher_may_degrade degrades) (publisher_may_decide decides) who values old.hub answer hub
-        → Does payload user_header variant is_default is_default_header fixed degrades decides fixed_reader reader_degrades
-        (command.Put number values) old (told_sent answer) (hub_after_call old old.made hub)
+        → SendsSlice hub_ports with_hub_ports (publisher_may_degrade terms.degrades) (publisher_may_decide terms.decides) who values old.hub
+        answer hub
+        → Does variant terms (command.Put number values) old (told_sent answer) (hub_after_call old old.made hub)
     puts_does number who values old hub answer there puts =
-        let (outcome, sends, is) = sends_values degrades decides who values old.hub hub answer puts in (
+        let (outcome, sends, is) = sends_values terms.degrades terms.decides who values old.hub hub answer puts in (
           (
             Some outcome,
-            subst (λ (found : Option PortId). AtPort (Puts hub_ports with_hub_ports (publisher_may_degrade degrades)
-                (publisher_may_decide decides) values) found old.hub (Some outcome) hub) (sym there) (outcome, sends, refl),
+            subst (λ (found : Option PortId). AtPort (Puts hub_ports with_hub_ports (publisher_may_degrade terms.degrades)
+                (publisher_may_decide terms.decides) values) found old.hub (Some outcome) hub) (sym there) (outcome, sends, refl),
             ap told_sent is ∙ sent_alike T U who outcome,
           ),
           refl,
         )
 
-    pub send_slice_is_step : SendSliceIsStep K payload user_header types is_default is_default_header fixed degrades decides
-        fixed_reader reader_degrades
+    pub send_slice_is_step : SendSliceIsStep K terms_so
     send_slice_is_step number who values old hub answer there free puts =
-        by_step payload user_header variant is_default is_default_header fixed degrades decides fixed_reader reader_degrades
-        (command.Put number values) old (hub_after_call old old.made hub) (told_sent answer)
+        by_step variant terms (command.Put number values) old (hub_after_call old old.made hub) (told_sent answer)
         (λ names most state it. puts_does number who values old hub answer
         (ready_is number (length values) who old there free (names, most, state, it)) puts)
 
@@ -374,10 +367,10 @@ module _ {T U B D : Type 0} (payload user_header : Detail) (variant : TypeVarian
     lent_once number slot who old made middle there (names, most, state, it) lends are =
         let stands = it.stands.ports in
         let id = who.domain in
-        let goes = goes_by_number (as_named is_default) degrades decides reader_degrades it.naming it.order old state stands number who
-        there in
-        let (service, its) = some_service (as_named is_default) degrades decides reader_degrades it.naming it.order old state stands id
-        goes.ports goes.found in
+        let goes = goes_by_number (as_named terms.is_default) terms.degrades terms.decides terms.reader_degrades it.naming it.order old
+        state stands number who there in
+        let (service, its) = some_service (as_named terms.is_default) terms.degrades terms.decides terms.reader_degrades it.naming it.order
+        old state stands id goes.ports goes.found in
         let names_of = it.naming id.service in
         let lent = those_of id.service (lent_in old.made) in
         let held = those_of id.service (held_in old.made) in
@@ -392,7 +385,7 @@ module _ {T U B D : Type 0} (payload user_header : Detail) (variant : TypeVarian
         let (after, loans, is) = subst (λ (ports : Option (ServicePorts T U)). AtDomain (λ (one : ServicePorts T U). with_hub_ports id one
         old.hub) (LoansBy who.number 1 1) ports old.hub (Some (Ok slot)) middle) goes.found lends in
         let (name, (service_then, does, then))
-        = lend_uninit_matches T U (as_named is_default) types buffer names_of lent held goes.ports after service
+        = lend_uninit_matches T U (as_named terms.is_default) types buffer names_of lent held goes.ports after service
         state who.number 1 (Some (Ok slot)) its (roomy_there id goes.ports old.hub it.ran.grown goes.found).sound goes.some none loans in
         let same : after ≡ made =
         same_some after made (sym (ap (hub_ports id) is ∙ put_there id after old.hub (ap is_some goes.found)) ∙ are) in
@@ -403,13 +396,14 @@ module _ {T U B D : Type 0} (payload user_header : Detail) (variant : TypeVarian
     -- one value that is sent at once is a slice of one
     copy_is_slice : (number : ℕ) (who : PortId) (value : T) (old : NumberedHub T U B D) (hub : Hub T U B D)
         (answer : Result (Sent T U) SendError) → port_under (value_at old.made.publishers number) ≡ Some who → Stood old
-        → SendsCopy hub_ports with_hub_ports (publisher_may_degrade degrades) (publisher_may_decide decides) who value old.hub answer hub
-        → SendsSlice hub_ports with_hub_ports (publisher_may_degrade degrades) (publisher_may_decide decides) who (value ∷ []) old.hub
+        → SendsCopy hub_ports with_hub_ports (publisher_may_degrade terms.degrades) (publisher_may_decide terms.decides) who value old.hub
         answer hub
+        → SendsSlice hub_ports with_hub_ports (publisher_may_degrade terms.degrades) (publisher_may_decide terms.decides) who (value ∷ [])
+        old.hub answer hub
     copy_is_slice number who value old hub answer there stood (lent, between, (Err why, middle, lends, (is, same)), then) =
         let (refused, still) = subst (λ (it : Result ℕ LoanError). AfterLoan (λ error. Err (refusal.LoanError error))
-        (SendsSample hub_ports with_hub_ports (publisher_may_degrade degrades) (publisher_may_decide decides) who) it between answer hub) is
-        then in
+        (SendsSample hub_ports with_hub_ports (publisher_may_degrade terms.degrades) (publisher_may_decide terms.decides) who) it between
+        answer hub) is then in
         (Err why, middle, lends, (refused, still ∙ same))
     copy_is_slice number who value old hub answer there stood (lent, between, (Ok slot, middle, lends, (writes, is)), then) =
         let its = lent_there (hub_ports who.domain) (λ ports home. with_hub_ports who.domain ports home)
@@ -431,34 +425,29 @@ module _ {T U B D : Type 0} (payload user_header : Detail) (variant : TypeVarian
             between,
             whole,
             subst (λ (it : Result ℕ LoanError). AfterLoan (λ error. Err (refusal.LoanError error))
-                (SendsSample hub_ports with_hub_ports (publisher_may_degrade degrades) (publisher_may_decide decides) who) it between answer
-                hub) is then,
+                (SendsSample hub_ports with_hub_ports (publisher_may_degrade terms.degrades) (publisher_may_decide terms.decides) who) it
+                between answer hub) is then,
           ),
         )
 
-    pub send_copy_is_step : SendCopyIsStep K payload user_header types is_default is_default_header fixed degrades decides fixed_reader
-        reader_degrades
+    pub send_copy_is_step : SendCopyIsStep K terms_so
     send_copy_is_step number who value old hub answer there free sends =
-        by_step payload user_header variant is_default is_default_header fixed degrades decides fixed_reader reader_degrades
-        (command.Put number (value ∷ [])) old (hub_after_call old old.made hub) (told_sent answer)
+        by_step variant terms (command.Put number (value ∷ [])) old (hub_after_call old old.made hub) (told_sent answer)
         (λ names most state it. puts_does number who (value ∷ []) old hub answer
         (ready_is number 1 who old there free (names, most, state, it))
         (copy_is_slice number who value old hub answer there (names, most, state, it) sends))
 
     -- ---- one value is written
 
-    pub write_one_is_step : WriteOneIsStep K payload user_header types is_default is_default_header fixed degrades decides fixed_reader
-        reader_degrades
+    pub write_one_is_step : WriteOneIsStep K terms_so
     write_one_is_step number made value old hub there writes =
-        by_step payload user_header variant is_default is_default_header fixed degrades decides fixed_reader reader_degrades
-        (command.Fill number (value ∷ [])) old (hub_after_call old old.made hub)
-        _
-        (λ names most state it.
+        by_step variant terms (command.Fill number (value ∷ [])) old (hub_after_call old old.made hub) _ (λ names most state it.
         let stands = it.stands.ports in
         let id = made.port.domain in
-        let goes = loan_goes (as_named is_default) degrades decides reader_degrades it.naming it.order old state stands number made there in
-        let (service, its) = some_service (as_named is_default) degrades decides reader_degrades it.naming it.order old state stands id
-        goes.ports goes.found in
+        let goes = loan_goes (as_named terms.is_default) terms.degrades terms.decides terms.reader_degrades it.naming it.order old state
+        stands number made there in
+        let (service, its) = some_service (as_named terms.is_default) terms.degrades terms.decides terms.reader_degrades it.naming it.order
+        old state stands id goes.ports goes.found in
         let out : LentSlot = (lent_slot made).1 in
         let alone = is_there (it.naming id.service) (those_of id.service (lent_in old.made)) (those_of id.service (held_in old.made))
         old.hub.expired_connection_buffer goes.ports service number out its goes.mine in
@@ -481,17 +470,15 @@ module _ {T U B D : Type 0} (payload user_header : Detail) (variant : TypeVarian
 
     -- ---- values are written one after the other
 
-    pub write_each_is_step : WriteEachIsStep K payload user_header types is_default is_default_header fixed degrades decides fixed_reader
-        reader_degrades
+    pub write_each_is_step : WriteEachIsStep K terms_so
     write_each_is_step number made loan values old hub there out count (writes, whole) =
-        by_step payload user_header variant is_default is_default_header fixed degrades decides fixed_reader reader_degrades
-        (command.Fill number values) old (hub_after_call old old.made hub) _
-        (λ names most state it.
+        by_step variant terms (command.Fill number values) old (hub_after_call old old.made hub) _ (λ names most state it.
         let stands = it.stands.ports in
         let id = made.port.domain in
-        let goes = loan_goes (as_named is_default) degrades decides reader_degrades it.naming it.order old state stands number made there in
-        let (service, its) = some_service (as_named is_default) degrades decides reader_degrades it.naming it.order old state stands id
-        goes.ports goes.found in
+        let goes = loan_goes (as_named terms.is_default) terms.degrades terms.decides terms.reader_degrades it.naming it.order old state
+        stands number made there in
+        let (service, its) = some_service (as_named terms.is_default) terms.degrades terms.decides terms.reader_degrades it.naming it.order
+        old state stands id goes.ports goes.found in
         let slot_of : LentSlot = (lent_slot made).1 in
         let names_of = it.naming id.service in
         let lent = those_of id.service (lent_in old.made) in
@@ -520,17 +507,15 @@ module _ {T U B D : Type 0} (payload user_header : Detail) (variant : TypeVarian
 
     -- ---- one value changes
 
-    pub change_is_step : ChangeIsStep K payload user_header types is_default is_default_header fixed degrades decides fixed_reader
-        reader_degrades
+    pub change_is_step : ChangeIsStep K terms_so
     change_is_step number place made value old hub there is_there_to_set changes =
-        by_step payload user_header variant is_default is_default_header fixed degrades decides fixed_reader reader_degrades
-        (command.Set number place value) old (hub_after_call old old.made hub) _
-        (λ names most state it.
+        by_step variant terms (command.Set number place value) old (hub_after_call old old.made hub) _ (λ names most state it.
         let stands = it.stands.ports in
         let id = made.port.domain in
-        let goes = loan_goes (as_named is_default) degrades decides reader_degrades it.naming it.order old state stands number made there in
-        let (service, its) = some_service (as_named is_default) degrades decides reader_degrades it.naming it.order old state stands id
-        goes.ports goes.found in
+        let goes = loan_goes (as_named terms.is_default) terms.degrades terms.decides terms.reader_degrades it.naming it.order old state
+        stands number made there in
+        let (service, its) = some_service (as_named terms.is_default) terms.degrades terms.decides terms.reader_degrades it.naming it.order
+        old state stands id goes.ports goes.found in
         let out : LentSlot = (lent_slot made).1 in
         let names_of = it.naming id.service in
         let lent = those_of id.service (lent_in old.made) in

@@ -4,13 +4,6 @@ use Rattle.std.proofs.Common.{◌≡◌, ℕ, ◌+◌, Bool, true, List, [], len
 use Rattle.std.proofs.Common.{◌∙◌, inl, inr, arith}
 use Rattle.std.specs.List.{AllByRecursion}
 use Rattle.std.specs.Result.{result_map_both}
-use Rattle.iox_command.specs.DomainValues.declared.backpressure.BackpressureAction.{BackpressureAction}
-use Rattle.iox_command.specs.DomainValues.declared.backpressure.BackpressureDecision.{BackpressureDecision}
-use Rattle.iox_command.specs.DomainValues.declared.backpressure.BackpressureInfo.{BackpressureInfo}
-use Rattle.iox_command.specs.DomainValues.declared.backpressure_strategy.BackpressureStrategy.{BackpressureStrategy}
-use Rattle.iox_command.specs.DomainValues.declared.degradation.DegradationAction.{DegradationAction}
-use Rattle.iox_command.specs.DomainValues.declared.degradation.DegradationCause.{DegradationCause}
-use Rattle.iox_command.specs.DomainValues.declared.degradation.DegradationInfo.{DegradationInfo}
 use Rattle.iox_command.specs.NegotiateBase.DescribeBase.Detail.{Detail}
 use Rattle.iox_command.specs.NegotiateBase.DescribeBase.declared.message_type.MessageTypeDetails.{MessageTypeDetails}
 use Rattle.iox_command.specs.NegotiateBase.DescribeBase.declared.type_detail.TypeVariant.{TypeVariant}
@@ -46,17 +39,19 @@ use Rattle.iox_hub_commands.specs.Replies.{factory_reply, foreign_reply}
 use Rattle.iox_hub_commands.specs.ServicesNumbering.{GetsNumber, Numbers, Prepares}
 use Rattle.iox_hub_commands.specs.ServicesTables.{FactoryTable}
 use Rattle.iox_hub_commands.specs.Steps.{PublishesInForm, lists_of}
+use Rattle.iox_hub_commands.specs.Terms.{Terms}
 use Rattle.iox_hub_commands.specs.declared.numbered_hub.NumberedHub.{NumberedHub}
 use Rattle.iox_hub_commands.specs.declared.services.asked.ServiceAsked.{ServiceAsked}
 use Rattle.iox_hub_machine.proofs.Created.{creation_followed}
 use Rattle.iox_hub_machine.proofs.CreatedBeside.{beside}
 use Rattle.iox_hub_machine.proofs.FoundStanding.{look_finds}
 use Rattle.iox_hub_machine.proofs.Running.{came_more}
-use Rattle.iox_hub_machine.proofs.TypedSteps.{by_step, typed_terms}
+use Rattle.iox_hub_machine.proofs.TypedSteps.{by_step}
 use Rattle.iox_hub_machine.specs.ClosingLaws.{IsCome}
 use Rattle.iox_hub_machine.specs.Ran.{RanAtMost}
 use Rattle.iox_hub_machine.specs.TypedOpening.{CreateIsStep, ForeignIsStep, OpenIsStep, OpenOrCreateIsStep, opened_then}
 use Rattle.iox_hub_machine.specs.TypedSteps.{IsStepBy, hub_after_call}
+use Rattle.iox_hub_machine.specs.TypedTerms.{asked_terms}
 use Rattle.iox_machine.specs.Asked.{settings_of}
 use Rattle.iox_machine.specs.Choices.{as_named}
 use Rattle.iox_negotiate.specs.Factory.{membership}
@@ -145,14 +140,14 @@ module _ {T U B D E : Type 0} (payload user_header : Detail) (kind : MessagingPa
         still ∙ ap (λ (it : Contents). record old { table = it }) same,
       )
 
-module _ {T U B D : Type 0} (payload user_header : Detail) (variant : TypeVariant) (is_default : T → Type 0)
-    (is_default_header : U → Type 0) (fixed : BackpressureStrategy → Option BackpressureAction → DegradationAction → B)
-    (degrades : B → DegradationCause → DegradationInfo → DegradationAction → Type 0)
-    (decides : B → BackpressureInfo → BackpressureDecision → Type 0) (fixed_reader : DegradationAction → D)
-    (reader_degrades : D → DegradationCause → DegradationInfo → DegradationAction → Type 0) where
+module _ {T U B D : Type 0} (variant : TypeVariant) (terms : Terms T U B D) where
+  -- the terms of a hub whose messages are values, or slices of them
+  abbrev terms_so : Terms T U B D
+  terms_so = asked_terms variant terms
+
   -- the types of the messages: values, or slices of them
   abbrev types : MessageTypeDetails
-  types = asked_types variant payload user_header
+  types = asked_types variant terms.payload terms.user_header
 
   module _ (node : ℕ) (name : List ℕ) (steps : List StepBefore) (old : NumberedHub T U B D) (hub : Hub T U B D)
       (answer : Result ℕ Refusal) (table : FactoryTable)
@@ -163,7 +158,7 @@ module _ {T U B D : Type 0} (payload user_header : Detail) (variant : TypeVarian
     asked_by named = record { node = node; name = name; options = named }
 
     abbrev Unless : ServiceOptions → List Attribute → Option CreateFailure → Type 0
-    Unless named attributes refused = CreatesUnlessRefused refused payload user_header types (asked_by named) attributes steps
+    Unless named attributes refused = CreatesUnlessRefused refused terms.payload terms.user_header types (asked_by named) attributes steps
         old.factories.made old.hub (Some answer) table hub
 
     -- a first look finds that the service stands
@@ -177,14 +172,15 @@ module _ {T U B D : Type 0} (payload user_header : Detail) (variant : TypeVarian
         × Unless named attributes refused × (refused ≡ None → Stands named → (table ≡ old.factories.made) × (hub ≡ old.hub))
 
     module _ (named : ServiceOptions) (attributes : List Attribute)
-        (creates : CreatesAs named payload user_header types node name attributes (lists_of name types steps) old.factories.made old.hub
+        (creates : CreatesAs named terms.payload terms.user_header types node name attributes (lists_of name types steps) old.factories.made
+        old.hub
         answer table hub) {E : Type 0} (kind : MessagingPattern) (told : E → Refusal) (error : CreateFailure → E)
         (tells : (failure : CreateFailure) → told (error failure) ≡ create_refused named failure)
-        (gets : Gets payload user_header kind told error (hash_of name named) node (agreed_of name named types attributes)
+        (gets : Gets terms.payload terms.user_header kind told error (hash_of name named) node (agreed_of name named types attributes)
         (lists_of name types steps) old.factories.made table old.hub hub answer) where
       abbrev why_refused : Option CreateFailure
-      why_refused = refusal_of payload user_header kind told error (hash_of name named) node (agreed_of name named types attributes)
-          (lists_of name types steps) old.factories.made table old.hub hub answer gets.0 gets.1
+      why_refused = refusal_of terms.payload terms.user_header kind told error (hash_of name named) node
+          (agreed_of name named types attributes) (lists_of name types steps) old.factories.made table old.hub hub answer gets.0 gets.1
 
       unless_by : (refused : Option CreateFailure) → why_refused ≡ refused → Unless named attributes refused
       unless_by None is = (
@@ -196,7 +192,7 @@ module _ {T U B D : Type 0} (payload user_header : Detail) (variant : TypeVarian
         refl,
       )
       unless_by (Some failure) is =
-          let (refused, kept, still) = refused_so payload user_header kind told error (hash_of name named) node
+          let (refused, kept, still) = refused_so terms.payload terms.user_header kind told error (hash_of name named) node
           (agreed_of name named types attributes) (lists_of name types steps) old.factories.made table old.hub hub answer failure gets.0
           gets.1 gets.2 is in
           (ap (λ (it : Result ℕ Refusal). Some it) (refused ∙ ap (λ (why : Refusal). Err why) (tells failure)), kept, still)
@@ -204,19 +200,19 @@ module _ {T U B D : Type 0} (payload user_header : Detail) (variant : TypeVarian
       numbered_by : Known named attributes
       numbered_by = (
         why_refused,
-        is_refusal payload user_header kind told error (hash_of name named) node (agreed_of name named types attributes)
+        is_refusal terms.payload terms.user_header kind told error (hash_of name named) node (agreed_of name named types attributes)
             (lists_of name types steps) old.factories.made table old.hub hub answer gets.0 gets.1,
         unless_by why_refused refl,
         λ none finds.
             let it = look_finds (asked_by named) steps old.hub lying.Described finds in
-            kept_so payload user_header kind told error (hash_of name named) node (agreed_of name named types attributes)
+            kept_so terms.payload terms.user_header kind told error (hash_of name named) node (agreed_of name named types attributes)
             (lists_of name types steps) old.factories.made table old.hub hub answer gets.0 gets.1 gets.2 none
             (none_next name types steps it.0) it.1,
       )
 
     creates_by : (named : ServiceOptions) (attributes : List Attribute)
-        → CreatesAs named payload user_header types node name attributes (lists_of name types steps) old.factories.made old.hub answer table
-        hub
+        → CreatesAs named terms.payload terms.user_header types node name attributes (lists_of name types steps) old.factories.made old.hub
+        answer table hub
         → Known named attributes
     creates_by (options.PublishSubscribe one) attributes creates =
         numbered_by (options.PublishSubscribe one) attributes creates pattern.PublishSubscribe refusal.PublishSubscribeCreate
@@ -229,7 +225,7 @@ module _ {T U B D : Type 0} (payload user_header : Detail) (variant : TypeVarian
 
     module _ (named : ServiceOptions) (attributes : List Attribute) (there : is_node node old.hub.nodes ≡ true) where
       abbrev IsStep : Type 0
-      IsStep = IsStepBy payload user_header types is_default is_default_header fixed degrades decides fixed_reader reader_degrades
+      IsStep = IsStepBy terms_so
           (command.Create node name named attributes steps) old (factory_reply (Some answer)) (opened_then old table hub)
 
       -- it is a step where it does what the command does
@@ -237,28 +233,26 @@ module _ {T U B D : Type 0} (payload user_header : Detail) (variant : TypeVarian
           → IsRefusedFirst (settings_of types named) (first_look (asked_by named) steps old.hub) refused → Unless named attributes refused
           → IsStep
       as_commanded refused first unless =
-          by_step payload user_header variant is_default is_default_header fixed degrades decides fixed_reader reader_degrades
+          by_step variant terms
           (command.Create node name named attributes steps) old (opened_then old table hub) (factory_reply (Some answer))
           (λ names most state it. (
             Some answer,
-            subst (λ (b : Bool). CreatesNumbered b payload user_header types (asked_by named) attributes steps old.factories.made old.hub
-                (Some answer) table hub) (sym there) (refused, first, unless),
+            subst (λ (b : Bool). CreatesNumbered b terms.payload terms.user_header types (asked_by named) attributes steps
+                old.factories.made old.hub (Some answer) table hub) (sym there) (refused, first, unless),
             refl,
             refl,
           ))
 
       -- Beside a service that stands the call may want memory, where the command doesn't ask for any. So may the machine.
       as_standing : IsUncreated (settings_of types named) None
-          → CreatesAs named payload user_header types node name attributes (lists_of name types steps) old.factories.made old.hub answer
-          table hub
+          → CreatesAs named terms.payload terms.user_header types node name attributes (lists_of name types steps) old.factories.made
+          old.hub answer table hub
           → table ≡ old.factories.made → hub ≡ old.hub → IsStep
       as_standing fits creates same still names most state decides_so answers_so own asks few it =
           let numbers = it.ran.numbers in
           let locks = it.ran.locks in
-          let followed = creation_followed variant (typed_terms payload user_header variant is_default is_default_header fixed degrades
-          decides fixed_reader reader_degrades) (as_named is_default) names node name named attributes steps asks it.taken it.naming
-          it.order old
-          (opened_then old table hub) state own (record {
+          let followed = creation_followed variant terms (as_named terms.is_default) names node name named attributes steps asks
+          it.taken it.naming it.order old (opened_then old table hub) state own (record {
             rise = it.ran.rise.0;
             factories = omega (arith, few, numbers);
             locks = omega (arith, few, locks);
@@ -274,8 +268,8 @@ module _ {T U B D : Type 0} (payload user_header : Detail) (variant : TypeVarian
                 naming = followed.naming;
                 order = followed.order;
                 stands = followed.stands;
-                came = subst (λ (n : ℕ). IsCome types (as_named is_default) n followed.after) (sym buffer)
-                    (came_more types (as_named is_default) old.hub.expired_connection_buffer
+                came = subst (λ (n : ℕ). IsCome types (as_named terms.is_default) n followed.after) (sym buffer)
+                    (came_more types (as_named terms.is_default) old.hub.expired_connection_buffer
                     (command.Create node name named attributes steps) state followed.after (factory_reply (Some answer)) it.came
                     followed.step);
                 ran = subst (λ (h : NumberedHub T U B D). RanAtMost (most + (1 + length steps)) h)
@@ -287,8 +281,8 @@ module _ {T U B D : Type 0} (payload user_header : Detail) (variant : TypeVarian
           )
 
       step_so : (refused : Option CreateFailure) → IsUncreated (settings_of types named) refused → Unless named attributes refused
-          → CreatesAs named payload user_header types node name attributes (lists_of name types steps) old.factories.made old.hub answer
-          table hub
+          → CreatesAs named terms.payload terms.user_header types node name attributes (lists_of name types steps) old.factories.made
+          old.hub answer table hub
           → (refused ≡ None → Stands named → (table ≡ old.factories.made) × (hub ≡ old.hub)) → (found : Option HashState)
           → first_look (asked_by named) steps old.hub ≡ found → IsStep
       step_so (Some failure) is unless creates keeps found finds = as_commanded (Some failure) (inl is) unless
@@ -307,21 +301,19 @@ module _ {T U B D : Type 0} (payload user_header : Detail) (variant : TypeVarian
       step_so None is unless creates keeps (Some lying.Described) finds =
           let (same, still) = keeps refl finds in as_standing is creates same still
 
-  pub create_is_step : CreateIsStep payload user_header types is_default is_default_header fixed degrades decides fixed_reader
-      reader_degrades
+  pub create_is_step : CreateIsStep terms_so
   create_is_step node name named attributes steps old hub answer table there formed creates =
       let (refused, is_refused, unless, keeps) = creates_by node name steps old hub answer table formed named attributes creates in
       step_so node name steps old hub answer table formed named attributes there refused is_refused unless creates keeps
       (first_look (record { node = node; name = name; options = named }) steps old.hub) refl
 
-  pub open_is_step : OpenIsStep payload user_header types is_default is_default_header fixed degrades decides fixed_reader reader_degrades
+  pub open_is_step : OpenIsStep terms_so
   open_is_step node name named required steps old hub answer table there formed opens =
-      by_step payload user_header variant is_default is_default_header fixed degrades decides fixed_reader reader_degrades
-      (command.Open node name named required steps) old (opened_then old table hub) (factory_reply (Some answer))
+      by_step variant terms (command.Open node name named required steps) old (opened_then old table hub) (factory_reply (Some answer))
       (λ names most state it. (
         Some answer,
-        subst (λ (b : Bool). OpensNumbered b payload user_header types (record { node = node; name = name; options = named }) required
-            steps old.factories.made old.hub (Some answer) table hub) (sym there) (
+        subst (λ (b : Bool). OpensNumbered b terms.payload terms.user_header types (record { node = node; name = name; options = named })
+            required steps old.factories.made old.hub (Some answer) table hub) (sym there) (
               Ok (lists_of name types steps),
               old.factories.made,
               answer,
@@ -333,15 +325,14 @@ module _ {T U B D : Type 0} (payload user_header : Detail) (variant : TypeVarian
         refl,
       ))
 
-  pub open_or_create_is_step : OpenOrCreateIsStep payload user_header types is_default is_default_header fixed degrades decides
-      fixed_reader reader_degrades
+  pub open_or_create_is_step : OpenOrCreateIsStep terms_so
   open_or_create_is_step node name named required steps old hub answer table there formed does =
-      by_step payload user_header variant is_default is_default_header fixed degrades decides fixed_reader reader_degrades
+      by_step variant terms
       (command.OpenOrCreate node name named required steps) old (opened_then old table hub) (factory_reply (Some answer))
       (λ names most state it. (
         Some answer,
-        subst (λ (b : Bool). EitherNumbered b payload user_header types (record { node = node; name = name; options = named }) required
-            steps old.factories.made old.hub (Some answer) table hub) (sym there) (
+        subst (λ (b : Bool). EitherNumbered b terms.payload terms.user_header types (record { node = node; name = name; options = named })
+            required steps old.factories.made old.hub (Some answer) table hub) (sym there) (
               Ok (lists_of name types steps),
               old.factories.made,
               answer,
@@ -353,9 +344,7 @@ module _ {T U B D : Type 0} (payload user_header : Detail) (variant : TypeVarian
         refl,
       ))
 
-  pub foreign_is_step : ForeignIsStep payload user_header types is_default is_default_header fixed degrades decides fixed_reader
-      reader_degrades
+  pub foreign_is_step : ForeignIsStep terms_so
   foreign_is_step kind name steps old hub answer formed acts =
-      by_step payload user_header variant is_default is_default_header fixed degrades decides fixed_reader reader_degrades
-      (command.Foreign kind name steps) old (hub_after_call old old.made hub) (foreign_reply answer)
+      by_step variant terms (command.Foreign kind name steps) old (hub_after_call old old.made hub) (foreign_reply answer)
       (λ names most state it. (answer, inl (acts, formed), refl, refl))

@@ -2,14 +2,6 @@
 use Rattle.std.proofs.Common.{◌≡◌, ℕ, true, List, Option, Some, Result, Ok, Err, refl, sym, ap, subst, ◌∙◌}
 use Rattle.std.specs.Prelude.{is_some}
 use Rattle.iox_domain.specs.Lending.{gave_up_in}
-use Rattle.iox_command.specs.DomainValues.declared.backpressure.BackpressureAction.{BackpressureAction}
-use Rattle.iox_command.specs.DomainValues.declared.backpressure.BackpressureDecision.{BackpressureDecision}
-use Rattle.iox_command.specs.DomainValues.declared.backpressure.BackpressureInfo.{BackpressureInfo}
-use Rattle.iox_command.specs.DomainValues.declared.backpressure_strategy.BackpressureStrategy.{BackpressureStrategy}
-use Rattle.iox_command.specs.DomainValues.declared.degradation.DegradationAction.{DegradationAction}
-use Rattle.iox_command.specs.DomainValues.declared.degradation.DegradationCause.{DegradationCause}
-use Rattle.iox_command.specs.DomainValues.declared.degradation.DegradationInfo.{DegradationInfo}
-use Rattle.iox_command.specs.NegotiateBase.DescribeBase.Detail.{Detail}
 use Rattle.iox_command.specs.NegotiateBase.DescribeBase.declared.message_type.MessageTypeDetails.{MessageTypeDetails}
 use Rattle.iox_command.specs.NegotiateBase.DescribeBase.declared.type_detail.TypeVariant.{TypeVariant}
 use Rattle.iox_command.specs.DomainValues.declared.port_error.LoanError.{LoanError}
@@ -32,6 +24,7 @@ use Rattle.iox_hub_commands.specs.Loans.{SendsUnder, changed_under, filled_in, i
 use Rattle.iox_hub_commands.specs.Numbering.{LendsNumbered}
 use Rattle.iox_hub_commands.specs.Replies.{sent_reply}
 use Rattle.iox_hub_commands.specs.Tables.{lender, port_under, without_loan}
+use Rattle.iox_hub_commands.specs.Terms.{Terms}
 use Rattle.iox_hub_commands.specs.declared.numbered_hub.NumberedHub.{NumberedHub}
 use Rattle.iox_hub_commands.specs.declared.ports.made.MadeLoan.{MadeLoan}
 use Rattle.iox_hub_machine.proofs.Dropped.{is_out}
@@ -41,6 +34,7 @@ use Rattle.iox_hub_machine.proofs.TypedSteps.{Does, Stands, as_roomy, by_step}
 use Rattle.iox_hub_machine.specs.TypedPublishing.{DropIsStep, GiveUpIsStep, LoanUninitIsStep, PublisherLeaveIsStep, PublisherUpdateIsStep}
 use Rattle.iox_hub_machine.specs.TypedPublishing.{RetryIsStep, SendIsStep, WriteIsStep}
 use Rattle.iox_hub_machine.specs.TypedSteps.{having_lent, hub_after_call, told_loan, told_sent}
+use Rattle.iox_hub_machine.specs.TypedTerms.{asked_terms}
 use Rattle.iox_machine.specs.State.{State}
 use Rattle.iox_machine.specs.Choices.{as_named}
 
@@ -51,19 +45,18 @@ sent_alike T U sender (Ok (sending.Delivered count)) = refl
 sent_alike T U sender (Ok sending.Blocked) = refl
 sent_alike T U sender (Err why) = refl
 
-module _ {T U B D : Type 0} (payload user_header : Detail) (variant : TypeVariant) (is_default : T → Type 0)
-    (is_default_header : U → Type 0) (fixed : BackpressureStrategy → Option BackpressureAction → DegradationAction → B)
-    (degrades : B → DegradationCause → DegradationInfo → DegradationAction → Type 0)
-    (decides : B → BackpressureInfo → BackpressureDecision → Type 0) (fixed_reader : DegradationAction → D)
-    (reader_degrades : D → DegradationCause → DegradationInfo → DegradationAction → Type 0) where
+module _ {T U B D : Type 0} (variant : TypeVariant) (terms : Terms T U B D) where
+  -- the terms of a hub whose messages are values, or slices of them
+  abbrev terms_so : Terms T U B D
+  terms_so = asked_terms variant terms
+
   -- the types of the messages: values, or slices of them
   abbrev types : MessageTypeDetails
-  types = asked_types variant payload user_header
+  types = asked_types variant terms.payload terms.user_header
 
   -- whoever goes by a number may lend slices
   pub lends_here : (number length : ℕ) (who : PortId) (old : NumberedHub T U B D) (names : List (List ℕ)) (most : ℕ) (state : State T)
-      → Stands payload user_header variant is_default is_default_header fixed degrades decides fixed_reader reader_degrades
-      names most old state
+      → Stands variant terms names most old state
       → port_under (value_at old.made.publishers number) ≡ Some who
       → lender length (value_at old.made.publishers number) ≡ Some who
   lends_here number length who old names most state it there =
@@ -72,7 +65,7 @@ module _ {T U B D : Type 0} (payload user_header : Detail) (variant : TypeVarian
   module _ (K : Type 0) where
     abbrev Asked : (number length : ℕ) → NumberedHub T U B D → Hub T U B D → Result (Lent T U K Uninit) LoanError → Type 0
     Asked number length old hub answer =
-        Does payload user_header variant is_default is_default_header fixed degrades decides fixed_reader reader_degrades
+        Does variant terms
         (command.LoanUninit number length) old (told_loan answer old.made) (hub_after_call old (having_lent answer old.made) hub)
 
     uninit_does : (number length : ℕ) (who : PortId) (old : NumberedHub T U B D) (hub : Hub T U B D) (lent : Result ℕ LoanError)
@@ -106,20 +99,16 @@ module _ {T U B D : Type 0} (payload user_header : Detail) (variant : TypeVarian
       refl,
     )
 
-    pub loan_uninit_is_step : LoanUninitIsStep K payload user_header types is_default is_default_header fixed degrades decides
-        fixed_reader reader_degrades
+    pub loan_uninit_is_step : LoanUninitIsStep K terms_so
     loan_uninit_is_step number length who old hub answer there (lent, lends, is) =
-        by_step payload user_header variant is_default is_default_header fixed degrades decides fixed_reader reader_degrades
+        by_step variant terms
         (command.LoanUninit number length) old (hub_after_call old (having_lent answer old.made) hub) (told_loan answer old.made)
         (λ names most state it. subst (λ (a : Result (Lent T U K Uninit) LoanError). Asked number length old hub a) (sym is)
         (uninit_does number length who old hub lent (lends_here number length who old names most state it there) lends))
 
-    pub write_is_step : WriteIsStep K payload user_header types is_default is_default_header fixed degrades decides fixed_reader
-        reader_degrades
+    pub write_is_step : WriteIsStep K terms_so
     write_is_step number made values old hub there writes =
-        by_step payload user_header variant is_default is_default_header fixed degrades decides fixed_reader reader_degrades
-        (command.Fill number values) old (hub_after_call old old.made hub) _
-        (λ names most state it. (
+        by_step variant terms (command.Fill number values) old (hub_after_call old old.made hub) _ (λ names most state it. (
           (
             is_filled hub_ports values (Some made) old.hub,
             ap (λ (found : Option MadeLoan). is_filled hub_ports values found old.hub) (sym there),
@@ -129,17 +118,14 @@ module _ {T U B D : Type 0} (payload user_header : Detail) (variant : TypeVarian
           refl,
         ))
 
-    pub drop_is_step : DropIsStep K payload user_header types is_default is_default_header fixed degrades decides fixed_reader
-        reader_degrades
+    pub drop_is_step : DropIsStep K terms_so
     drop_is_step number made old hub there gives =
-        by_step payload user_header variant is_default is_default_header fixed degrades decides fixed_reader reader_degrades
-        (command.Drop number) old (hub_after_call old (without_loan number old.made) hub) _
-        (λ names most state it.
+        by_step variant terms (command.Drop number) old (hub_after_call old (without_loan number old.made) hub) _ (λ names most state it.
         let ports = it.stands.ports in
-        let goes = loan_goes (as_named is_default) degrades decides reader_degrades it.naming it.order old state ports number made there in
-        let out = is_out (as_named is_default) is_default_header degrades decides reader_degrades types it.naming it.order old old state
-        ports number
-        it.ran.grown made there goes.ports goes.found goes.mine in (
+        let goes = loan_goes (as_named terms.is_default) terms.degrades terms.decides terms.reader_degrades it.naming it.order old state
+        ports number made there in
+        let out = is_out (as_named terms.is_default) terms.is_default_header terms.degrades terms.decides terms.reader_degrades types
+        it.naming it.order old old state ports number it.ran.grown made there goes.ports goes.found goes.mine in (
           (
             true,
             sym (ap (λ (found : Option MadeLoan). is_some (loan_under hub_ports found old.hub)) there ∙ out),
@@ -150,43 +136,34 @@ module _ {T U B D : Type 0} (payload user_header : Detail) (variant : TypeVarian
           refl,
         ))
 
-    pub send_is_step : SendIsStep K payload user_header types is_default is_default_header fixed degrades decides fixed_reader
-        reader_degrades
+    pub send_is_step : SendIsStep K terms_so
     send_is_step number made old hub answer there (outcome, sends, is) =
-        by_step payload user_header variant is_default is_default_header fixed degrades decides fixed_reader reader_degrades
-        (command.Send number) old (hub_after_call old (without_loan number old.made) hub) _
-        (λ names most state it. (
+        by_step variant terms (command.Send number) old (hub_after_call old (without_loan number old.made) hub) _ (λ names most state it. (
           (
             Some outcome,
-            subst (λ (found : Option MadeLoan). SendsUnder hub_ports with_hub_ports (publisher_may_degrade degrades)
-                (publisher_may_decide decides) found old.hub (Some outcome) hub) (sym there) sends,
+            subst (λ (found : Option MadeLoan). SendsUnder hub_ports with_hub_ports (publisher_may_degrade terms.degrades)
+                (publisher_may_decide terms.decides) found old.hub (Some outcome) hub) (sym there) sends,
             refl,
             ap told_sent is ∙ sent_alike T U made.port outcome,
           ),
           refl,
         ))
 
-    pub retry_is_step : RetryIsStep K payload user_header types is_default is_default_header fixed degrades decides fixed_reader
-        reader_degrades
+    pub retry_is_step : RetryIsStep K terms_so
     retry_is_step number nanoseconds who old hub answer there (outcome, tries, is) =
-        by_step payload user_header variant is_default is_default_header fixed degrades decides fixed_reader reader_degrades
-        (command.Retry number nanoseconds) old (hub_after_call old old.made hub) _
-        (λ names most state it. (
+        by_step variant terms (command.Retry number nanoseconds) old (hub_after_call old old.made hub) _ (λ names most state it. (
           (
             Some outcome,
-            subst (λ (found : Option PortId). AtPort (Retries hub_ports with_hub_ports (publisher_may_decide decides) nanoseconds) found
-                old.hub (Some outcome) hub) (sym there) tries,
+            subst (λ (found : Option PortId). AtPort (Retries hub_ports with_hub_ports (publisher_may_decide terms.decides) nanoseconds)
+                found old.hub (Some outcome) hub) (sym there) tries,
             ap told_sent is ∙ sent_alike T U who outcome,
           ),
           refl,
         ))
 
-    pub give_up_is_step : GiveUpIsStep K payload user_header types is_default is_default_header fixed degrades decides fixed_reader
-        reader_degrades
+    pub give_up_is_step : GiveUpIsStep K terms_so
     give_up_is_step number who old hub answer there ends =
-        by_step payload user_header variant is_default is_default_header fixed degrades decides fixed_reader reader_degrades
-        (command.GiveUp number) old (hub_after_call old old.made hub) _
-        (λ names most state it. (
+        by_step variant terms (command.GiveUp number) old (hub_after_call old old.made hub) _ (λ names most state it. (
           (
             answer,
             subst (λ (found : Option PortId). AtPort (GivesUp hub_ports with_hub_ports) found old.hub answer hub) (sym there) ends,
@@ -195,27 +172,21 @@ module _ {T U B D : Type 0} (payload user_header : Detail) (variant : TypeVarian
           refl,
         ))
 
-    pub publisher_update_is_step : PublisherUpdateIsStep K payload user_header types is_default is_default_header fixed degrades decides
-        fixed_reader reader_degrades
+    pub publisher_update_is_step : PublisherUpdateIsStep K terms_so
     publisher_update_is_step number who old hub answer there follows =
-        by_step payload user_header variant is_default is_default_header fixed degrades decides fixed_reader reader_degrades
-        (command.Update (port.Publisher number)) old (hub_after_call old old.made hub) _
-        (λ names most state it. (
+        by_step variant terms (command.Update (port.Publisher number)) old (hub_after_call old old.made hub) _ (λ names most state it. (
           (
             Some answer,
-            subst (λ (found : Option PortId). AtPort (Follows hub_ports with_hub_ports (publisher_may_degrade degrades)) found old.hub
+            subst (λ (found : Option PortId). AtPort (Follows hub_ports with_hub_ports (publisher_may_degrade terms.degrades)) found old.hub
                 (Some answer) hub) (sym there) follows,
             refl,
           ),
           refl,
         ))
 
-    pub publisher_leave_is_step : PublisherLeaveIsStep K payload user_header types is_default is_default_header fixed degrades decides
-        fixed_reader reader_degrades
+    pub publisher_leave_is_step : PublisherLeaveIsStep K terms_so
     publisher_leave_is_step number who old hub left there ends =
-        by_step payload user_header variant is_default is_default_header fixed degrades decides fixed_reader reader_degrades
-        (command.Leave (port.Publisher number)) old _ _
-        (λ names most state it. (
+        by_step variant terms (command.Leave (port.Publisher number)) old _ _ (λ names most state it. (
           (
             left,
             subst (λ (found : Option PortId). AtPortIf (PublisherGoes hub_ports with_hub_ports without_hub_publisher) found old.hub left

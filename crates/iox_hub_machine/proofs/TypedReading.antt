@@ -1,64 +1,55 @@
 -- What a program may do with what it holds, and what it reads of samples.
-use Rattle.std.proofs.Common.{ℕ, List, Option, Some, Ok, refl, sym, subst, arith}
-use Rattle.iox_command.specs.DomainValues.declared.backpressure.BackpressureAction.{BackpressureAction}
-use Rattle.iox_command.specs.DomainValues.declared.backpressure.BackpressureDecision.{BackpressureDecision}
-use Rattle.iox_command.specs.DomainValues.declared.backpressure.BackpressureInfo.{BackpressureInfo}
-use Rattle.iox_command.specs.DomainValues.declared.backpressure_strategy.BackpressureStrategy.{BackpressureStrategy}
-use Rattle.iox_command.specs.DomainValues.declared.degradation.DegradationAction.{DegradationAction}
-use Rattle.iox_command.specs.DomainValues.declared.degradation.DegradationCause.{DegradationCause}
-use Rattle.iox_command.specs.DomainValues.declared.degradation.DegradationInfo.{DegradationInfo}
-use Rattle.iox_command.specs.NegotiateBase.DescribeBase.Detail.{Detail}
+use Rattle.std.proofs.Common.{ℕ, List, Some, Ok, refl, sym, subst, arith}
 use Rattle.iox_command.specs.NegotiateBase.DescribeBase.declared.message_type.MessageTypeDetails.{MessageTypeDetails}
 use Rattle.iox_command.specs.NegotiateBase.DescribeBase.declared.type_detail.TypeVariant.{TypeVariant}
 use Rattle.iox_command.specs.declared.command.Command.TheVariants as command
 use Rattle.iox_command.specs.declared.reply.Reply.TheVariants as reply
 use Rattle.iox_domain.specs.Fitting.{asked_types}
+use Rattle.iox_hub_commands.specs.Terms.{Terms}
 use Rattle.iox_hub_machine.proofs.Dropped.{is_out}
 use Rattle.iox_hub_machine.proofs.Going.{loan_goes, sample_goes}
 use Rattle.iox_hub_machine.proofs.Lacking.{vector_of}
 use Rattle.iox_hub_machine.proofs.Released.{is_there}
 use Rattle.iox_hub_machine.proofs.TypedSubscribing.{payload_is_step, receive_is_step}
 use Rattle.iox_hub_machine.specs.TypedReading.{HeldMayBeUsed, PayloadStays, PayloadWasSent}
+use Rattle.iox_hub_machine.specs.TypedTerms.{asked_terms}
 use Rattle.iox_machine.specs.MessageLaws.{BeganIn, ReceivedWasSent}
 use Rattle.iox_machine.specs.Run.{Step}
 use Rattle.iox_machine.specs.RunLaws.{SamplesReadTheSame}
 use Rattle.iox_machine.specs.State.{new_state}
 use Rattle.iox_machine.specs.Choices.{as_named}
 
-module _ {T U B D : Type 0} (payload user_header : Detail) (variant : TypeVariant) (is_default : T → Type 0)
-    (is_default_header : U → Type 0) (fixed : BackpressureStrategy → Option BackpressureAction → DegradationAction → B)
-    (degrades : B → DegradationCause → DegradationInfo → DegradationAction → Type 0)
-    (decides : B → BackpressureInfo → BackpressureDecision → Type 0) (fixed_reader : DegradationAction → D)
-    (reader_degrades : D → DegradationCause → DegradationInfo → DegradationAction → Type 0) where
+module _ {T U B D : Type 0} (variant : TypeVariant) (terms : Terms T U B D) where
+  -- the terms of a hub whose messages are values, or slices of them
+  abbrev terms_so : Terms T U B D
+  terms_so = asked_terms variant terms
+
   -- the types of the messages: values, or slices of them
   abbrev types : MessageTypeDetails
-  types = asked_types variant payload user_header
+  types = asked_types variant terms.payload terms.user_header
 
-  pub held_may_be_used : HeldMayBeUsed U types is_default degrades decides reader_degrades
+  pub held_may_be_used : HeldMayBeUsed terms_so
   held_may_be_used names most hub state it = record {
     publishers = λ number port there. (it.stands.ports.publishers.known number port there).1;
     subscribers = λ number port there. (it.stands.ports.subscribers.known number port there).1;
     loans = λ number made there.
-        let goes = loan_goes (as_named is_default) degrades decides reader_degrades it.naming it.order hub state it.stands.ports number
-        made there in
-        is_out (as_named is_default) is_default_header degrades decides reader_degrades types it.naming it.order hub hub state
-        it.stands.ports number
-        it.ran.grown made there goes.ports goes.found goes.mine;
+        let goes = loan_goes (as_named terms.is_default) terms.degrades terms.decides terms.reader_degrades it.naming it.order hub state
+        it.stands.ports number made there in
+        is_out (as_named terms.is_default) terms.is_default_header terms.degrades terms.decides terms.reader_degrades types it.naming
+        it.order hub hub state it.stands.ports number it.ran.grown made there goes.ports goes.found goes.mine;
     samples = λ number made there.
-        let goes = sample_goes (as_named is_default) degrades decides reader_degrades it.naming it.order hub state it.stands.ports number
-        made there in
-        is_there (as_named is_default) is_default_header degrades decides reader_degrades types it.naming it.order hub hub state
-        it.stands.ports
-        number it.ran.grown made there goes.ports goes.found goes.goes goes.mine;
+        let goes = sample_goes (as_named terms.is_default) terms.degrades terms.decides terms.reader_degrades it.naming it.order hub state
+        it.stands.ports number made there in
+        is_there (as_named terms.is_default) terms.is_default_header terms.degrades terms.decides terms.reader_degrades types it.naming
+        it.order hub hub state it.stands.ports number it.ran.grown made there goes.ports goes.found goes.goes goes.mine;
   }
 
   module _ (K : Type 0) where
-    pub payload_was_sent : ReceivedWasSent (as_named is_default)
-        → PayloadWasSent K payload user_header types is_default is_default_header fixed degrades decides fixed_reader reader_degrades
+    pub payload_was_sent : ReceivedWasSent (as_named terms.is_default)
+        → PayloadWasSent K terms_so
     payload_was_sent sent names most asked answers state old hub run subscriber receiver sample values decides_so answers_so own few it
         there receives read fits =
-        let one = receive_is_step payload user_header variant is_default is_default_header fixed degrades decides fixed_reader
-        reader_degrades
+        let one = receive_is_step variant terms
         K subscriber receiver old hub (Ok (Some sample)) (reply.Received old.made.samples.next (vector_of values fits)) there receives
         (vector_of values fits, read, refl) names most state decides_so answers_so own tt (omega (arith, few)) it in
         let (publisher, service, message, receiving, sending, taken, same, began) = sent types
@@ -68,18 +59,17 @@ module _ {T U B D : Type 0} (payload user_header : Detail) (variant : TypeVarian
           service = service;
           receives = receiving;
           sends = sending;
-          began = subst (λ (these : List T). BeganIn types (as_named is_default) old.hub.expired_connection_buffer publisher service.name
-              service.settings these asked new_state answers state run) (sym same) began;
+          began = subst (λ (these : List T). BeganIn types (as_named terms.is_default) old.hub.expired_connection_buffer publisher
+              service.name service.settings these asked new_state answers state run) (sym same) began;
         }
 
-    pub payload_stays : SamplesReadTheSame (as_named is_default)
-        → PayloadStays K payload user_header types is_default is_default_header fixed degrades decides fixed_reader reader_degrades
+    pub payload_stays : SamplesReadTheSame (as_named terms.is_default)
+        → PayloadStays K terms_so
     payload_stays the_same buffer asked answers old mid later came subscriber sample values received meanwhile told between names most hub
         made read decides_so answers_so own few it same there reads fits =
-        let one = payload_is_step payload user_header variant is_default is_default_header fixed degrades decides fixed_reader
-        reader_degrades
+        let one = payload_is_step variant terms
         K sample made hub (vector_of read fits) there reads names most later decides_so answers_so own tt (omega (arith, few)) it in
         the_same types buffer asked answers old came subscriber sample values mid received meanwhile told later between
         (vector_of read fits) one.0.after
-        (subst (λ (n : ℕ). Step types (as_named is_default) n (command.Read sample) later (reply.Values (vector_of read fits))
+        (subst (λ (n : ℕ). Step types (as_named terms.is_default) n (command.Read sample) later (reply.Values (vector_of read fits))
         one.0.after) same one.0.step)

@@ -3,15 +3,8 @@ use Rattle.std.proofs.Common.{◌≡◌, ℕ, Bool, true, false, Option, None, S
 use Rattle.std.proofs.lemmas.Bool.Decides.{nat_tests}
 use Rattle.std.specs.Option.{unwrap_or}
 use Rattle.std.specs.Prelude.{nat_eq, max}
-use Rattle.iox_command.specs.DomainValues.declared.backpressure.BackpressureAction.{BackpressureAction}
-use Rattle.iox_command.specs.DomainValues.declared.backpressure.BackpressureDecision.{BackpressureDecision}
-use Rattle.iox_command.specs.DomainValues.declared.backpressure.BackpressureInfo.{BackpressureInfo}
-use Rattle.iox_command.specs.DomainValues.declared.backpressure_strategy.BackpressureStrategy.{BackpressureStrategy}
 use Rattle.iox_command.specs.DomainValues.declared.degradation.DegradationAction.{DegradationAction}
-use Rattle.iox_command.specs.DomainValues.declared.degradation.DegradationCause.{DegradationCause}
 use Rattle.iox_command.specs.DomainValues.declared.degradation.DegradationInfo.{DegradationInfo}
-use Rattle.iox_command.specs.NegotiateBase.DescribeBase.Detail.{Detail}
-use Rattle.iox_command.specs.NegotiateBase.DescribeBase.declared.message_type.MessageTypeDetails.{MessageTypeDetails}
 use Rattle.iox_command.specs.NegotiateBase.DescribeBase.declared.type_detail.TypeVariant.{TypeVariant}
 use Rattle.iox_command.specs.DomainValues.declared.create_error.PublisherCreateError.{PublisherCreateError}
 use Rattle.iox_command.specs.DomainValues.declared.create_error.SubscriberCreateError.{SubscriberCreateError}
@@ -27,7 +20,6 @@ use Rattle.iox_domain.specs.Making.{CreatesPublisher, publisher_place, slots_nee
 use Rattle.iox_domain.specs.Steps.{PublisherComes, SubscriberComes, why_no_publisher, why_no_subscriber}
 use Rattle.iox_domain.specs.declared.ports.making.PublisherConfig.{PublisherConfig}
 use Rattle.iox_domain.specs.declared.ports.service_ports.ServicePorts.{ServicePorts}
-use Rattle.iox_domain.specs.Fitting.{asked_types}
 use Rattle.iox_hub_base.specs.AsHome.{hub_ports, with_hub_ports, with_hub_publisher, with_hub_subscriber}
 use Rattle.iox_hub_base.specs.Closing.{ClosesIf, in_use, spent}
 use Rattle.iox_hub_base.specs.Opening.{Made as Opened}
@@ -38,6 +30,7 @@ use Rattle.iox_hub_commands.specs.Replies.{closed_reply}
 use Rattle.iox_hub_commands.specs.Services.{domain_of_factory, owner_of_factory}
 use Rattle.iox_hub_commands.specs.Services as numbered
 use Rattle.iox_hub_commands.specs.ServicesTables.{FactoryTable, parts_of, publish_subscribe_in}
+use Rattle.iox_hub_commands.specs.Terms.{Terms}
 use Rattle.iox_hub_commands.specs.declared.numbered_hub.NumberedHub.{NumberedHub}
 use Rattle.iox_hub_commands.specs.declared.services.made.MadeFactory.{MadeFactory}
 use Rattle.iox_hub_machine.proofs.TypedSteps.{Does, as_roomy, by_step}
@@ -45,6 +38,7 @@ use Rattle.iox_hub_machine.specs.TypedServices.{CloseIsStep, NewNodeIsStep, Publ
 use Rattle.iox_hub_machine.specs.TypedServices.{having_publisher, having_subscriber, told_closed, told_node, told_publisher}
 use Rattle.iox_hub_machine.specs.TypedServices.{told_subscriber}
 use Rattle.iox_hub_machine.specs.TypedSteps.{hub_after_call}
+use Rattle.iox_hub_machine.specs.TypedTerms.{asked_terms}
 
 -- ---- slots that are answered
 
@@ -83,21 +77,14 @@ spent_so F (Err why) number table = refl
 same_storage : (one other : ℕ) → one ≡ other → nat_eq one other ≡ true
 same_storage one other same = grind (arith, nat_tests, same)
 
-module _ {T U B D : Type 0} (payload user_header : Detail) (variant : TypeVariant) (is_default : T → Type 0)
-    (is_default_header : U → Type 0) (fixed : BackpressureStrategy → Option BackpressureAction → DegradationAction → B)
-    (degrades : B → DegradationCause → DegradationInfo → DegradationAction → Type 0)
-    (decides : B → BackpressureInfo → BackpressureDecision → Type 0) (fixed_reader : DegradationAction → D)
-    (reader_degrades : D → DegradationCause → DegradationInfo → DegradationAction → Type 0) where
-  -- the types of the messages: values, or slices of them
-  abbrev types : MessageTypeDetails
-  types = asked_types variant payload user_header
+module _ {T U B D : Type 0} (variant : TypeVariant) (terms : Terms T U B D) where
+  -- the terms of a hub whose messages are values, or slices of them
+  abbrev terms_so : Terms T U B D
+  terms_so = asked_terms variant terms
 
-  pub new_node_is_step : NewNodeIsStep payload user_header types is_default is_default_header fixed degrades decides fixed_reader
-      reader_degrades
+  pub new_node_is_step : NewNodeIsStep terms_so
   new_node_is_step old hub answer is same =
-      by_step payload user_header variant is_default is_default_header fixed degrades decides fixed_reader reader_degrades
-      command.Node old (hub_after_call old old.made hub) (told_node answer)
-      (λ names most state it. (
+      by_step variant terms command.Node old (hub_after_call old old.made hub) (told_node answer) (λ names most state it. (
         ap told_node is,
         ap (λ (hub : Hub T U B D). hub_after_call old old.made hub) same,
       ))
@@ -106,22 +93,22 @@ module _ {T U B D : Type 0} (payload user_header : Detail) (variant : TypeVarian
 
   abbrev PublisherDoes : ℕ → PublisherOptions → Opened → NumberedHub T U B D → Hub T U B D → Result ℕ PublisherCreateError → Type 0
   PublisherDoes factory options opened old hub answer =
-      Does payload user_header variant is_default is_default_header fixed degrades decides fixed_reader reader_degrades
-      (command.Publisher factory options) old (told_publisher answer old.made)
+      Does variant terms (command.Publisher factory options) old (told_publisher answer old.made)
       (hub_after_call old (having_publisher (domain_of_factory opened) answer old.made) hub)
 
   publisher_does : (factory : ℕ) (options : PublisherOptions) (opened : Opened) (header : U) (old : NumberedHub T U B D)
       (hub : Hub T U B D) (answer : Result ℕ PublisherCreateError)
-      → publish_subscribe_in (value_at old.factories.made factory) ≡ Some opened → is_default_header header
+      → publish_subscribe_in (value_at old.factories.made factory) ≡ Some opened → terms.is_default_header header
       → MakesAt (λ after. with_hub_ports (domain_of_factory opened) after old.hub)
-      (λ number. with_hub_publisher (domain_of_factory opened) number (publisher_handlers fixed options))
+      (λ number. with_hub_publisher (domain_of_factory opened) number (publisher_handlers terms.fixed options))
       (PublisherComes (λ worst_case named. named ≡ unwrap_or options.preallocated_samples worst_case)
-      (degrades (publisher_handlers fixed options) FailedToEstablishConnection) (publisher_config (owner_of_factory opened) options)
+      (terms.degrades (publisher_handlers terms.fixed options) FailedToEstablishConnection) (publisher_config (owner_of_factory opened)
+      options)
       header) (why_no_publisher (publisher_config (owner_of_factory opened) options)) (hub_ports (domain_of_factory opened) old.hub)
       old.hub (Some answer) hub
       → PublisherDoes factory options opened old hub answer
   publisher_does factory options opened header old hub (Ok number) there default makes =
-      subst (λ (found : Option Opened). numbered.PublisherComes is_default_header fixed degrades found options old
+      subst (λ (found : Option Opened). numbered.PublisherComes terms.is_default_header terms.fixed terms.degrades found options old
       (told_publisher (Ok number) old.made) (hub_after_call old (having_publisher (domain_of_factory opened) (Ok number) old.made) hub))
       (sym there) (
         (
@@ -134,7 +121,7 @@ module _ {T U B D : Type 0} (payload user_header : Detail) (variant : TypeVarian
         refl,
       )
   publisher_does factory options opened header old hub (Err why) there default makes =
-      subst (λ (found : Option Opened). numbered.PublisherComes is_default_header fixed degrades found options old
+      subst (λ (found : Option Opened). numbered.PublisherComes terms.is_default_header terms.fixed terms.degrades found options old
       (told_publisher (Err why) old.made) (hub_after_call old (having_publisher (domain_of_factory opened) (Err why) old.made) hub))
       (sym there) (
         (
@@ -147,32 +134,28 @@ module _ {T U B D : Type 0} (payload user_header : Detail) (variant : TypeVarian
         refl,
       )
 
-  pub publisher_is_step : (overrides : ℕ → ℕ → Type 0) → PublisherIsStep payload user_header types is_default is_default_header fixed
-      degrades decides fixed_reader reader_degrades
-      overrides
+  pub publisher_is_step : (overrides : ℕ → ℕ → Type 0) → PublisherIsStep terms_so overrides
   publisher_is_step overrides factory opened options header old hub answer there names default makes =
-      by_step payload user_header variant is_default is_default_header fixed degrades decides fixed_reader reader_degrades
-      (command.Publisher factory options) old _ _
+      by_step variant terms (command.Publisher factory options) old _ _
       (λ some most state it. publisher_does factory options opened header old hub answer there default
       (makes_named overrides (λ worst_case named. named ≡ unwrap_or options.preallocated_samples worst_case) names
-      (degrades (publisher_handlers fixed options) FailedToEstablishConnection) (publisher_config (owner_of_factory opened) options)
-      header (λ after. with_hub_ports (domain_of_factory opened) after old.hub)
-      (λ number. with_hub_publisher (domain_of_factory opened) number (publisher_handlers fixed options))
+      (terms.degrades (publisher_handlers terms.fixed options) FailedToEstablishConnection) (publisher_config (owner_of_factory opened)
+      options) header (λ after. with_hub_ports (domain_of_factory opened) after old.hub)
+      (λ number. with_hub_publisher (domain_of_factory opened) number (publisher_handlers terms.fixed options))
       (hub_ports (domain_of_factory opened) old.hub) old.hub hub answer makes))
 
   subscriber_does : (factory : ℕ) (options : SubscriberOptions) (opened : Opened) (old : NumberedHub T U B D) (hub : Hub T U B D)
       (answer : Result ℕ SubscriberCreateError) → publish_subscribe_in (value_at old.factories.made factory) ≡ Some opened
       → MakesAt (λ after. with_hub_ports (domain_of_factory opened) after old.hub)
-      (λ number. with_hub_subscriber (domain_of_factory opened) number (subscriber_handler fixed_reader options))
-      (SubscriberComes (reader_degrades (subscriber_handler fixed_reader options) FailedToEstablishConnection)
+      (λ number. with_hub_subscriber (domain_of_factory opened) number (subscriber_handler terms.fixed_reader options))
+      (SubscriberComes (terms.reader_degrades (subscriber_handler terms.fixed_reader options) FailedToEstablishConnection)
       (subscriber_config (owner_of_factory opened) options))
       (why_no_subscriber (subscriber_config (owner_of_factory opened) options)) (hub_ports (domain_of_factory opened) old.hub) old.hub
       (Some answer) hub
-      → Does payload user_header variant is_default is_default_header fixed degrades decides fixed_reader reader_degrades
-      (command.Subscriber factory options) old (told_subscriber answer old.made)
+      → Does variant terms (command.Subscriber factory options) old (told_subscriber answer old.made)
       (hub_after_call old (having_subscriber (domain_of_factory opened) answer old.made) hub)
   subscriber_does factory options opened old hub (Ok number) there makes =
-      subst (λ (found : Option Opened). numbered.SubscriberComes fixed_reader reader_degrades found options old
+      subst (λ (found : Option Opened). numbered.SubscriberComes terms.fixed_reader terms.reader_degrades found options old
       (told_subscriber (Ok number) old.made) (hub_after_call old (having_subscriber (domain_of_factory opened) (Ok number) old.made) hub))
       (sym there) (
         (
@@ -183,7 +166,7 @@ module _ {T U B D : Type 0} (payload user_header : Detail) (variant : TypeVarian
         refl,
       )
   subscriber_does factory options opened old hub (Err why) there makes =
-      subst (λ (found : Option Opened). numbered.SubscriberComes fixed_reader reader_degrades found options old
+      subst (λ (found : Option Opened). numbered.SubscriberComes terms.fixed_reader terms.reader_degrades found options old
       (told_subscriber (Err why) old.made) (hub_after_call old (having_subscriber (domain_of_factory opened) (Err why) old.made) hub))
       (sym there) (
         (
@@ -194,11 +177,9 @@ module _ {T U B D : Type 0} (payload user_header : Detail) (variant : TypeVarian
         refl,
       )
 
-  pub subscriber_is_step : SubscriberIsStep payload user_header types is_default is_default_header fixed degrades decides fixed_reader
-      reader_degrades
+  pub subscriber_is_step : SubscriberIsStep terms_so
   subscriber_is_step factory opened options old hub answer there makes =
-      by_step payload user_header variant is_default is_default_header fixed degrades decides fixed_reader reader_degrades
-      (command.Subscriber factory options) old _ _
+      by_step variant terms (command.Subscriber factory options) old _ _
       (λ names most state it. subscriber_does factory options opened old hub answer there makes)
 
   -- ---- factories
@@ -227,12 +208,9 @@ module _ {T U B D : Type 0} (payload user_header : Detail) (variant : TypeVarian
         ap told_closed is ∙ closed_so F closed,
       )
 
-    pub close_is_step : CloseIsStep payload user_header types is_default is_default_header fixed degrades decides fixed_reader
-        reader_degrades F
+    pub close_is_step : CloseIsStep terms_so F
     close_is_step number made factory old hub answer there closes =
-        by_step payload user_header variant is_default is_default_header fixed degrades decides fixed_reader reader_degrades
-        (command.Close number) old _ (told_closed answer)
-        (λ names most state it.
+        by_step variant terms (command.Close number) old _ (told_closed answer) (λ names most state it.
         let used : Bool = in_use (parts_of made).0.service.number (parts_of made).1 old.hub in
         let (closed, does, told) = closes_so number made factory old hub answer used closes in
         let same = same_storage (parts_of made).0.storage old.hub.table.id (it.stands.factories.each number made there).storage in (

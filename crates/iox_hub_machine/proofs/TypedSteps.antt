@@ -1,13 +1,5 @@
 -- What a call does that is what a command does is a step of the machine.
-use Rattle.std.proofs.Common.{◌≡◌, ℕ, ◌+◌, false, List, [], ◌∷◌, Option, Ok, refl, sym, subst, arith}
-use Rattle.iox_command.specs.DomainValues.declared.backpressure.BackpressureAction.{BackpressureAction}
-use Rattle.iox_command.specs.DomainValues.declared.backpressure.BackpressureDecision.{BackpressureDecision}
-use Rattle.iox_command.specs.DomainValues.declared.backpressure.BackpressureInfo.{BackpressureInfo}
-use Rattle.iox_command.specs.DomainValues.declared.backpressure_strategy.BackpressureStrategy.{BackpressureStrategy}
-use Rattle.iox_command.specs.DomainValues.declared.degradation.DegradationAction.{DegradationAction}
-use Rattle.iox_command.specs.DomainValues.declared.degradation.DegradationCause.{DegradationCause}
-use Rattle.iox_command.specs.DomainValues.declared.degradation.DegradationInfo.{DegradationInfo}
-use Rattle.iox_command.specs.NegotiateBase.DescribeBase.Detail.{Detail}
+use Rattle.std.proofs.Common.{◌≡◌, ℕ, ◌+◌, false, List, [], ◌∷◌, Ok, refl, sym, subst, arith}
 use Rattle.iox_command.specs.NegotiateBase.DescribeBase.declared.message_type.MessageTypeDetails.{MessageTypeDetails}
 use Rattle.iox_command.specs.NegotiateBase.DescribeBase.declared.type_detail.TypeVariant.{TypeVariant}
 use Rattle.iox_command.specs.declared.command.Command.{Command}
@@ -25,6 +17,7 @@ use Rattle.iox_hub_machine.specs.GoingOnLaws.{AreAllOn, IsOneOn}
 use Rattle.iox_hub_machine.specs.Ran.{StandsAfter}
 use Rattle.iox_hub_machine.specs.RunLaws.{all_asked, steps_named}
 use Rattle.iox_hub_machine.specs.TypedSteps.{IsStepBy}
+use Rattle.iox_hub_machine.specs.TypedTerms.{asked_terms}
 use Rattle.iox_machine.specs.Run as machine
 use Rattle.iox_machine.specs.State.{State}
 use Rattle.iox_machine.specs.Choices.{as_named}
@@ -41,49 +34,36 @@ as_roomy made = (
   (refl, refl, omega arith),
 )
 
-module _ {T U B D : Type 0} (payload user_header : Detail) (variant : TypeVariant) (is_default : T → Type 0)
-    (is_default_header : U → Type 0) (fixed : BackpressureStrategy → Option BackpressureAction → DegradationAction → B)
-    (degrades : B → DegradationCause → DegradationInfo → DegradationAction → Type 0)
-    (decides : B → BackpressureInfo → BackpressureDecision → Type 0) (fixed_reader : DegradationAction → D)
-    (reader_degrades : D → DegradationCause → DegradationInfo → DegradationAction → Type 0) where
+module _ {T U B D : Type 0} (variant : TypeVariant) (terms : Terms T U B D) where
+  -- the terms of a hub whose messages are values, or slices of them
+  abbrev terms_so : Terms T U B D
+  terms_so = asked_terms variant terms
+
   -- the types of the messages: values, or slices of them
   abbrev types : MessageTypeDetails
-  types = asked_types variant payload user_header
+  types = asked_types variant terms.payload terms.user_header
 
-  -- the terms of a hub whose messages are of these types
-  abbrev pub typed_terms : Terms T U B D
-  typed_terms = record {
-    payload = payload;
-    user_header = user_header;
-    types = types;
-    is_default = is_default;
-    is_default_header = is_default_header;
-    fixed = fixed;
-    degrades = degrades;
-    decides = decides;
-    fixed_reader = fixed_reader;
-    reader_degrades = reader_degrades;
-  }
-
+  -- what a command does
   abbrev pub Does : Command T → NumberedHub T U B D → Reply T → NumberedHub T U B D → Type 0
   Does asked old answer new
-      = hub.Step typed_terms asked old (Ok answer) new
+      = hub.Step terms_so asked old (Ok answer) new
 
   abbrev pub Stands : List (List ℕ) → ℕ → NumberedHub T U B D → State T → Type 0
-  Stands names most hub state = StandsAfter types (as_named is_default) degrades decides reader_degrades names most hub state
+  Stands names most hub state = StandsAfter types (as_named terms.is_default) terms.degrades terms.decides terms.reader_degrades names most
+      hub state
 
   one_of : (names : List (List ℕ)) (most : ℕ) (asked : Command T) (old new : NumberedHub T U B D) (state : State T) (answer : Reply T)
-      → AreAllOn types (as_named is_default) degrades decides reader_degrades names
+      → AreAllOn types (as_named terms.is_default) terms.degrades terms.decides terms.reader_degrades names
       most old.hub.expired_connection_buffer (asked ∷ []) state (answer ∷ []) new
-      → IsOneOn types (as_named is_default) degrades decides reader_degrades names
+      → IsOneOn types (as_named terms.is_default) terms.degrades terms.decides terms.reader_degrades names
       most old.hub.expired_connection_buffer asked state answer new
   one_of names most asked old new state answer it =
       let (its, mid, rest, did, (none, same), are) = it.runs in
       let even : most + all_asked (asked ∷ []) ≡ most + (1 + steps_named asked) = omega arith in record {
         after = it.after;
-        step = subst (λ (a : Reply T). machine.Step types (as_named is_default) old.hub.expired_connection_buffer asked state a it.after)
-            (sym (first_is answer its [] rest are))
-            (subst (λ (s : State T). machine.Step types (as_named is_default) old.hub.expired_connection_buffer asked state its s)
+        step = subst (λ (a : Reply T). machine.Step types (as_named terms.is_default) old.hub.expired_connection_buffer asked state a
+            it.after) (sym (first_is answer its [] rest are))
+            (subst (λ (s : State T). machine.Step types (as_named terms.is_default) old.hub.expired_connection_buffer asked state its s)
             (sym same) did);
         stands = subst (λ (n : ℕ). Stands names n new it.after) even it.stands;
       }
@@ -91,14 +71,12 @@ module _ {T U B D : Type 0} (payload user_header : Detail) (variant : TypeVarian
   -- what a hub does, where it stands for a state, is a step of the machine
   pub by_step : (asked : Command T) (old new : NumberedHub T U B D) (answer : Reply T)
       → ((names : List (List ℕ)) (most : ℕ) (state : State T) → Stands names most old state → Does asked old answer new)
-      → IsStepBy payload user_header types is_default is_default_header fixed degrades decides fixed_reader reader_degrades asked
-      old answer new
+      → IsStepBy terms_so asked old answer new
   by_step asked old new answer does names most state decides_so answers_so own asks few it =
       let did = does names most state it in (
         one_of names most asked old new state answer
-            (commands_go_on variant typed_terms (as_named is_default) names most (asked ∷ []) old new state (answer ∷ []) false decides_so
-            answers_so (all_named is_default old) own (asks, tt)
-            (omega (arith, few)) it
+            (commands_go_on variant terms (as_named terms.is_default) names most (asked ∷ []) old new state (answer ∷ []) false
+            decides_so answers_so (all_named terms.is_default old) own (asks, tt) (omega (arith, few)) it
             (answer, new, [], did, (refl, refl), refl)),
-        (step_takes typed_terms old new answer asked did).buffer,
+        (step_takes terms_so old new answer asked did).buffer,
       )

@@ -1,13 +1,5 @@
 -- Each call of a typed subscriber and of its samples is a step of the machine.
 use Rattle.std.proofs.Common.{◌≡◌, ℕ, Bool, true, false, List, Option, None, Some, Result, Ok, Err, refl, sym, ap, subst, ◌∙◌}
-use Rattle.iox_command.specs.DomainValues.declared.backpressure.BackpressureAction.{BackpressureAction}
-use Rattle.iox_command.specs.DomainValues.declared.backpressure.BackpressureDecision.{BackpressureDecision}
-use Rattle.iox_command.specs.DomainValues.declared.backpressure.BackpressureInfo.{BackpressureInfo}
-use Rattle.iox_command.specs.DomainValues.declared.backpressure_strategy.BackpressureStrategy.{BackpressureStrategy}
-use Rattle.iox_command.specs.DomainValues.declared.degradation.DegradationAction.{DegradationAction}
-use Rattle.iox_command.specs.DomainValues.declared.degradation.DegradationCause.{DegradationCause}
-use Rattle.iox_command.specs.DomainValues.declared.degradation.DegradationInfo.{DegradationInfo}
-use Rattle.iox_command.specs.NegotiateBase.DescribeBase.Detail.{Detail}
 use Rattle.iox_command.specs.NegotiateBase.DescribeBase.declared.message_type.MessageTypeDetails.{MessageTypeDetails}
 use Rattle.iox_command.specs.NegotiateBase.DescribeBase.declared.type_detail.TypeVariant.{TypeVariant}
 use Rattle.iox_command.specs.declared.command.Command.TheVariants as command
@@ -36,6 +28,7 @@ use Rattle.iox_hub_commands.specs.Numbering.{ReceivesNumbered}
 use Rattle.iox_hub_commands.specs.Reading.{ReleasesUnder, is_held, values_under}
 use Rattle.iox_hub_commands.specs.Receiving.{IsArrival}
 use Rattle.iox_hub_commands.specs.Tables.{without_sample}
+use Rattle.iox_hub_commands.specs.Terms.{Terms}
 use Rattle.iox_hub_commands.specs.declared.numbered_hub.NumberedHub.{NumberedHub}
 use Rattle.iox_hub_commands.specs.declared.ports.made.MadeSample.{MadeSample}
 use Rattle.iox_hub_machine.proofs.Going.{sample_goes}
@@ -44,53 +37,46 @@ use Rattle.iox_hub_machine.proofs.TypedSteps.{Does, as_roomy, by_step}
 use Rattle.iox_hub_machine.specs.TypedSubscribing.{HasIsStep, PayloadIsStep, ReceiveIsStep, ReleaseIsStep, SubscriberLeaveIsStep}
 use Rattle.iox_hub_machine.specs.TypedSubscribing.{SubscriberUpdateIsStep}
 use Rattle.iox_hub_machine.specs.TypedSteps.{IsToldReceived, having_received, hub_after_call}
+use Rattle.iox_hub_machine.specs.TypedTerms.{asked_terms}
 use Rattle.iox_machine.specs.Choices.{as_named}
 
-module _ {T U B D : Type 0} (payload user_header : Detail) (variant : TypeVariant) (is_default : T → Type 0)
-    (is_default_header : U → Type 0) (fixed : BackpressureStrategy → Option BackpressureAction → DegradationAction → B)
-    (degrades : B → DegradationCause → DegradationInfo → DegradationAction → Type 0)
-    (decides : B → BackpressureInfo → BackpressureDecision → Type 0) (fixed_reader : DegradationAction → D)
-    (reader_degrades : D → DegradationCause → DegradationInfo → DegradationAction → Type 0) where
+module _ {T U B D : Type 0} (variant : TypeVariant) (terms : Terms T U B D) where
+  -- the terms of a hub whose messages are values, or slices of them
+  abbrev terms_so : Terms T U B D
+  terms_so = asked_terms variant terms
+
   -- the types of the messages: values, or slices of them
   abbrev types : MessageTypeDetails
-  types = asked_types variant payload user_header
+  types = asked_types variant terms.payload terms.user_header
 
   module _ (K : Type 0) where
-    pub has_is_step : HasIsStep K payload user_header types is_default is_default_header fixed degrades decides fixed_reader reader_degrades
+    pub has_is_step : HasIsStep K terms_so
     has_is_step number who old hub answer there tells =
-        by_step payload user_header variant is_default is_default_header fixed degrades decides fixed_reader reader_degrades
-        (command.Has number) old (hub_after_call old old.made hub) _
-        (λ names most state it. (
+        by_step variant terms (command.Has number) old (hub_after_call old old.made hub) _ (λ names most state it. (
           (
             Some answer,
-            subst (λ (found : Option PortId). AtPort (Tells hub_ports with_hub_ports (subscriber_may_degrade reader_degrades)) found old.hub
-                (Some answer) hub) (sym there) tells,
+            subst (λ (found : Option PortId). AtPort (Tells hub_ports with_hub_ports (subscriber_may_degrade terms.reader_degrades)) found
+                old.hub (Some answer) hub) (sym there) tells,
             refl,
           ),
           refl,
         ))
 
-    pub subscriber_update_is_step : SubscriberUpdateIsStep K payload user_header types is_default is_default_header fixed degrades decides
-        fixed_reader reader_degrades
+    pub subscriber_update_is_step : SubscriberUpdateIsStep K terms_so
     subscriber_update_is_step number who old hub answer there follows =
-        by_step payload user_header variant is_default is_default_header fixed degrades decides fixed_reader reader_degrades
-        (command.Update (port.Subscriber number)) old (hub_after_call old old.made hub) _
-        (λ names most state it. (
+        by_step variant terms (command.Update (port.Subscriber number)) old (hub_after_call old old.made hub) _ (λ names most state it. (
           (
             Some answer,
-            subst (λ (found : Option PortId). AtPort (FollowsPublishersAt hub_ports with_hub_ports (subscriber_may_degrade reader_degrades))
-                found old.hub (Some answer) hub) (sym there) follows,
+            subst (λ (found : Option PortId). AtPort (FollowsPublishersAt hub_ports with_hub_ports
+                (subscriber_may_degrade terms.reader_degrades)) found old.hub (Some answer) hub) (sym there) follows,
             refl,
           ),
           refl,
         ))
 
-    pub subscriber_leave_is_step : SubscriberLeaveIsStep K payload user_header types is_default is_default_header fixed degrades decides
-        fixed_reader reader_degrades
+    pub subscriber_leave_is_step : SubscriberLeaveIsStep K terms_so
     subscriber_leave_is_step number who old hub left there ends =
-        by_step payload user_header variant is_default is_default_header fixed degrades decides fixed_reader reader_degrades
-        (command.Leave (port.Subscriber number)) old _ _
-        (λ names most state it. (
+        by_step variant terms (command.Leave (port.Subscriber number)) old _ _ (λ names most state it. (
           (
             left,
             subst (λ (found : Option PortId). AtPortIf (SubscriberGoes hub_ports with_hub_ports without_hub_subscriber) found old.hub left
@@ -105,17 +91,16 @@ module _ {T U B D : Type 0} (payload user_header : Detail) (variant : TypeVarian
 
     abbrev Received : (number : ℕ) → NumberedHub T U B D → Hub T U B D → Reply T → Result (Option (Sample T U K)) ReceiveError → Type 0
     Received number old hub told answer =
-        Does payload user_header variant is_default is_default_header fixed degrades decides fixed_reader reader_degrades
-        (command.Receive number) old told (hub_after_call old (having_received answer old.made) hub)
+        Does variant terms (command.Receive number) old told (hub_after_call old (having_received answer old.made) hub)
 
     abbrev Numbers : ℕ → NumberedHub T U B D → Hub T U B D → Result (Option (Sample T U K)) ReceiveError
         → Option (Result (Option ℕ) ReceiveError) → Option PortId → Type 0
-    Numbers number old hub answer received found = ReceivesNumbered hub_ports with_hub_ports (subscriber_may_degrade reader_degrades) found
-        old.made old.hub received (having_received answer old.made) hub
+    Numbers number old hub answer received found = ReceivesNumbered hub_ports with_hub_ports (subscriber_may_degrade terms.reader_degrades)
+        found old.made old.hub received (having_received answer old.made) hub
 
     received_does : (number : ℕ) (who : PortId) (old : NumberedHub T U B D) (hub : Hub T U B D) (told : Reply T)
         (received : Result (Option Taken) ReceiveError) → value_at old.made.subscribers number ≡ Some who
-        → TakesMessage hub_ports with_hub_ports (subscriber_may_degrade reader_degrades) who old.hub received hub
+        → TakesMessage hub_ports with_hub_ports (subscriber_may_degrade terms.reader_degrades) who old.hub received hub
         → NumbersRise old
         → IsToldReceived (received_of {T = T} {U = U} {K = K} who received) old.made hub told
         → Received number old hub told (received_of who received)
@@ -160,23 +145,18 @@ module _ {T U B D : Type 0} (payload user_header : Detail) (variant : TypeVarian
       refl,
     )
 
-    pub receive_is_step : ReceiveIsStep K payload user_header types is_default is_default_header fixed degrades decides fixed_reader
-        reader_degrades
+    pub receive_is_step : ReceiveIsStep K terms_so
     receive_is_step number who old hub answer told there (received, takes, is) tells =
-        by_step payload user_header variant is_default is_default_header fixed degrades decides fixed_reader reader_degrades
-        (command.Receive number) old (hub_after_call old (having_received answer old.made) hub) told
+        by_step variant terms (command.Receive number) old (hub_after_call old (having_received answer old.made) hub) told
         (λ names most state it. subst (λ (a : Result (Option (Sample T U K)) ReceiveError). Received number old hub told a) (sym is)
         (received_does number who old hub told received there takes it.ran.rise
         (subst (λ (a : Result (Option (Sample T U K)) ReceiveError). IsToldReceived a old.made hub told) is tells)))
 
     -- ---- samples
 
-    pub payload_is_step : PayloadIsStep K payload user_header types is_default is_default_header fixed degrades decides fixed_reader
-        reader_degrades
+    pub payload_is_step : PayloadIsStep K terms_so
     payload_is_step number made old values there read =
-        by_step payload user_header variant is_default is_default_header fixed degrades decides fixed_reader reader_degrades
-        (command.Read number) old old (reply.Values values)
-        (λ names most state it. (
+        by_step variant terms (command.Read number) old old (reply.Values values) (λ names most state it. (
           subst (λ (found : Option MadeSample). IsReadReply (values_under hub_ports found old.hub) (reply.Values values)) (sym there)
               (subst (λ (found : Option (List T)). IsReadReply found (reply.Values values)) (sym read) (values, refl, refl)),
           refl,
@@ -196,18 +176,15 @@ module _ {T U B D : Type 0} (payload user_header : Detail) (variant : TypeVarian
     drops_so made old hub (Some ports) false held (after, releases, is) =
         absurd (sample_releases made.port.number made.taken ports after held releases)
 
-    pub release_is_step : ReleaseIsStep K payload user_header types is_default is_default_header fixed degrades decides fixed_reader
-        reader_degrades
+    pub release_is_step : ReleaseIsStep K terms_so
     release_is_step number made old hub released there drops =
-        by_step payload user_header variant is_default is_default_header fixed degrades decides fixed_reader reader_degrades
-        (command.Release number) old (hub_after_call old (without_sample number old.made) hub) _
+        by_step variant terms (command.Release number) old (hub_after_call old (without_sample number old.made) hub) _
         (λ names most state it.
         let ports = it.stands.ports in
-        let goes = sample_goes (as_named is_default) degrades decides reader_degrades it.naming it.order old state ports number made there
-        in
-        let held = is_there (as_named is_default) is_default_header degrades decides reader_degrades types it.naming it.order old old
-        state ports
-        number it.ran.grown made there goes.ports goes.found goes.goes goes.mine in (
+        let goes = sample_goes (as_named terms.is_default) terms.degrades terms.decides terms.reader_degrades it.naming it.order old state
+        ports number made there in
+        let held = is_there (as_named terms.is_default) terms.is_default_header terms.degrades terms.decides terms.reader_degrades types
+        it.naming it.order old old state ports number it.ran.grown made there goes.ports goes.found goes.goes goes.mine in (
           (
             true,
             sym (ap (λ (found : Option MadeSample). is_held hub_ports found old.hub) there ∙ held),

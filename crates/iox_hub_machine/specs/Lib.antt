@@ -15,6 +15,7 @@ pub mod LeavingLaws
 pub mod Ran
 pub mod RunLaws
 pub mod GoingOnLaws
+pub mod TypedTerms
 pub mod TypedSteps
 pub mod TypedPublishing
 pub mod TypedSubscribing

@@ -1,14 +1,5 @@
 -- What calls on headers and user headers are in the machine.
-use Rattle.std.specs.Prelude.{ℕ, ◌≡◌, ◌⊎◌, List, Contains, Option, Some, option_map}
-use Rattle.iox_command.specs.DomainValues.declared.backpressure.BackpressureAction.{BackpressureAction}
-use Rattle.iox_command.specs.DomainValues.declared.backpressure.BackpressureDecision.{BackpressureDecision}
-use Rattle.iox_command.specs.DomainValues.declared.backpressure.BackpressureInfo.{BackpressureInfo}
-use Rattle.iox_command.specs.DomainValues.declared.backpressure_strategy.BackpressureStrategy.{BackpressureStrategy}
-use Rattle.iox_command.specs.DomainValues.declared.degradation.DegradationAction.{DegradationAction}
-use Rattle.iox_command.specs.DomainValues.declared.degradation.DegradationCause.{DegradationCause}
-use Rattle.iox_command.specs.DomainValues.declared.degradation.DegradationInfo.{DegradationInfo}
-use Rattle.iox_command.specs.NegotiateBase.DescribeBase.Detail.{Detail}
-use Rattle.iox_command.specs.NegotiateBase.DescribeBase.declared.message_type.MessageTypeDetails.{MessageTypeDetails}
+use Rattle.std.specs.Prelude.{ℕ, ◌≡◌, ◌⊎◌, List, Contains, Some, option_map}
 use Rattle.iox_command.specs.declared.command.Command.{Command}
 use Rattle.iox_command.specs.declared.command.Command.TheVariants as command
 use Rattle.iox_command.specs.declared.reply.Reply.{Reply}
@@ -24,6 +15,7 @@ use Rattle.iox_domain_machine.specs.SentHeaders.{SentHeader}
 use Rattle.iox_hub_base.specs.AsHome.{hub_ports, with_hub_ports}
 use Rattle.iox_hub_base.specs.declared.hub.Hub.{Hub}
 use Rattle.iox_hub_commands.specs.Tables.{port_under}
+use Rattle.iox_hub_commands.specs.Terms.{Terms}
 use Rattle.iox_hub_commands.specs.declared.numbered_hub.NumberedHub.{NumberedHub}
 use Rattle.iox_hub_commands.specs.declared.ports.made.MadeSample.{MadeSample}
 use Rattle.iox_hub_machine.specs.Ports.{among}
@@ -35,15 +27,8 @@ use Rattle.iox_machine.specs.Choices.{as_named}
 use Rattle.iox_machine.specs.Message.{Sample}
 use Rattle.iox_machine.specs.State.{State}
 
--- The two details are those of values and user headers, the types those of the messages; then what is a default value, and a default user
--- header; who decides by fixed actions, and what anybody who decides may answer.
-module _ {T U B D : Type 0} (payload user_header : Detail) (types : MessageTypeDetails) (is_default : T → Type 0)
-    (is_default_header : U → Type 0)
-    (fixed : BackpressureStrategy → Option BackpressureAction → DegradationAction → B)
-    (degrades : B → DegradationCause → DegradationInfo → DegradationAction → Type 0)
-    (decides : B → BackpressureInfo → BackpressureDecision → Type 0)
-    (fixed_reader : DegradationAction → D)
-    (reader_degrades : D → DegradationCause → DegradationInfo → DegradationAction → Type 0) where
+-- The terms of the hub are given.
+module _ {T U B D : Type 0} (terms : Terms T U B D) where
   -- The user header of a loan is written; or it was last behind the reference that `user_header_mut` gave, when that ended.
   abbrev pub ChangesUserHeader : PortId → ℕ → U → Hub T U B D → Hub T U B D → Type 0
   ChangesUserHeader lender slot written old new =
@@ -55,25 +40,24 @@ module _ {T U B D : Type 0} (payload user_header : Detail) (types : MessageTypeD
   UserHeadersKeepStanding = (slot : ℕ) (lender : PortId) (written : U) (old : NumberedHub T U B D) (hub : Hub T U B D)
       (names : List (List ℕ)) (most : ℕ) (state : State T)
       → ChangesUserHeader lender slot written old.hub hub
-      → StandsAfter types (as_named is_default) degrades decides reader_degrades names most old state
-      → StandsAfter types (as_named is_default) degrades decides reader_degrades names most (hub_after_call old old.made hub) state
+      → StandsAfter terms.types (as_named terms.is_default) terms.degrades terms.decides terms.reader_degrades names most old state
+      → StandsAfter terms.types (as_named terms.is_default) terms.degrades terms.decides terms.reader_degrades names most
+      (hub_after_call old old.made hub) state
 
   -- So what a program called of a new hub is the run of the machine that it was: it needs no command.
   abbrev pub UserHeadersNeedNoCommand : Type 0
   UserHeadersNeedNoCommand = (slot : ℕ) (lender : PortId) (written : U) (old : NumberedHub T U B D) (hub : Hub T U B D)
       (names : List (List ℕ)) (asked : List (Command T)) (answers : List (Reply T))
       → ChangesUserHeader lender slot written old.hub hub
-      → HasCalled payload user_header types is_default is_default_header fixed degrades decides fixed_reader reader_degrades names asked
-      answers old
-      → HasCalled payload user_header types is_default is_default_header fixed degrades decides fixed_reader reader_degrades names asked
-      answers (hub_after_call old old.made hub)
+      → HasCalled terms names asked answers old
+      → HasCalled terms names asked answers (hub_after_call old old.made hub)
 
   -- The header of a sample that goes by a number tells the sequence number of the machine's sample. Where a publisher of the sample's
   -- domain goes by a number, and the header tells its id, that is the publisher of the machine's sample.
   abbrev pub HeaderNamesPublisher : Type 0
   HeaderNamesPublisher = (names : List (List ℕ)) (most : ℕ) (hub : NumberedHub T U B D) (state : State T) (number : ℕ) (made : MadeSample)
       (header : Header)
-      → StandsAfter types (as_named is_default) degrades decides reader_degrades names most hub state
+      → StandsAfter terms.types (as_named terms.is_default) terms.degrades terms.decides terms.reader_degrades names most hub state
       → value_at hub.made.samples number ≡ Some made
       → header_found made.taken (hub_ports made.port.domain hub.hub) ≡ Some header
       → (sample : Sample T) × (among (λ service. service.samples) number state.services ≡ Some sample)
@@ -86,8 +70,7 @@ module _ {T U B D : Type 0} (payload user_header : Detail) (types : MessageTypeD
   HeaderIsStep = (number : ℕ) (made : MadeSample) (old : NumberedHub T U B D) (header : Header)
       → value_at old.made.samples number ≡ Some made
       → header_found made.taken (hub_ports made.port.domain old.hub) ≡ Some header
-      → IsStepBy payload user_header types is_default is_default_header fixed degrades decides fixed_reader reader_degrades
-      (command.Sequence number) old (reply.Sequence header.sequence) old
+      → IsStepBy terms (command.Sequence number) old (reply.Sequence header.sequence) old
 
   -- What a sample that goes by a number tells in its header and its user header was told as a send began, by its domain's own numbers: of a
   -- message with the values and the sequence number of the machine's sample. Where a publisher of the sample's domain goes by a number,
@@ -95,7 +78,7 @@ module _ {T U B D : Type 0} (payload user_header : Detail) (types : MessageTypeD
   abbrev pub HeaderReadAsSent : Type 0
   HeaderReadAsSent = (names : List (List ℕ)) (most : ℕ) (hub : NumberedHub T U B D) (state : State T) (number : ℕ) (made : MadeSample)
       (sent : List (SentHeader T U))
-      → StandsAfter types (as_named is_default) degrades decides reader_degrades names most hub state
+      → StandsAfter terms.types (as_named terms.is_default) terms.degrades terms.decides terms.reader_degrades names most hub state
       → value_at hub.made.samples number ≡ Some made → TellInHub sent made.port.domain hub.hub
       → (sample : Sample T) × (among (λ service. service.samples) number state.services ≡ Some sample)
       × (told : SentHeader T U) × Contains sent told

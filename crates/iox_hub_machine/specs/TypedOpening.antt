@@ -1,15 +1,6 @@
 -- What a typed call is in the machine that creates a service, opens one, or does either, and by which nodes outside the hub act on one.
-use Rattle.std.specs.Prelude.{ℕ, ◌≡◌, true, List, Option, Some, Result}
+use Rattle.std.specs.Prelude.{ℕ, ◌≡◌, true, List, Some, Result}
 use Rattle.std.specs.List.{AllByRecursion}
-use Rattle.iox_command.specs.DomainValues.declared.backpressure.BackpressureAction.{BackpressureAction}
-use Rattle.iox_command.specs.DomainValues.declared.backpressure.BackpressureDecision.{BackpressureDecision}
-use Rattle.iox_command.specs.DomainValues.declared.backpressure.BackpressureInfo.{BackpressureInfo}
-use Rattle.iox_command.specs.DomainValues.declared.backpressure_strategy.BackpressureStrategy.{BackpressureStrategy}
-use Rattle.iox_command.specs.DomainValues.declared.degradation.DegradationAction.{DegradationAction}
-use Rattle.iox_command.specs.DomainValues.declared.degradation.DegradationCause.{DegradationCause}
-use Rattle.iox_command.specs.DomainValues.declared.degradation.DegradationInfo.{DegradationInfo}
-use Rattle.iox_command.specs.NegotiateBase.DescribeBase.Detail.{Detail}
-use Rattle.iox_command.specs.NegotiateBase.DescribeBase.declared.message_type.MessageTypeDetails.{MessageTypeDetails}
 use Rattle.iox_command.specs.NegotiateBase.DescribeBase.Attributes.{Required}
 use Rattle.iox_command.specs.NegotiateBase.DescribeBase.declared.attribute.Attribute.{Attribute}
 use Rattle.iox_command.specs.NegotiateBase.DescribeBase.declared.pattern.MessagingPattern.{MessagingPattern}
@@ -29,7 +20,9 @@ use Rattle.iox_hub_commands.specs.Opening.{OpensAs}
 use Rattle.iox_hub_commands.specs.Replies.{factory_reply, foreign_reply}
 use Rattle.iox_hub_commands.specs.ServicesTables.{FactoryTable}
 use Rattle.iox_hub_commands.specs.Steps.{PublishesInForm, list_of, lists_of}
+use Rattle.iox_hub_commands.specs.Terms.{Terms}
 use Rattle.iox_hub_commands.specs.declared.numbered_hub.NumberedHub.{NumberedHub}
+use Rattle.iox_hub_machine.specs.TypedServices.{NewNodeIsStep, SubscriberIsStep}
 use Rattle.iox_hub_machine.specs.TypedSteps.{IsStepBy, hub_after_call}
 
 module _ {T U B D : Type 0} where
@@ -38,53 +31,54 @@ module _ {T U B D : Type 0} where
   opened_then old table hub = record old { hub = hub; factories = record { made = table } }
 
 -- A node of a hub asks for a service, as options ask, with lists of steps of nodes outside it before the accesses: those that the command
--- names, of which what is published has the form of a description. A factory that was made goes by the next number. The two details are
--- those of values and user headers, the types those of the messages; then what is a default value, and a default user header; who decides
--- by fixed actions, and what anybody who decides may answer.
-module _ {T U B D : Type 0} (payload user_header : Detail) (types : MessageTypeDetails) (is_default : T → Type 0)
-    (is_default_header : U → Type 0)
-    (fixed : BackpressureStrategy → Option BackpressureAction → DegradationAction → B)
-    (degrades : B → DegradationCause → DegradationInfo → DegradationAction → Type 0)
-    (decides : B → BackpressureInfo → BackpressureDecision → Type 0)
-    (fixed_reader : DegradationAction → D)
-    (reader_degrades : D → DegradationCause → DegradationInfo → DegradationAction → Type 0) where
+-- names, of which what is published has the form of a description. A factory that was made goes by the next number. The terms of the hub
+-- are given.
+module _ {T U B D : Type 0} (terms : Terms T U B D) where
   -- The service is created, with these attributes.
   abbrev pub CreateIsStep : Type 0
   CreateIsStep = (node : ℕ) (name : List ℕ) (named : ServiceOptions) (attributes : List Attribute) (steps : List StepBefore)
       (old : NumberedHub T U B D) (hub : Hub T U B D) (answer : Result ℕ Refusal) (table : FactoryTable)
       → is_node node old.hub.nodes ≡ true
-      → AllByRecursion (AllByRecursion PublishesInForm) (lists_of name types steps)
-      → CreatesAs named payload user_header types node name attributes (lists_of name types steps) old.factories.made old.hub answer table
-      hub
-      → IsStepBy payload user_header types is_default is_default_header fixed degrades decides fixed_reader reader_degrades
-      (command.Create node name named attributes steps) old (factory_reply (Some answer)) (opened_then old table hub)
+      → AllByRecursion (AllByRecursion PublishesInForm) (lists_of name terms.types steps)
+      → CreatesAs named terms.payload terms.user_header terms.types node name attributes (lists_of name terms.types steps)
+      old.factories.made old.hub answer table hub
+      → IsStepBy terms (command.Create node name named attributes steps) old (factory_reply (Some answer)) (opened_then old table hub)
 
   -- The service is opened, if it has what is required of attributes.
   abbrev pub OpenIsStep : Type 0
   OpenIsStep = (node : ℕ) (name : List ℕ) (named : ServiceOptions) (required : Required) (steps : List StepBefore)
       (old : NumberedHub T U B D) (hub : Hub T U B D) (answer : Result ℕ Refusal) (table : FactoryTable)
       → is_node node old.hub.nodes ≡ true
-      → AllByRecursion (AllByRecursion PublishesInForm) (lists_of name types steps)
-      → OpensAs named payload user_header types node name required (lists_of name types steps) old.factories.made old.hub answer table hub
-      → IsStepBy payload user_header types is_default is_default_header fixed degrades decides fixed_reader reader_degrades
-      (command.Open node name named required steps) old (factory_reply (Some answer)) (opened_then old table hub)
+      → AllByRecursion (AllByRecursion PublishesInForm) (lists_of name terms.types steps)
+      → OpensAs named terms.payload terms.user_header terms.types node name required (lists_of name terms.types steps) old.factories.made
+      old.hub answer table hub
+      → IsStepBy terms (command.Open node name named required steps) old (factory_reply (Some answer)) (opened_then old table hub)
 
   -- The service is opened, or created with the required pairs where none stands.
   abbrev pub OpenOrCreateIsStep : Type 0
   OpenOrCreateIsStep = (node : ℕ) (name : List ℕ) (named : ServiceOptions) (required : Required) (steps : List StepBefore)
       (old : NumberedHub T U B D) (hub : Hub T U B D) (answer : Result ℕ Refusal) (table : FactoryTable)
       → is_node node old.hub.nodes ≡ true
-      → AllByRecursion (AllByRecursion PublishesInForm) (lists_of name types steps)
-      → EitherAs named payload user_header types node name required (lists_of name types steps) old.factories.made old.hub answer table hub
-      → IsStepBy payload user_header types is_default is_default_header fixed degrades decides fixed_reader reader_degrades
-      (command.OpenOrCreate node name named required steps) old (factory_reply (Some answer)) (opened_then old table hub)
+      → AllByRecursion (AllByRecursion PublishesInForm) (lists_of name terms.types steps)
+      → EitherAs named terms.payload terms.user_header terms.types node name required (lists_of name terms.types steps) old.factories.made
+      old.hub answer table hub
+      → IsStepBy terms (command.OpenOrCreate node name named required steps) old (factory_reply (Some answer)) (opened_then old table hub)
 
   -- Nodes outside the hub do steps on the service of a pattern and name: those that the command names, of which what is published has the
   -- form of a description.
   abbrev pub ForeignIsStep : Type 0
   ForeignIsStep = (kind : MessagingPattern) (name : List ℕ) (steps : List Named) (old : NumberedHub T U B D) (hub : Hub T U B D)
       (answer : Result (Unit {0}) HubError)
-      → AllByRecursion PublishesInForm (list_of name types steps)
-      → ActsOn (service_hash_of kind name) (list_of name types steps) old.hub answer hub
-      → IsStepBy payload user_header types is_default is_default_header fixed degrades decides fixed_reader reader_degrades
-      (command.Foreign kind name steps) old (foreign_reply answer) (hub_after_call old old.made hub)
+      → AllByRecursion PublishesInForm (list_of name terms.types steps)
+      → ActsOn (service_hash_of kind name) (list_of name terms.types steps) old.hub answer hub
+      → IsStepBy terms (command.Foreign kind name steps) old (foreign_reply answer) (hub_after_call old old.made hub)
+
+  -- By the command that asks for the same, each of these is a step: a node is made, a service is created, opened, or either, nodes outside
+  -- the hub act on one, and a subscriber comes.
+  pub record ServiceCallsAreSteps : Type 0 where
+    pub node : NewNodeIsStep terms
+    pub create : CreateIsStep
+    pub opening : OpenIsStep
+    pub either : OpenOrCreateIsStep
+    pub foreign : ForeignIsStep
+    pub subscriber : SubscriberIsStep terms

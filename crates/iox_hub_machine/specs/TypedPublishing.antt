@@ -1,14 +1,5 @@
 -- What each call of a typed publisher, of its loans and of its sends that wait is in the machine.
 use Rattle.std.specs.Prelude.{ℕ, ◌≡◌, Bool, true, false, length, List, ◌∷◌, [], Option, Some, Result}
-use Rattle.iox_command.specs.DomainValues.declared.backpressure.BackpressureAction.{BackpressureAction}
-use Rattle.iox_command.specs.DomainValues.declared.backpressure.BackpressureDecision.{BackpressureDecision}
-use Rattle.iox_command.specs.DomainValues.declared.backpressure.BackpressureInfo.{BackpressureInfo}
-use Rattle.iox_command.specs.DomainValues.declared.backpressure_strategy.BackpressureStrategy.{BackpressureStrategy}
-use Rattle.iox_command.specs.DomainValues.declared.degradation.DegradationAction.{DegradationAction}
-use Rattle.iox_command.specs.DomainValues.declared.degradation.DegradationCause.{DegradationCause}
-use Rattle.iox_command.specs.DomainValues.declared.degradation.DegradationInfo.{DegradationInfo}
-use Rattle.iox_command.specs.NegotiateBase.DescribeBase.Detail.{Detail}
-use Rattle.iox_command.specs.NegotiateBase.DescribeBase.declared.message_type.MessageTypeDetails.{MessageTypeDetails}
 use Rattle.iox_command.specs.DomainValues.declared.connection_failure.ConnectionFailure.{ConnectionFailure}
 use Rattle.iox_command.specs.DomainValues.declared.port_error.LoanError.{LoanError}
 use Rattle.iox_command.specs.DomainValues.declared.port_error.SendError.{SendError}
@@ -33,27 +24,21 @@ use Rattle.iox_hub_commands.specs.Loans.{is_filled, is_set}
 use Rattle.iox_hub_commands.specs.Numbering.{removed_if}
 use Rattle.iox_hub_commands.specs.Replies.{done_reply, given_up_reply, updated_reply}
 use Rattle.iox_hub_commands.specs.Tables.{port_under, without_loan, without_publisher}
+use Rattle.iox_hub_commands.specs.Terms.{Terms}
 use Rattle.iox_hub_commands.specs.declared.numbered_hub.NumberedHub.{NumberedHub}
 use Rattle.iox_hub_commands.specs.declared.ports.made.MadeLoan.{MadeLoan}
 use Rattle.iox_hub_machine.specs.TypedSteps.{IsStepBy, having_lent, hub_after_call, told_loan, told_sent}
 
--- Publishers and loans are of one kind: single values, or slices. The two details are those of values and user headers, the types those of
--- the messages; then what is a default value, and a default user header; who decides by fixed actions, and what anybody who decides may
--- answer. Each publisher and each loan of which a call is goes by a number.
-module _ {T U B D : Type 0} (K : Type 0) (payload user_header : Detail) (types : MessageTypeDetails) (is_default : T → Type 0)
-    (is_default_header : U → Type 0)
-    (fixed : BackpressureStrategy → Option BackpressureAction → DegradationAction → B)
-    (degrades : B → DegradationCause → DegradationInfo → DegradationAction → Type 0)
-    (decides : B → BackpressureInfo → BackpressureDecision → Type 0)
-    (fixed_reader : DegradationAction → D)
-    (reader_degrades : D → DegradationCause → DegradationInfo → DegradationAction → Type 0) where
+-- Publishers and loans are of one kind: single values, or slices. The terms of the hub are given. Each publisher and each loan of which a
+-- call is goes by a number.
+module _ {T U B D : Type 0} (K : Type 0) (terms : Terms T U B D) where
   -- A publisher lends so many values to be written. With one value that is `loan_uninit`, too.
   abbrev pub LoanUninitIsStep : Type 0
   LoanUninitIsStep = (number length : ℕ) (lender : PortId) (old : NumberedHub T U B D) (hub : Hub T U B D)
       (answer : Result (Lent T U K Uninit) LoanError)
       → port_under (value_at old.made.publishers number) ≡ Some lender
       → LendsSlice hub_ports with_hub_ports lender length old.hub answer hub
-      → IsStepBy payload user_header types is_default is_default_header fixed degrades decides fixed_reader reader_degrades
+      → IsStepBy terms
       (command.LoanUninit number length) old (told_loan answer old.made) (hub_after_call old (having_lent answer old.made) hub)
 
   -- A publisher of which no send waits lends so many values that are written: each is one default.
@@ -62,9 +47,8 @@ module _ {T U B D : Type 0} (K : Type 0) (payload user_header : Detail) (types :
       (answer : Result (Lent T U K Written) LoanError)
       → port_under (value_at old.made.publishers number) ≡ Some lender
       → publisher_blocked lender.number (hub_ports lender.domain old.hub) ≡ false
-      → LendsDefaults hub_ports with_hub_ports is_default lender length old.hub answer hub
-      → IsStepBy payload user_header types is_default is_default_header fixed degrades decides fixed_reader reader_degrades
-      (command.Loan number length) old (told_loan answer old.made) (hub_after_call old (having_lent answer old.made) hub)
+      → LendsDefaults hub_ports with_hub_ports terms.is_default lender length old.hub answer hub
+      → IsStepBy terms (command.Loan number length) old (told_loan answer old.made) (hub_after_call old (having_lent answer old.made) hub)
 
   -- A publisher of which no send waits lends one value that is written: a default.
   abbrev pub LoanOfOneIsStep : Type 0
@@ -72,9 +56,8 @@ module _ {T U B D : Type 0} (K : Type 0) (payload user_header : Detail) (types :
       (answer : Result (Lent T U K Written) LoanError)
       → port_under (value_at old.made.publishers number) ≡ Some lender
       → publisher_blocked lender.number (hub_ports lender.domain old.hub) ≡ false
-      → LendsDefault hub_ports with_hub_ports is_default lender old.hub answer hub
-      → IsStepBy payload user_header types is_default is_default_header fixed degrades decides fixed_reader reader_degrades
-      (command.Loan number 1) old (told_loan answer old.made) (hub_after_call old (having_lent answer old.made) hub)
+      → LendsDefault hub_ports with_hub_ports terms.is_default lender old.hub answer hub
+      → IsStepBy terms (command.Loan number 1) old (told_loan answer old.made) (hub_after_call old (having_lent answer old.made) hub)
 
   -- Values are lent of a publisher of which no send waits, written and sent.
   abbrev pub SendSliceIsStep : Type 0
@@ -82,9 +65,9 @@ module _ {T U B D : Type 0} (K : Type 0) (payload user_header : Detail) (types :
       (answer : Result (Sent T U) SendError)
       → port_under (value_at old.made.publishers number) ≡ Some lender
       → publisher_blocked lender.number (hub_ports lender.domain old.hub) ≡ false
-      → SendsSlice hub_ports with_hub_ports (publisher_may_degrade degrades) (publisher_may_decide decides) lender values old.hub answer hub
-      → IsStepBy payload user_header types is_default is_default_header fixed degrades decides fixed_reader reader_degrades
-      (command.Put number values) old (told_sent answer) (hub_after_call old old.made hub)
+      → SendsSlice hub_ports with_hub_ports (publisher_may_degrade terms.degrades) (publisher_may_decide terms.decides) lender values
+      old.hub answer hub
+      → IsStepBy terms (command.Put number values) old (told_sent answer) (hub_after_call old old.made hub)
 
   -- One value is lent of a publisher of which no send waits, written and sent.
   abbrev pub SendCopyIsStep : Type 0
@@ -92,16 +75,16 @@ module _ {T U B D : Type 0} (K : Type 0) (payload user_header : Detail) (types :
       (answer : Result (Sent T U) SendError)
       → port_under (value_at old.made.publishers number) ≡ Some lender
       → publisher_blocked lender.number (hub_ports lender.domain old.hub) ≡ false
-      → SendsCopy hub_ports with_hub_ports (publisher_may_degrade degrades) (publisher_may_decide decides) lender value old.hub answer hub
-      → IsStepBy payload user_header types is_default is_default_header fixed degrades decides fixed_reader reader_degrades
-      (command.Put number (value ∷ [])) old (told_sent answer) (hub_after_call old old.made hub)
+      → SendsCopy hub_ports with_hub_ports (publisher_may_degrade terms.degrades) (publisher_may_decide terms.decides) lender value old.hub
+      answer hub
+      → IsStepBy terms (command.Put number (value ∷ [])) old (told_sent answer) (hub_after_call old old.made hub)
 
   -- All values of a loan are written, if it has as many; else the command is skipped, and nothing is written.
   abbrev pub WriteIsStep : Type 0
   WriteIsStep = (number : ℕ) (made : MadeLoan) (values : List T) (old : NumberedHub T U B D) (hub : Hub T U B D)
       → value_at old.made.loans number ≡ Some made
       → WritesAll hub_ports with_hub_ports made.port made.slot values old.hub hub
-      → IsStepBy payload user_header types is_default is_default_header fixed degrades decides fixed_reader reader_degrades
+      → IsStepBy terms
       (command.Fill number values) old (done_reply (is_filled hub_ports values (Some made) old.hub)) (hub_after_call old old.made hub)
 
   -- The value of a loan is written, if it has one; else the command is skipped, and nothing is written.
@@ -109,8 +92,7 @@ module _ {T U B D : Type 0} (K : Type 0) (payload user_header : Detail) (types :
   WriteOneIsStep = (number : ℕ) (made : MadeLoan) (value : T) (old : NumberedHub T U B D) (hub : Hub T U B D)
       → value_at old.made.loans number ≡ Some made
       → WritesPayload hub_ports with_hub_ports made.port made.slot value old.hub hub
-      → IsStepBy payload user_header types is_default is_default_header fixed degrades decides fixed_reader reader_degrades
-      (command.Fill number (value ∷ [])) old (done_reply (is_filled hub_ports (value ∷ []) (Some made) old.hub))
+      → IsStepBy terms (command.Fill number (value ∷ [])) old (done_reply (is_filled hub_ports (value ∷ []) (Some made) old.hub))
       (hub_after_call old old.made hub)
 
   -- Values are written one after the other in a loan of as many: so `write_from_fn` does with those that are made for it.
@@ -119,7 +101,7 @@ module _ {T U B D : Type 0} (K : Type 0) (payload user_header : Detail) (types :
       → value_at old.made.loans number ≡ Some made
       → loan_found made.port.number made.slot (hub_ports made.port.domain old.hub) ≡ Some loan → length loan.values ≡ length values
       → WritesEach hub_ports with_hub_ports made.port made.slot values old.hub hub
-      → IsStepBy payload user_header types is_default is_default_header fixed degrades decides fixed_reader reader_degrades
+      → IsStepBy terms
       (command.Fill number values) old (done_reply (is_filled hub_ports values (Some made) old.hub)) (hub_after_call old old.made hub)
 
   -- A value of a loan that is written changes at a place that it has: this one was last behind the reference that `payload_mut` or
@@ -129,34 +111,30 @@ module _ {T U B D : Type 0} (K : Type 0) (payload user_header : Detail) (types :
       → value_at old.made.loans number ≡ Some made
       → is_set place (loan_found made.port.number made.slot (hub_ports made.port.domain old.hub)) ≡ true
       → hub ≡ loan_changed hub_ports with_hub_ports made.port made.slot (write_value place value) old.hub
-      → IsStepBy payload user_header types is_default is_default_header fixed degrades decides fixed_reader reader_degrades
-      (command.Set number place value) old (done_reply true) (hub_after_call old old.made hub)
+      → IsStepBy terms (command.Set number place value) old (done_reply true) (hub_after_call old old.made hub)
 
   -- A loan is given up: it is spent.
   abbrev pub DropIsStep : Type 0
   DropIsStep = (number : ℕ) (made : MadeLoan) (old : NumberedHub T U B D) (hub : Hub T U B D)
       → value_at old.made.loans number ≡ Some made
       → GivesUpLoan hub_ports with_hub_ports made.port made.slot old.hub hub
-      → IsStepBy payload user_header types is_default is_default_header fixed degrades decides fixed_reader reader_degrades
-      (command.Drop number) old (done_reply true) (hub_after_call old (without_loan number old.made) hub)
+      → IsStepBy terms (command.Drop number) old (done_reply true) (hub_after_call old (without_loan number old.made) hub)
 
   -- A loan is sent: it is spent.
   abbrev pub SendIsStep : Type 0
   SendIsStep = (number : ℕ) (made : MadeLoan) (old : NumberedHub T U B D) (hub : Hub T U B D) (answer : Result (Sent T U) SendError)
       → value_at old.made.loans number ≡ Some made
-      → SendsSample hub_ports with_hub_ports (publisher_may_degrade degrades) (publisher_may_decide decides) made.port made.slot old.hub
-      answer hub
-      → IsStepBy payload user_header types is_default is_default_header fixed degrades decides fixed_reader reader_degrades
-      (command.Send number) old (told_sent answer) (hub_after_call old (without_loan number old.made) hub)
+      → SendsSample hub_ports with_hub_ports (publisher_may_degrade terms.degrades) (publisher_may_decide terms.decides) made.port made.slot
+      old.hub answer hub
+      → IsStepBy terms (command.Send number) old (told_sent answer) (hub_after_call old (without_loan number old.made) hub)
 
   -- A send that waits is tried again, after so many nanoseconds.
   abbrev pub RetryIsStep : Type 0
   RetryIsStep = (number nanoseconds : ℕ) (sender : PortId) (old : NumberedHub T U B D) (hub : Hub T U B D)
       (answer : Result (Sent T U) SendError)
       → port_under (value_at old.made.publishers number) ≡ Some sender
-      → RetriesSend hub_ports with_hub_ports (publisher_may_decide decides) sender nanoseconds old.hub answer hub
-      → IsStepBy payload user_header types is_default is_default_header fixed degrades decides fixed_reader reader_degrades
-      (command.Retry number nanoseconds) old (told_sent answer) (hub_after_call old old.made hub)
+      → RetriesSend hub_ports with_hub_ports (publisher_may_decide terms.decides) sender nanoseconds old.hub answer hub
+      → IsStepBy terms (command.Retry number nanoseconds) old (told_sent answer) (hub_after_call old old.made hub)
 
   -- A send that waits is given up, and it is told to how many it went: so `give_up` does, and `drop_with`, which is told None where none
   -- waits.
@@ -164,23 +142,38 @@ module _ {T U B D : Type 0} (K : Type 0) (payload user_header : Detail) (types :
   GiveUpIsStep = (number : ℕ) (sender : PortId) (old : NumberedHub T U B D) (hub : Hub T U B D) (answer : Option ℕ)
       → port_under (value_at old.made.publishers number) ≡ Some sender
       → EndsSend hub_ports with_hub_ports sender old.hub answer hub
-      → IsStepBy payload user_header types is_default is_default_header fixed degrades decides fixed_reader reader_degrades
-      (command.GiveUp number) old (given_up_reply answer) (hub_after_call old old.made hub)
+      → IsStepBy terms (command.GiveUp number) old (given_up_reply answer) (hub_after_call old old.made hub)
 
   -- A publisher follows the list of subscribers.
   abbrev pub PublisherUpdateIsStep : Type 0
   PublisherUpdateIsStep = (number : ℕ) (follower : PortId) (old : NumberedHub T U B D) (hub : Hub T U B D)
       (answer : Result (Unit {0}) ConnectionFailure)
       → port_under (value_at old.made.publishers number) ≡ Some follower
-      → FollowsSubscribers hub_ports with_hub_ports (publisher_may_degrade degrades) follower old.hub answer hub
-      → IsStepBy payload user_header types is_default is_default_header fixed degrades decides fixed_reader reader_degrades
-      (command.Update (port.Publisher number)) old (updated_reply (Some answer)) (hub_after_call old old.made hub)
+      → FollowsSubscribers hub_ports with_hub_ports (publisher_may_degrade terms.degrades) follower old.hub answer hub
+      → IsStepBy terms (command.Update (port.Publisher number)) old (updated_reply (Some answer)) (hub_after_call old old.made hub)
 
   -- A publisher leaves, and is spent: so `leave` does, and `drop_with`, which hands it back where it can't.
   abbrev pub PublisherLeaveIsStep : Type 0
   PublisherLeaveIsStep = (number : ℕ) (leaver : PortId) (old : NumberedHub T U B D) (hub : Hub T U B D) (left : Bool)
       → port_under (value_at old.made.publishers number) ≡ Some leaver
       → EndsPublisher hub_ports with_hub_ports without_hub_publisher leaver old.hub left hub
-      → IsStepBy payload user_header types is_default is_default_header fixed degrades decides fixed_reader reader_degrades
-      (command.Leave (port.Publisher number)) old (done_reply left)
+      → IsStepBy terms (command.Leave (port.Publisher number)) old (done_reply left)
       (hub_after_call old (removed_if left (without_publisher number) old.made) hub)
+
+  -- Each call of a publisher, of its loans and of its sends that wait is a step, by the command that asks for the same.
+  pub record PublisherCallsAreSteps : Type 0 where
+    pub loan_uninit : LoanUninitIsStep
+    pub loan : LoanIsStep
+    pub loan_of_one : LoanOfOneIsStep
+    pub write : WriteIsStep
+    pub write_one : WriteOneIsStep
+    pub write_each : WriteEachIsStep
+    pub change : ChangeIsStep
+    pub send_slice : SendSliceIsStep
+    pub send_copy : SendCopyIsStep
+    pub send : SendIsStep
+    pub drop : DropIsStep
+    pub retry : RetryIsStep
+    pub give_up : GiveUpIsStep
+    pub update : PublisherUpdateIsStep
+    pub leave : PublisherLeaveIsStep

@@ -1,16 +1,7 @@
 -- What a program may do with what it holds, and what it reads of samples.
-use Rattle.std.specs.Prelude.{ℕ, ◌+◌, ◌^◌, ◌<◌, ◌≡◌, true, List, length, find, is_some, Option, Some, Ok}
+use Rattle.std.specs.Prelude.{ℕ, ◌+◌, ◌^◌, ◌<◌, ◌≡◌, true, List, length, find, is_some, Some, Ok}
 use Rattle.std.specs.Global.{Vec}
 use Rattle.std.specs.Vec.{vec_items}
-use Rattle.iox_command.specs.DomainValues.declared.backpressure.BackpressureAction.{BackpressureAction}
-use Rattle.iox_command.specs.DomainValues.declared.backpressure.BackpressureDecision.{BackpressureDecision}
-use Rattle.iox_command.specs.DomainValues.declared.backpressure.BackpressureInfo.{BackpressureInfo}
-use Rattle.iox_command.specs.DomainValues.declared.backpressure_strategy.BackpressureStrategy.{BackpressureStrategy}
-use Rattle.iox_command.specs.DomainValues.declared.degradation.DegradationAction.{DegradationAction}
-use Rattle.iox_command.specs.DomainValues.declared.degradation.DegradationCause.{DegradationCause}
-use Rattle.iox_command.specs.DomainValues.declared.degradation.DegradationInfo.{DegradationInfo}
-use Rattle.iox_command.specs.NegotiateBase.DescribeBase.Detail.{Detail}
-use Rattle.iox_command.specs.NegotiateBase.DescribeBase.declared.message_type.MessageTypeDetails.{MessageTypeDetails}
 use Rattle.iox_command.specs.declared.command.Command.{Command}
 use Rattle.iox_command.specs.declared.command.Command.TheVariants as command
 use Rattle.iox_command.specs.declared.reply.Reply.{Reply}
@@ -25,6 +16,7 @@ use Rattle.iox_hub_base.specs.declared.hub.Hub.{Hub}
 use Rattle.iox_hub_commands.specs.CommandSteps.{subscriber_may_degrade}
 use Rattle.iox_hub_commands.specs.Reading.{values_under}
 use Rattle.iox_hub_commands.specs.Tables.{port_under}
+use Rattle.iox_hub_commands.specs.Terms.{Terms}
 use Rattle.iox_hub_commands.specs.declared.numbered_hub.NumberedHub.{NumberedHub}
 use Rattle.iox_hub_commands.specs.declared.ports.made.MadeLoan.{MadeLoan}
 use Rattle.iox_hub_commands.specs.declared.ports.made.MadeSample.{MadeSample}
@@ -53,44 +45,37 @@ pub record MayBeUsed {T U B D : Type 0} (hub : NumberedHub T U B D) : Type 0 whe
       → holds_message made.port.number made.taken (hub_ports made.port.domain hub.hub) ≡ true
 
 -- Where a hub stands for a state what its program holds may be used.
-abbrev pub HeldMayBeUsed : (U : Type 0) → {T B D : Type 0} → MessageTypeDetails → (T → Type 0)
-    → (B → DegradationCause → DegradationInfo → DegradationAction → Type 0)
-    → (B → BackpressureInfo → BackpressureDecision → Type 0) → (D → DegradationCause → DegradationInfo → DegradationAction → Type 0)
-    → Type 0
-HeldMayBeUsed U {T} {B} {D} types is_default degrades decides reader_degrades = (names : List (List ℕ)) (most : ℕ)
-    (hub : NumberedHub T U B D) (state : State T)
-    → StandsAfter types (as_named is_default) degrades decides reader_degrades names most hub state → MayBeUsed hub
+abbrev pub HeldMayBeUsed : {T U B D : Type 0} → Terms T U B D → Type 0
+HeldMayBeUsed {T} {U} {B} {D} terms = (names : List (List ℕ)) (most : ℕ) (hub : NumberedHub T U B D) (state : State T)
+    → StandsAfter terms.types (as_named terms.is_default) terms.degrades terms.decides terms.reader_degrades names most hub state
+    → MayBeUsed hub
 
--- Samples are of one kind: single values, or slices. The two details are those of values and user headers, the types those of the messages;
--- then what is a default value, and a default user header; who decides by fixed actions, and what anybody who decides may answer.
-module _ {T U B D : Type 0} (K : Type 0) (payload user_header : Detail) (types : MessageTypeDetails) (is_default : T → Type 0)
-    (is_default_header : U → Type 0)
-    (fixed : BackpressureStrategy → Option BackpressureAction → DegradationAction → B)
-    (degrades : B → DegradationCause → DegradationInfo → DegradationAction → Type 0)
-    (decides : B → BackpressureInfo → BackpressureDecision → Type 0)
-    (fixed_reader : DegradationAction → D)
-    (reader_degrades : D → DegradationCause → DegradationInfo → DegradationAction → Type 0) where
+-- Samples are of one kind: single values, or slices. The terms of the hub are given.
+module _ {T U B D : Type 0} (K : Type 0) (terms : Terms T U B D) where
   -- The values that a subscriber received after a run of the machine were sent in that run, by a publisher of the subscriber's own service,
   -- which was of it from that send on.
   pub record WasSent (buffer : ℕ) (asked : List (Command T)) (answers : List (Reply T)) (state : State T)
-      (run : Runs types (as_named is_default) buffer asked new_state answers state) (subscriber : ℕ) (values : List T) : Type 0 where
-    pub publisher : ℕ
-    pub service : Service T
-    pub receives : find (λ other. is_some (subscriber_in subscriber other)) state.services ≡ Some service
-    pub sends : find (λ other. is_some (at publisher other.publishers)) state.services ≡ Some service
-    pub began : BeganIn types (as_named is_default) buffer publisher service.name service.settings values asked new_state answers state run
+      (run : Runs terms.types (as_named terms.is_default) buffer asked new_state answers state) (subscriber : ℕ) (values : List T) : Type 0
+    where
+      pub publisher : ℕ
+      pub service : Service T
+      pub receives : find (λ other. is_some (subscriber_in subscriber other)) state.services ≡ Some service
+      pub sends : find (λ other. is_some (at publisher other.publishers)) state.services ≡ Some service
+      pub began : BeganIn terms.types (as_named terms.is_default) buffer publisher service.name service.settings values asked new_state
+          answers state run
 
   -- What the payload of a sample gives that just came was sent. The calls of the program were a run of the machine, with these commands and
   -- answers, and the hub stands for what that led to; the values fit in a vector; the other premises are those of each step.
   abbrev pub PayloadWasSent : Type 0
   PayloadWasSent = (names : List (List ℕ)) (most : ℕ) (asked : List (Command T)) (answers : List (Reply T)) (state : State T)
       (old : NumberedHub T U B D) (hub : Hub T U B D)
-      (run : Runs types (as_named is_default) old.hub.expired_connection_buffer asked new_state answers state)
+      (run : Runs terms.types (as_named terms.is_default) old.hub.expired_connection_buffer asked new_state answers state)
       (subscriber : ℕ) (receiver : PortId) (sample : Sample T U K) (values : List T)
-      → DecidesAsFixed fixed degrades decides → AnswersAsFixed fixed_reader reader_degrades → HaveOwnHashes names → most + 1 < 2 ^ 56
-      → StandsAfter types (as_named is_default) degrades decides reader_degrades names most old state
+      → DecidesAsFixed terms.fixed terms.degrades terms.decides → AnswersAsFixed terms.fixed_reader terms.reader_degrades
+      → HaveOwnHashes names → most + 1 < 2 ^ 56
+      → StandsAfter terms.types (as_named terms.is_default) terms.degrades terms.decides terms.reader_degrades names most old state
       → value_at old.made.subscribers subscriber ≡ Some receiver
-      → ReceivesSample hub_ports with_hub_ports (subscriber_may_degrade reader_degrades) receiver old.hub (Ok (Some sample)) hub
+      → ReceivesSample hub_ports with_hub_ports (subscriber_may_degrade terms.reader_degrades) receiver old.hub (Ok (Some sample)) hub
       → payload_there sample hub ≡ Some values → length values < 2 ^ 63
       → WasSent old.hub.expired_connection_buffer asked answers state run subscriber values
 
@@ -98,13 +83,15 @@ module _ {T U B D : Type 0} (K : Type 0) (payload user_header : Detail) (types :
   -- the hub stands at last; and the sample still goes by its number.
   abbrev pub PayloadStays : Type 0
   PayloadStays = (buffer : ℕ) (asked : List (Command T)) (answers : List (Reply T)) (old mid later : State T)
-      → Runs types (as_named is_default) buffer asked new_state answers old
+      → Runs terms.types (as_named terms.is_default) buffer asked new_state answers old
       → (subscriber sample : ℕ) (values : Vec T)
-      → Step types (as_named is_default) buffer (command.Receive subscriber) old (reply.Received sample values) mid
-      → (meanwhile : List (Command T)) (told : List (Reply T)) → Runs types (as_named is_default) buffer meanwhile mid told later
+      → Step terms.types (as_named terms.is_default) buffer (command.Receive subscriber) old (reply.Received sample values) mid
+      → (meanwhile : List (Command T)) (told : List (Reply T)) → Runs terms.types (as_named terms.is_default) buffer meanwhile mid told
+      later
       → (names : List (List ℕ)) (most : ℕ) (hub : NumberedHub T U B D) (made : MadeSample) (read : List T)
-      → DecidesAsFixed fixed degrades decides → AnswersAsFixed fixed_reader reader_degrades → HaveOwnHashes names → most + 1 < 2 ^ 56
-      → StandsAfter types (as_named is_default) degrades decides reader_degrades names most hub later
+      → DecidesAsFixed terms.fixed terms.degrades terms.decides → AnswersAsFixed terms.fixed_reader terms.reader_degrades
+      → HaveOwnHashes names → most + 1 < 2 ^ 56
+      → StandsAfter terms.types (as_named terms.is_default) terms.degrades terms.decides terms.reader_degrades names most hub later
       → hub.hub.expired_connection_buffer ≡ buffer
       → value_at hub.made.samples sample ≡ Some made → values_under hub_ports (Some made) hub.hub ≡ Some read
       → length read < 2 ^ 63 → read ≡ vec_items values

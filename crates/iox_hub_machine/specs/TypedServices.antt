@@ -1,15 +1,6 @@
 -- What a typed call is in the machine by which a node or a port comes, or a factory is closed.
 use Rattle.std.specs.Prelude.{ℕ, ◌≡◌, true, Option, None, Some, Result, Ok, Err}
 use Rattle.std.specs.Option.{unwrap_or}
-use Rattle.iox_command.specs.DomainValues.declared.backpressure.BackpressureAction.{BackpressureAction}
-use Rattle.iox_command.specs.DomainValues.declared.backpressure.BackpressureDecision.{BackpressureDecision}
-use Rattle.iox_command.specs.DomainValues.declared.backpressure.BackpressureInfo.{BackpressureInfo}
-use Rattle.iox_command.specs.DomainValues.declared.backpressure_strategy.BackpressureStrategy.{BackpressureStrategy}
-use Rattle.iox_command.specs.DomainValues.declared.degradation.DegradationAction.{DegradationAction}
-use Rattle.iox_command.specs.DomainValues.declared.degradation.DegradationCause.{DegradationCause}
-use Rattle.iox_command.specs.DomainValues.declared.degradation.DegradationInfo.{DegradationInfo}
-use Rattle.iox_command.specs.NegotiateBase.DescribeBase.Detail.{Detail}
-use Rattle.iox_command.specs.NegotiateBase.DescribeBase.declared.message_type.MessageTypeDetails.{MessageTypeDetails}
 use Rattle.iox_command.specs.DomainValues.declared.create_error.PublisherCreateError.{PublisherCreateError}
 use Rattle.iox_command.specs.DomainValues.declared.create_error.SubscriberCreateError.{SubscriberCreateError}
 use Rattle.iox_command.specs.DomainValues.declared.degradation.DegradationCause.TheVariants.{FailedToEstablishConnection}
@@ -35,6 +26,7 @@ use Rattle.iox_hub_commands.specs.Making.{with_publisher, with_subscriber}
 use Rattle.iox_hub_commands.specs.Naming.{publisher_config, publisher_handlers, subscriber_config, subscriber_handler}
 use Rattle.iox_hub_commands.specs.Services.{domain_of_factory, owner_of_factory}
 use Rattle.iox_hub_commands.specs.ServicesTables.{FactoryTable, parts_of, publish_subscribe_in}
+use Rattle.iox_hub_commands.specs.Terms.{Terms}
 use Rattle.iox_hub_commands.specs.declared.numbered_hub.NumberedHub.{NumberedHub}
 use Rattle.iox_hub_commands.specs.declared.ports.made.Made.{Made}
 use Rattle.iox_hub_commands.specs.declared.services.made.MadeFactory.{MadeFactory}
@@ -78,22 +70,14 @@ factories_then (Ok done) number table = removed table number
 factories_then (Err (why, None)) number table = removed table number
 factories_then (Err (why, Some factory)) number table = table
 
--- The two details are those of values and user headers, the types those of the
--- messages; then what is a default value, and a default user header; who decides by fixed actions, and what anybody who decides may answer.
-module _ {T U B D : Type 0} (payload user_header : Detail) (types : MessageTypeDetails) (is_default : T → Type 0)
-    (is_default_header : U → Type 0)
-    (fixed : BackpressureStrategy → Option BackpressureAction → DegradationAction → B)
-    (degrades : B → DegradationCause → DegradationInfo → DegradationAction → Type 0)
-    (decides : B → BackpressureInfo → BackpressureDecision → Type 0)
-    (fixed_reader : DegradationAction → D)
-    (reader_degrades : D → DegradationCause → DegradationInfo → DegradationAction → Type 0) where
+-- The terms of the hub are given.
+module _ {T U B D : Type 0} (terms : Terms T U B D) where
   -- A node is made.
   abbrev pub NewNodeIsStep : Type 0
   NewNodeIsStep = (old : NumberedHub T U B D) (hub : Hub T U B D) (answer : Result NodeHandle HubError)
       → answer ≡ Ok (record { hub = old.hub.table.id; number = one_more old.hub.nodes })
       → hub ≡ record old.hub { nodes = one_more old.hub.nodes }
-      → IsStepBy payload user_header types is_default is_default_header fixed degrades decides fixed_reader reader_degrades
-      command.Node old (told_node answer) (hub_after_call old old.made hub)
+      → IsStepBy terms command.Node old (told_node answer) (hub_after_call old old.made hub)
 
   -- A publisher comes by a factory of a publish-subscribe service, with what these options name, and whoever is made of the actions that
   -- they name decides for it. Whoever is asked how many slots it gets answers what the options name, or as many as it needs.
@@ -102,15 +86,14 @@ module _ {T U B D : Type 0} (payload user_header : Detail) (types : MessageTypeD
       (old : NumberedHub T U B D) (hub : Hub T U B D) (answer : Result ℕ PublisherCreateError)
       → publish_subscribe_in (value_at old.factories.made factory) ≡ Some opened
       → ((worst_case named : ℕ) → overrides worst_case named → named ≡ unwrap_or options.preallocated_samples worst_case)
-      → is_default_header header
+      → terms.is_default_header header
       → MakesAt (λ after. with_hub_ports (domain_of_factory opened) after old.hub)
-      (λ number. with_hub_publisher (domain_of_factory opened) number (publisher_handlers fixed options))
-      (PublisherComes overrides (degrades (publisher_handlers fixed options) FailedToEstablishConnection)
+      (λ number. with_hub_publisher (domain_of_factory opened) number (publisher_handlers terms.fixed options))
+      (PublisherComes overrides (terms.degrades (publisher_handlers terms.fixed options) FailedToEstablishConnection)
       (publisher_config (owner_of_factory opened) options) header)
       (why_no_publisher (publisher_config (owner_of_factory opened) options)) (hub_ports (domain_of_factory opened) old.hub) old.hub
       (Some answer) hub
-      → IsStepBy payload user_header types is_default is_default_header fixed degrades decides fixed_reader reader_degrades
-      (command.Publisher factory options) old (told_publisher answer old.made)
+      → IsStepBy terms (command.Publisher factory options) old (told_publisher answer old.made)
       (hub_after_call old (having_publisher (domain_of_factory opened) answer old.made) hub)
 
   -- A subscriber comes by a factory of a publish-subscribe service, with what these options name, and whoever is made of the action that
@@ -120,13 +103,12 @@ module _ {T U B D : Type 0} (payload user_header : Detail) (types : MessageTypeD
       (answer : Result ℕ SubscriberCreateError)
       → publish_subscribe_in (value_at old.factories.made factory) ≡ Some opened
       → MakesAt (λ after. with_hub_ports (domain_of_factory opened) after old.hub)
-      (λ number. with_hub_subscriber (domain_of_factory opened) number (subscriber_handler fixed_reader options))
-      (SubscriberComes (reader_degrades (subscriber_handler fixed_reader options) FailedToEstablishConnection)
+      (λ number. with_hub_subscriber (domain_of_factory opened) number (subscriber_handler terms.fixed_reader options))
+      (SubscriberComes (terms.reader_degrades (subscriber_handler terms.fixed_reader options) FailedToEstablishConnection)
       (subscriber_config (owner_of_factory opened) options))
       (why_no_subscriber (subscriber_config (owner_of_factory opened) options)) (hub_ports (domain_of_factory opened) old.hub) old.hub
       (Some answer) hub
-      → IsStepBy payload user_header types is_default is_default_header fixed degrades decides fixed_reader reader_degrades
-      (command.Subscriber factory options) old (told_subscriber answer old.made)
+      → IsStepBy terms (command.Subscriber factory options) old (told_subscriber answer old.made)
       (hub_after_call old (having_subscriber (domain_of_factory opened) answer old.made) hub)
 
   -- A factory, of this type by the pattern of its service, is closed, or handed back while it is in use.
@@ -135,6 +117,5 @@ module _ {T U B D : Type 0} (payload user_header : Detail) (types : MessageTypeD
       (answer : Result (Unit {0}) (CloseError × Option F))
       → value_at old.factories.made number ≡ Some made
       → Closes (parts_of made).0 (parts_of made).1 factory old.hub answer hub
-      → IsStepBy payload user_header types is_default is_default_header fixed degrades decides fixed_reader reader_degrades
-      (command.Close number) old (told_closed answer)
+      → IsStepBy terms (command.Close number) old (told_closed answer)
       (record old { hub = hub; factories = record { made = factories_then answer number old.factories.made } })

@@ -3,18 +3,9 @@
 use Rattle.std.specs.Prelude.{ℕ, ◌+◌, ◌^◌, ◌<◌, ◌≡◌, List, Option, None, Some, Result, Ok, Err, option_map}
 use Rattle.std.specs.Global.{Vec}
 use Rattle.std.specs.Vec.{vec_items}
-use Rattle.iox_command.specs.DomainValues.declared.backpressure.BackpressureAction.{BackpressureAction}
-use Rattle.iox_command.specs.DomainValues.declared.backpressure.BackpressureDecision.{BackpressureDecision}
-use Rattle.iox_command.specs.DomainValues.declared.backpressure.BackpressureInfo.{BackpressureInfo}
-use Rattle.iox_command.specs.DomainValues.declared.backpressure_strategy.BackpressureStrategy.{BackpressureStrategy}
-use Rattle.iox_command.specs.DomainValues.declared.degradation.DegradationAction.{DegradationAction}
-use Rattle.iox_command.specs.DomainValues.declared.degradation.DegradationCause.{DegradationCause}
-use Rattle.iox_command.specs.DomainValues.declared.degradation.DegradationInfo.{DegradationInfo}
 use Rattle.iox_command.specs.DomainValues.declared.port_error.LoanError.{LoanError}
 use Rattle.iox_command.specs.DomainValues.declared.port_error.ReceiveError.{ReceiveError}
 use Rattle.iox_command.specs.DomainValues.declared.port_error.SendError.{SendError}
-use Rattle.iox_command.specs.NegotiateBase.DescribeBase.Detail.{Detail}
-use Rattle.iox_command.specs.NegotiateBase.DescribeBase.declared.message_type.MessageTypeDetails.{MessageTypeDetails}
 use Rattle.iox_command.specs.declared.command.Command.{Command}
 use Rattle.iox_command.specs.declared.refusal.Refusal.TheVariants as refusal
 use Rattle.iox_command.specs.declared.reply.Reply.{Reply}
@@ -27,6 +18,7 @@ use Rattle.iox_delivery.specs.declared.sent.Sent.TheVariants as sent
 use Rattle.iox_hub_base.specs.AsHome.{hub_ports}
 use Rattle.iox_hub_base.specs.declared.hub.Hub.{Hub}
 use Rattle.iox_hub_commands.specs.Numbering.{with_loan, with_sample}
+use Rattle.iox_hub_commands.specs.Terms.{Terms}
 use Rattle.iox_hub_commands.specs.declared.numbered_hub.NumberedHub.{NumberedHub}
 use Rattle.iox_hub_commands.specs.declared.ports.made.Made.{Made}
 use Rattle.iox_hub_machine.specs.ArrivalLaws.{AnswersAsFixed, DecidesAsFixed}
@@ -79,25 +71,17 @@ module _ {T U B D : Type 0} where
   abbrev pub hub_after_call : NumberedHub T U B D → Made → Hub T U B D → NumberedHub T U B D
   hub_after_call old made hub = record old { hub = hub; made = made }
 
--- The two details are those of values and user headers, the types those of the messages; then what is a default value, and a default user
--- header; who decides by fixed actions, and what anybody who decides may answer.
-module _ {T U B D : Type 0} (payload user_header : Detail) (types : MessageTypeDetails) (is_default : T → Type 0)
-    (is_default_header : U → Type 0)
-    (fixed : BackpressureStrategy → Option BackpressureAction → DegradationAction → B)
-    (degrades : B → DegradationCause → DegradationInfo → DegradationAction → Type 0)
-    (decides : B → BackpressureInfo → BackpressureDecision → Type 0)
-    (fixed_reader : DegradationAction → D)
-    (reader_degrades : D → DegradationCause → DegradationInfo → DegradationAction → Type 0) where
+-- The terms of the hub are given.
+module _ {T U B D : Type 0} (terms : Terms T U B D) where
   -- A call of a hub is a step of the machine by this command, with this answer. Where the hub, with what its program holds, stands for a
   -- state, the machine may answer so from there, and the hub that the call leaves, with what the program holds then, stands for what the
   -- machine is then. So it is where no two services of the names that are asked for share a hash, all commands and steps, with those
   -- before, are fewer than 2 ^ 56, and whoever is made of fixed actions for a port decides by these.
   abbrev pub IsStepBy : Command T → NumberedHub T U B D → Reply T → NumberedHub T U B D → Type 0
   IsStepBy asked old answer new = (names : List (List ℕ)) (most : ℕ) (state : State T)
-      → DecidesAsFixed fixed degrades decides → AnswersAsFixed fixed_reader reader_degrades
+      → DecidesAsFixed terms.fixed terms.degrades terms.decides → AnswersAsFixed terms.fixed_reader terms.reader_degrades
       → HaveOwnHashes names → AsksAmong names asked → most + (1 + steps_named asked) < 2 ^ 56
-      → StandsAfter types (as_named is_default) degrades decides reader_degrades names most old state
-      → IsOneOn types (as_named is_default) degrades decides reader_degrades
-      names most
+      → StandsAfter terms.types (as_named terms.is_default) terms.degrades terms.decides terms.reader_degrades names most old state
+      → IsOneOn terms.types (as_named terms.is_default) terms.degrades terms.decides terms.reader_degrades names most
       old.hub.expired_connection_buffer asked state answer new
       × (new.hub.expired_connection_buffer ≡ old.hub.expired_connection_buffer)

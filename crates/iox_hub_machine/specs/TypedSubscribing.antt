@@ -2,15 +2,6 @@
 use Rattle.std.specs.Prelude.{ℕ, ◌≡◌, Bool, true, Option, Some, Result}
 use Rattle.std.specs.Global.{Vec}
 use Rattle.std.specs.Vec.{vec_items}
-use Rattle.iox_command.specs.DomainValues.declared.backpressure.BackpressureAction.{BackpressureAction}
-use Rattle.iox_command.specs.DomainValues.declared.backpressure.BackpressureDecision.{BackpressureDecision}
-use Rattle.iox_command.specs.DomainValues.declared.backpressure.BackpressureInfo.{BackpressureInfo}
-use Rattle.iox_command.specs.DomainValues.declared.backpressure_strategy.BackpressureStrategy.{BackpressureStrategy}
-use Rattle.iox_command.specs.DomainValues.declared.degradation.DegradationAction.{DegradationAction}
-use Rattle.iox_command.specs.DomainValues.declared.degradation.DegradationCause.{DegradationCause}
-use Rattle.iox_command.specs.DomainValues.declared.degradation.DegradationInfo.{DegradationInfo}
-use Rattle.iox_command.specs.NegotiateBase.DescribeBase.Detail.{Detail}
-use Rattle.iox_command.specs.NegotiateBase.DescribeBase.declared.message_type.MessageTypeDetails.{MessageTypeDetails}
 use Rattle.iox_command.specs.DomainValues.declared.connection_failure.ConnectionFailure.{ConnectionFailure}
 use Rattle.iox_command.specs.DomainValues.declared.port_error.ReceiveError.{ReceiveError}
 use Rattle.iox_command.specs.declared.command.Command.TheVariants as command
@@ -28,54 +19,44 @@ use Rattle.iox_hub_commands.specs.Numbering.{removed_if}
 use Rattle.iox_hub_commands.specs.Reading.{values_under}
 use Rattle.iox_hub_commands.specs.Replies.{done_reply, has_reply, updated_reply}
 use Rattle.iox_hub_commands.specs.Tables.{without_sample, without_subscriber}
+use Rattle.iox_hub_commands.specs.Terms.{Terms}
 use Rattle.iox_hub_commands.specs.declared.numbered_hub.NumberedHub.{NumberedHub}
 use Rattle.iox_hub_commands.specs.declared.ports.made.MadeSample.{MadeSample}
 use Rattle.iox_hub_machine.specs.TypedSteps.{IsStepBy, IsToldReceived, having_received, hub_after_call}
 
--- Subscribers and samples are of one kind: single values, or slices. The two details are those of values and user headers, the types those
--- of the messages; then what is a default value, and a default user header; who decides by fixed actions, and what anybody who decides may
--- answer. Each subscriber and each sample of which a call is goes by a number.
-module _ {T U B D : Type 0} (K : Type 0) (payload user_header : Detail) (types : MessageTypeDetails) (is_default : T → Type 0)
-    (is_default_header : U → Type 0)
-    (fixed : BackpressureStrategy → Option BackpressureAction → DegradationAction → B)
-    (degrades : B → DegradationCause → DegradationInfo → DegradationAction → Type 0)
-    (decides : B → BackpressureInfo → BackpressureDecision → Type 0)
-    (fixed_reader : DegradationAction → D)
-    (reader_degrades : D → DegradationCause → DegradationInfo → DegradationAction → Type 0) where
+-- Subscribers and samples are of one kind: single values, or slices. The terms of the hub are given. Each subscriber and each sample of
+-- which a call is goes by a number.
+module _ {T U B D : Type 0} (K : Type 0) (terms : Terms T U B D) where
   -- A subscriber receives. A sample that comes is told with the values that its `payload` gives then.
   abbrev pub ReceiveIsStep : Type 0
   ReceiveIsStep = (number : ℕ) (receiver : PortId) (old : NumberedHub T U B D) (hub : Hub T U B D)
       (answer : Result (Option (Sample T U K)) ReceiveError) (told : Reply T)
       → value_at old.made.subscribers number ≡ Some receiver
-      → ReceivesSample hub_ports with_hub_ports (subscriber_may_degrade reader_degrades) receiver old.hub answer hub
+      → ReceivesSample hub_ports with_hub_ports (subscriber_may_degrade terms.reader_degrades) receiver old.hub answer hub
       → IsToldReceived answer old.made hub told
-      → IsStepBy payload user_header types is_default is_default_header fixed degrades decides fixed_reader reader_degrades
-      (command.Receive number) old told (hub_after_call old (having_received answer old.made) hub)
+      → IsStepBy terms (command.Receive number) old told (hub_after_call old (having_received answer old.made) hub)
 
   -- It is told whether some connection of a subscriber has data.
   abbrev pub HasIsStep : Type 0
   HasIsStep = (number : ℕ) (receiver : PortId) (old : NumberedHub T U B D) (hub : Hub T U B D) (answer : Result Bool ConnectionFailure)
       → value_at old.made.subscribers number ≡ Some receiver
-      → TellsSamples hub_ports with_hub_ports (subscriber_may_degrade reader_degrades) receiver old.hub answer hub
-      → IsStepBy payload user_header types is_default is_default_header fixed degrades decides fixed_reader reader_degrades
-      (command.Has number) old (has_reply (Some answer)) (hub_after_call old old.made hub)
+      → TellsSamples hub_ports with_hub_ports (subscriber_may_degrade terms.reader_degrades) receiver old.hub answer hub
+      → IsStepBy terms (command.Has number) old (has_reply (Some answer)) (hub_after_call old old.made hub)
 
   -- A subscriber follows the list of publishers.
   abbrev pub SubscriberUpdateIsStep : Type 0
   SubscriberUpdateIsStep = (number : ℕ) (follower : PortId) (old : NumberedHub T U B D) (hub : Hub T U B D)
       (answer : Result (Unit {0}) ConnectionFailure)
       → value_at old.made.subscribers number ≡ Some follower
-      → FollowsPublishers hub_ports with_hub_ports (subscriber_may_degrade reader_degrades) follower old.hub answer hub
-      → IsStepBy payload user_header types is_default is_default_header fixed degrades decides fixed_reader reader_degrades
-      (command.Update (port.Subscriber number)) old (updated_reply (Some answer)) (hub_after_call old old.made hub)
+      → FollowsPublishers hub_ports with_hub_ports (subscriber_may_degrade terms.reader_degrades) follower old.hub answer hub
+      → IsStepBy terms (command.Update (port.Subscriber number)) old (updated_reply (Some answer)) (hub_after_call old old.made hub)
 
   -- A subscriber leaves, and is spent: so `leave` does, and `drop_with`, which hands it back where it can't.
   abbrev pub SubscriberLeaveIsStep : Type 0
   SubscriberLeaveIsStep = (number : ℕ) (leaver : PortId) (old : NumberedHub T U B D) (hub : Hub T U B D) (left : Bool)
       → value_at old.made.subscribers number ≡ Some leaver
       → EndsSubscriber hub_ports with_hub_ports without_hub_subscriber leaver old.hub left hub
-      → IsStepBy payload user_header types is_default is_default_header fixed degrades decides fixed_reader reader_degrades
-      (command.Leave (port.Subscriber number)) old (done_reply left)
+      → IsStepBy terms (command.Leave (port.Subscriber number)) old (done_reply left)
       (hub_after_call old (removed_if left (without_subscriber number) old.made) hub)
 
   -- A sample is read: these values are those that its `payload` gives. Nothing changes.
@@ -83,13 +64,20 @@ module _ {T U B D : Type 0} (K : Type 0) (payload user_header : Detail) (types :
   PayloadIsStep = (number : ℕ) (made : MadeSample) (old : NumberedHub T U B D) (values : Vec T)
       → value_at old.made.samples number ≡ Some made
       → values_under hub_ports (Some made) old.hub ≡ Some (vec_items values)
-      → IsStepBy payload user_header types is_default is_default_header fixed degrades decides fixed_reader reader_degrades
-      (command.Read number) old (reply.Values values) old
+      → IsStepBy terms (command.Read number) old (reply.Values values) old
 
   -- A sample is released, and is spent: so `release` does, and `drop_with`.
   abbrev pub ReleaseIsStep : Type 0
   ReleaseIsStep = (number : ℕ) (made : MadeSample) (old : NumberedHub T U B D) (hub : Hub T U B D) (released : Bool)
       → value_at old.made.samples number ≡ Some made
       → DropsSample hub_ports with_hub_ports made.port made.taken old.hub released hub
-      → IsStepBy payload user_header types is_default is_default_header fixed degrades decides fixed_reader reader_degrades
-      (command.Release number) old (done_reply true) (hub_after_call old (without_sample number old.made) hub)
+      → IsStepBy terms (command.Release number) old (done_reply true) (hub_after_call old (without_sample number old.made) hub)
+
+  -- Each call of a subscriber and of its samples is a step, by the command that asks for the same.
+  pub record SubscriberCallsAreSteps : Type 0 where
+    pub receive : ReceiveIsStep
+    pub has : HasIsStep
+    pub update : SubscriberUpdateIsStep
+    pub leave : SubscriberLeaveIsStep
+    pub payload : PayloadIsStep
+    pub release : ReleaseIsStep

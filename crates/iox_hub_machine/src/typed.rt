@@ -4,23 +4,18 @@
 //! a state, the machine may answer so from there to the command that asks for the same, and what the call leaves stands for what the
 //! machine is then. So what a program calls, from a new hub on, is a run of the machine (`HasCalled`). Messages are values of one type, or
 //! slices of them.
-ghost use Rattle.iox_hub_base.specs.DescribeBase.Detail.{detail};
 ghost use Rattle.iox_hub_base.specs.DescribeBase.declared.type_detail.TypeVariant.{TypeVariant};
-ghost use Rattle.iox_hub_base.specs.DescribeBase.declared.type_detail.TypeVariant.TheVariants.{FixedSize};
-ghost use Rattle.iox_domain.specs.Fitting.{asked_types};
+ghost use Rattle.iox_hub_commands.specs.Terms.{terms_of};
 ghost use Rattle.iox_hub_machine.specs.TypedHeaders.{HeaderIsStep, HeaderNamesPublisher, HeaderReadAsSent};
 ghost use Rattle.iox_hub_machine.specs.TypedHeaders.{UserHeadersKeepStanding, UserHeadersNeedNoCommand};
-ghost use Rattle.iox_hub_machine.specs.TypedOpening.{CreateIsStep, ForeignIsStep, OpenIsStep, OpenOrCreateIsStep};
-ghost use Rattle.iox_hub_machine.specs.TypedPublishing.{ChangeIsStep, DropIsStep, GiveUpIsStep, LoanIsStep, LoanOfOneIsStep};
-ghost use Rattle.iox_hub_machine.specs.TypedPublishing.{LoanUninitIsStep, PublisherLeaveIsStep, PublisherUpdateIsStep, RetryIsStep};
-ghost use Rattle.iox_hub_machine.specs.TypedPublishing.{SendCopyIsStep, SendIsStep, SendSliceIsStep, WriteEachIsStep, WriteIsStep};
-ghost use Rattle.iox_hub_machine.specs.TypedPublishing.{WriteOneIsStep};
+ghost use Rattle.iox_hub_machine.specs.TypedOpening.{ServiceCallsAreSteps};
+ghost use Rattle.iox_hub_machine.specs.TypedPublishing.{PublisherCallsAreSteps};
 ghost use Rattle.iox_hub_machine.specs.TypedReading.{HeldMayBeUsed, PayloadStays, PayloadWasSent};
 ghost use Rattle.iox_hub_machine.specs.TypedRuns.{CallsBegin, CallsGoOn};
-ghost use Rattle.iox_hub_machine.specs.TypedServices.{CloseIsStep, NewNodeIsStep, PublisherIsStep, SubscriberIsStep};
-ghost use Rattle.iox_hub_machine.specs.TypedSubscribing.{HasIsStep, PayloadIsStep, ReceiveIsStep, ReleaseIsStep, SubscriberLeaveIsStep};
-ghost use Rattle.iox_hub_machine.specs.TypedSubscribing.{SubscriberUpdateIsStep};
+ghost use Rattle.iox_hub_machine.specs.TypedServices.{CloseIsStep, PublisherIsStep};
+ghost use Rattle.iox_hub_machine.specs.TypedSubscribing.{SubscriberCallsAreSteps};
 ghost use Rattle.iox_hub_machine.specs.TypedTelling.{HubTells};
+ghost use Rattle.iox_hub_machine.specs.TypedTerms.{asked_terms};
 
 use iox_describe_base::ZeroCopySend;
 use iox_domain_values::Overrides;
@@ -35,16 +30,12 @@ pub fn typed_calls_are_a_run<
     B: PublisherHandlers,
     D: SubscriberHandler,
 >()
-    ensures begins { (variant : TypeVariant)
-        → CallsBegin (detail FixedSize T.name T.size T.alignment) (detail FixedSize U.name U.size U.alignment)
-        (asked_types variant (detail FixedSize T.name T.size T.alignment) (detail FixedSize U.name U.size U.alignment))
-        T.is_default U.is_default B.fixed (λ handlers. B.degrades handlers) (λ handlers. B.decides handlers) D.fixed
-        (λ handler. D.degrades handler) }
-    ensures goes_on { (variant : TypeVariant)
-        → CallsGoOn (detail FixedSize T.name T.size T.alignment) (detail FixedSize U.name U.size U.alignment)
-        (asked_types variant (detail FixedSize T.name T.size T.alignment) (detail FixedSize U.name U.size U.alignment))
-        T.is_default U.is_default B.fixed (λ handlers. B.degrades handlers) (λ handlers. B.decides handlers) D.fixed
-        (λ handler. D.degrades handler) }
+    ensures begins { (variant : TypeVariant) → CallsBegin (asked_terms variant (terms_of T.name T.size T.alignment T.is_default U.name
+        U.size U.alignment U.is_default B.fixed (λ handlers. B.degrades handlers) (λ handlers. B.decides handlers) D.fixed
+        (λ handler. D.degrades handler))) }
+    ensures goes_on { (variant : TypeVariant) → CallsGoOn (asked_terms variant (terms_of T.name T.size T.alignment T.is_default U.name
+        U.size U.alignment U.is_default B.fixed (λ handlers. B.degrades handlers) (λ handlers. B.decides handlers) D.fixed
+        (λ handler. D.degrades handler))) }
 {}
 
 /// Where a hub stands for a state of the machine, what its program holds by numbers may be used: ports stand, loans are out, and samples
@@ -56,229 +47,101 @@ pub fn what_is_held_may_be_used<
     B: PublisherHandlers,
     D: SubscriberHandler,
 >()
-    ensures { (variant : TypeVariant)
-        → HeldMayBeUsed U (asked_types variant (detail FixedSize T.name T.size T.alignment) (detail FixedSize U.name U.size U.alignment))
-        T.is_default (λ handlers. B.degrades handlers) (λ handlers. B.decides handlers) (λ handler. D.degrades handler) }
+    ensures { (variant : TypeVariant) → HeldMayBeUsed (asked_terms variant (terms_of T.name T.size T.alignment T.is_default U.name U.size
+        U.alignment U.is_default B.fixed (λ handlers. B.degrades handlers) (λ handlers. B.decides handlers) D.fixed
+        (λ handler. D.degrades handler))) }
 {}
 
-/// A publisher lends values to be written: `loan_slice_uninit`, and `loan_uninit`, which lends one. A loan that was made goes by the next
-/// number.
-pub fn typed_loans_are_steps<
+/// Each call by which a node is made, a service is created, opened or acted on, or a subscriber comes is a step.
+///
+/// - A node is made: `new_node`.
+/// - A node creates a service, opens it, or does either: `create_with_attributes_in`, `open_with_attributes_in` and
+///   `open_or_create_with_attributes_in` of a builder, with lists of steps of nodes outside the hub that are those that the command names.
+///   A factory that was made goes by the next number.
+/// - Nodes outside the hub act on a service: `foreign`, with the steps that the command names.
+/// - A subscriber comes by a factory of a publish-subscribe service: `create` and `create_slice` of its builder, with what the options of
+///   the command name.
+pub fn typed_service_calls_are_steps<
+    T: ZeroCopySend + Default,
+    U: ZeroCopySend + Default,
+    B: PublisherHandlers,
+    D: SubscriberHandler,
+>()
+    ensures { (variant : TypeVariant) → ServiceCallsAreSteps (asked_terms variant (terms_of T.name T.size T.alignment T.is_default U.name
+        U.size U.alignment U.is_default B.fixed (λ handlers. B.degrades handlers) (λ handlers. B.decides handlers) D.fixed
+        (λ handler. D.degrades handler))) }
+{}
+
+/// A publisher comes by a factory of a publish-subscribe service: `create` and `create_slice` of its builder, with what the options of the
+/// command name. One of single values is named as one with one value in a loan, whose room doesn't grow. Whoever is asked how many slots it
+/// gets answers what the options name.
+pub fn typed_publishers_come_by_steps<
+    T: ZeroCopySend + Default,
+    U: ZeroCopySend + Default,
+    O: Overrides,
+    B: PublisherHandlers,
+    D: SubscriberHandler,
+>(_overriding: &O)
+    ensures { (variant : TypeVariant) → PublisherIsStep (asked_terms variant (terms_of T.name T.size T.alignment T.is_default U.name U.size
+        U.alignment U.is_default B.fixed (λ handlers. B.degrades handlers) (λ handlers. B.decides handlers) D.fixed
+        (λ handler. D.degrades handler))) (O.overrides _overriding.now) }
+{}
+
+/// A factory is closed, or handed back while it is in use: `close`.
+pub fn typed_closes_are_steps<
+    T: ZeroCopySend + Default,
+    U: ZeroCopySend + Default,
+    F,
+    B: PublisherHandlers,
+    D: SubscriberHandler,
+>()
+    ensures { (variant : TypeVariant) → CloseIsStep (asked_terms variant (terms_of T.name T.size T.alignment T.is_default U.name U.size
+        U.alignment U.is_default B.fixed (λ handlers. B.degrades handlers) (λ handlers. B.decides handlers) D.fixed
+        (λ handler. D.degrades handler))) F }
+{}
+
+/// Each call of a publisher, of its loans and of its sends that wait is a step.
+///
+/// - A publisher lends values to be written: `loan_slice_uninit`, and `loan_uninit`, which lends one. A loan that was made goes by the next
+///   number.
+/// - A publisher of which no send waits lends values that are written: `loan_slice`, and `loan`, which lends one. Each is one default.
+/// - The values of a loan are written at once: `write_from_slice`, and `payload_write` and `write_payload` of one value. Where it hasn't as
+///   many the command is skipped, and nothing is written. So it is where as many are written one after the other: `write_from_fn`.
+/// - A value of a loan that is written changes at a place that the loan has: `payload_mut` and `value_mut`, as the reference ends.
+/// - Values are lent, written and sent at once: `send_slice`, and `send_copy` of one value. No send of the publisher waits.
+/// - A loan is sent, or given up: `send` and `drop_with` of a loan. It is spent.
+/// - A send that waits is tried again, or given up: `retry`, `give_up` and `drop_with` of a send that waits.
+/// - A publisher follows the list of subscribers, or leaves: `update_connections`, `leave` and `drop_with` of a publisher.
+pub fn typed_publisher_calls_are_steps<
     T: ZeroCopySend + Default,
     U: ZeroCopySend + Default,
     K,
     B: PublisherHandlers,
     D: SubscriberHandler,
 >()
-    ensures { (variant : TypeVariant)
-        → LoanUninitIsStep K (detail FixedSize T.name T.size T.alignment) (detail FixedSize U.name U.size U.alignment)
-        (asked_types variant (detail FixedSize T.name T.size T.alignment) (detail FixedSize U.name U.size U.alignment))
-        T.is_default U.is_default B.fixed (λ handlers. B.degrades handlers) (λ handlers. B.decides handlers) D.fixed
-        (λ handler. D.degrades handler) }
+    ensures { (variant : TypeVariant) → PublisherCallsAreSteps K (asked_terms variant (terms_of T.name T.size T.alignment T.is_default
+        U.name U.size U.alignment U.is_default B.fixed (λ handlers. B.degrades handlers) (λ handlers. B.decides handlers) D.fixed
+        (λ handler. D.degrades handler))) }
 {}
 
-/// A publisher of which no send waits lends values that are written: `loan_slice`, and `loan`, which lends one. Each is one default.
-pub fn typed_defaults_are_steps<
+/// Each call of a subscriber and of its samples is a step.
+///
+/// - A subscriber receives: `receive`. A sample that came goes by the next number, and what the machine answers of it are the values that
+///   its `payload` gives then.
+/// - A subscriber follows the list of publishers, is told whether messages wait, or leaves: `update_connections`, `has_samples`, `leave`
+///   and `drop_with` of a subscriber.
+/// - A sample is read, or released: `payload`, `release` and `drop_with` of a sample. One that goes by a number is held, so that it is
+///   released in any case.
+pub fn typed_subscriber_calls_are_steps<
     T: ZeroCopySend + Default,
     U: ZeroCopySend + Default,
     K,
     B: PublisherHandlers,
     D: SubscriberHandler,
 >()
-    ensures slices { (variant : TypeVariant)
-        → LoanIsStep K (detail FixedSize T.name T.size T.alignment) (detail FixedSize U.name U.size U.alignment)
-        (asked_types variant (detail FixedSize T.name T.size T.alignment) (detail FixedSize U.name U.size U.alignment))
-        T.is_default U.is_default B.fixed (λ handlers. B.degrades handlers) (λ handlers. B.decides handlers) D.fixed
-        (λ handler. D.degrades handler) }
-    ensures single { (variant : TypeVariant)
-        → LoanOfOneIsStep K (detail FixedSize T.name T.size T.alignment) (detail FixedSize U.name U.size U.alignment)
-        (asked_types variant (detail FixedSize T.name T.size T.alignment) (detail FixedSize U.name U.size U.alignment))
-        T.is_default U.is_default B.fixed (λ handlers. B.degrades handlers) (λ handlers. B.decides handlers) D.fixed
-        (λ handler. D.degrades handler) }
-{}
-
-/// The values of a loan are written at once: `write_from_slice`, and `payload_write` and `write_payload` of one value. Where it hasn't as
-/// many the command is skipped, and nothing is written. So it is where as many are written one after the other: `write_from_fn`.
-pub fn typed_writes_are_steps<
-    T: ZeroCopySend + Default,
-    U: ZeroCopySend + Default,
-    K,
-    B: PublisherHandlers,
-    D: SubscriberHandler,
->()
-    ensures slices { (variant : TypeVariant)
-        → WriteIsStep K (detail FixedSize T.name T.size T.alignment) (detail FixedSize U.name U.size U.alignment)
-        (asked_types variant (detail FixedSize T.name T.size T.alignment) (detail FixedSize U.name U.size U.alignment))
-        T.is_default U.is_default B.fixed (λ handlers. B.degrades handlers) (λ handlers. B.decides handlers) D.fixed
-        (λ handler. D.degrades handler) }
-    ensures single { (variant : TypeVariant)
-        → WriteOneIsStep K (detail FixedSize T.name T.size T.alignment) (detail FixedSize U.name U.size U.alignment)
-        (asked_types variant (detail FixedSize T.name T.size T.alignment) (detail FixedSize U.name U.size U.alignment))
-        T.is_default U.is_default B.fixed (λ handlers. B.degrades handlers) (λ handlers. B.decides handlers) D.fixed
-        (λ handler. D.degrades handler) }
-    ensures each { (variant : TypeVariant)
-        → WriteEachIsStep K (detail FixedSize T.name T.size T.alignment) (detail FixedSize U.name U.size U.alignment)
-        (asked_types variant (detail FixedSize T.name T.size T.alignment) (detail FixedSize U.name U.size U.alignment))
-        T.is_default U.is_default B.fixed (λ handlers. B.degrades handlers) (λ handlers. B.decides handlers) D.fixed
-        (λ handler. D.degrades handler) }
-{}
-
-/// A value of a loan that is written changes at a place that the loan has: `payload_mut` and `value_mut`, as the reference ends.
-pub fn typed_changes_are_steps<
-    T: ZeroCopySend + Default,
-    U: ZeroCopySend + Default,
-    K,
-    B: PublisherHandlers,
-    D: SubscriberHandler,
->()
-    ensures { (variant : TypeVariant)
-        → ChangeIsStep K (detail FixedSize T.name T.size T.alignment) (detail FixedSize U.name U.size U.alignment)
-        (asked_types variant (detail FixedSize T.name T.size T.alignment) (detail FixedSize U.name U.size U.alignment))
-        T.is_default U.is_default B.fixed (λ handlers. B.degrades handlers) (λ handlers. B.decides handlers) D.fixed
-        (λ handler. D.degrades handler) }
-{}
-
-/// Values are lent, written and sent at once: `send_slice`, and `send_copy` of one value. No send of the publisher waits.
-pub fn typed_puts_are_steps<
-    T: ZeroCopySend + Default,
-    U: ZeroCopySend + Default,
-    K,
-    B: PublisherHandlers,
-    D: SubscriberHandler,
->()
-    ensures slices { (variant : TypeVariant)
-        → SendSliceIsStep K (detail FixedSize T.name T.size T.alignment) (detail FixedSize U.name U.size U.alignment)
-        (asked_types variant (detail FixedSize T.name T.size T.alignment) (detail FixedSize U.name U.size U.alignment))
-        T.is_default U.is_default B.fixed (λ handlers. B.degrades handlers) (λ handlers. B.decides handlers) D.fixed
-        (λ handler. D.degrades handler) }
-    ensures single { (variant : TypeVariant)
-        → SendCopyIsStep K (detail FixedSize T.name T.size T.alignment) (detail FixedSize U.name U.size U.alignment)
-        (asked_types variant (detail FixedSize T.name T.size T.alignment) (detail FixedSize U.name U.size U.alignment))
-        T.is_default U.is_default B.fixed (λ handlers. B.degrades handlers) (λ handlers. B.decides handlers) D.fixed
-        (λ handler. D.degrades handler) }
-{}
-
-/// A loan is sent, or given up: `send` and `drop_with` of a loan. It is spent.
-pub fn typed_loans_end_by_steps<
-    T: ZeroCopySend + Default,
-    U: ZeroCopySend + Default,
-    K,
-    B: PublisherHandlers,
-    D: SubscriberHandler,
->()
-    ensures sends { (variant : TypeVariant)
-        → SendIsStep K (detail FixedSize T.name T.size T.alignment) (detail FixedSize U.name U.size U.alignment)
-        (asked_types variant (detail FixedSize T.name T.size T.alignment) (detail FixedSize U.name U.size U.alignment))
-        T.is_default U.is_default B.fixed (λ handlers. B.degrades handlers) (λ handlers. B.decides handlers) D.fixed
-        (λ handler. D.degrades handler) }
-    ensures drops { (variant : TypeVariant)
-        → DropIsStep K (detail FixedSize T.name T.size T.alignment) (detail FixedSize U.name U.size U.alignment)
-        (asked_types variant (detail FixedSize T.name T.size T.alignment) (detail FixedSize U.name U.size U.alignment))
-        T.is_default U.is_default B.fixed (λ handlers. B.degrades handlers) (λ handlers. B.decides handlers) D.fixed
-        (λ handler. D.degrades handler) }
-{}
-
-/// A send that waits is tried again, or given up: `retry`, `give_up` and `drop_with` of a send that waits.
-pub fn typed_sends_go_on_by_steps<
-    T: ZeroCopySend + Default,
-    U: ZeroCopySend + Default,
-    K,
-    B: PublisherHandlers,
-    D: SubscriberHandler,
->()
-    ensures retries { (variant : TypeVariant)
-        → RetryIsStep K (detail FixedSize T.name T.size T.alignment) (detail FixedSize U.name U.size U.alignment)
-        (asked_types variant (detail FixedSize T.name T.size T.alignment) (detail FixedSize U.name U.size U.alignment))
-        T.is_default U.is_default B.fixed (λ handlers. B.degrades handlers) (λ handlers. B.decides handlers) D.fixed
-        (λ handler. D.degrades handler) }
-    ensures gives_up { (variant : TypeVariant)
-        → GiveUpIsStep K (detail FixedSize T.name T.size T.alignment) (detail FixedSize U.name U.size U.alignment)
-        (asked_types variant (detail FixedSize T.name T.size T.alignment) (detail FixedSize U.name U.size U.alignment))
-        T.is_default U.is_default B.fixed (λ handlers. B.degrades handlers) (λ handlers. B.decides handlers) D.fixed
-        (λ handler. D.degrades handler) }
-{}
-
-/// A publisher follows the list of subscribers, or leaves: `update_connections`, `leave` and `drop_with` of a publisher.
-pub fn typed_publishers_follow_by_steps<
-    T: ZeroCopySend + Default,
-    U: ZeroCopySend + Default,
-    K,
-    B: PublisherHandlers,
-    D: SubscriberHandler,
->()
-    ensures follows { (variant : TypeVariant)
-        → PublisherUpdateIsStep K (detail FixedSize T.name T.size T.alignment) (detail FixedSize U.name U.size U.alignment)
-        (asked_types variant (detail FixedSize T.name T.size T.alignment) (detail FixedSize U.name U.size U.alignment))
-        T.is_default U.is_default B.fixed (λ handlers. B.degrades handlers) (λ handlers. B.decides handlers) D.fixed
-        (λ handler. D.degrades handler) }
-    ensures leaves { (variant : TypeVariant)
-        → PublisherLeaveIsStep K (detail FixedSize T.name T.size T.alignment) (detail FixedSize U.name U.size U.alignment)
-        (asked_types variant (detail FixedSize T.name T.size T.alignment) (detail FixedSize U.name U.size U.alignment))
-        T.is_default U.is_default B.fixed (λ handlers. B.degrades handlers) (λ handlers. B.decides handlers) D.fixed
-        (λ handler. D.degrades handler) }
-{}
-
-/// A subscriber follows the list of publishers, is told whether messages wait, or leaves: `update_connections`, `has_samples`, `leave` and
-/// `drop_with` of a subscriber.
-pub fn typed_subscribers_follow_by_steps<
-    T: ZeroCopySend + Default,
-    U: ZeroCopySend + Default,
-    K,
-    B: PublisherHandlers,
-    D: SubscriberHandler,
->()
-    ensures follows { (variant : TypeVariant)
-        → SubscriberUpdateIsStep K (detail FixedSize T.name T.size T.alignment) (detail FixedSize U.name U.size U.alignment)
-        (asked_types variant (detail FixedSize T.name T.size T.alignment) (detail FixedSize U.name U.size U.alignment))
-        T.is_default U.is_default B.fixed (λ handlers. B.degrades handlers) (λ handlers. B.decides handlers) D.fixed
-        (λ handler. D.degrades handler) }
-    ensures tells { (variant : TypeVariant)
-        → HasIsStep K (detail FixedSize T.name T.size T.alignment) (detail FixedSize U.name U.size U.alignment)
-        (asked_types variant (detail FixedSize T.name T.size T.alignment) (detail FixedSize U.name U.size U.alignment))
-        T.is_default U.is_default B.fixed (λ handlers. B.degrades handlers) (λ handlers. B.decides handlers) D.fixed
-        (λ handler. D.degrades handler) }
-    ensures leaves { (variant : TypeVariant)
-        → SubscriberLeaveIsStep K (detail FixedSize T.name T.size T.alignment) (detail FixedSize U.name U.size U.alignment)
-        (asked_types variant (detail FixedSize T.name T.size T.alignment) (detail FixedSize U.name U.size U.alignment))
-        T.is_default U.is_default B.fixed (λ handlers. B.degrades handlers) (λ handlers. B.decides handlers) D.fixed
-        (λ handler. D.degrades handler) }
-{}
-
-/// A subscriber receives: `receive`. A sample that came goes by the next number, and what the machine answers of it are the values that its
-/// `payload` gives then.
-pub fn typed_receives_are_steps<
-    T: ZeroCopySend + Default,
-    U: ZeroCopySend + Default,
-    K,
-    B: PublisherHandlers,
-    D: SubscriberHandler,
->()
-    ensures { (variant : TypeVariant)
-        → ReceiveIsStep K (detail FixedSize T.name T.size T.alignment) (detail FixedSize U.name U.size U.alignment)
-        (asked_types variant (detail FixedSize T.name T.size T.alignment) (detail FixedSize U.name U.size U.alignment))
-        T.is_default U.is_default B.fixed (λ handlers. B.degrades handlers) (λ handlers. B.decides handlers) D.fixed
-        (λ handler. D.degrades handler) }
-{}
-
-/// A sample is read, or released: `payload`, `release` and `drop_with` of a sample. One that goes by a number is held, so that it is
-/// released in any case.
-pub fn typed_samples_are_read_by_steps<
-    T: ZeroCopySend + Default,
-    U: ZeroCopySend + Default,
-    K,
-    B: PublisherHandlers,
-    D: SubscriberHandler,
->()
-    ensures reads { (variant : TypeVariant)
-        → PayloadIsStep K (detail FixedSize T.name T.size T.alignment) (detail FixedSize U.name U.size U.alignment)
-        (asked_types variant (detail FixedSize T.name T.size T.alignment) (detail FixedSize U.name U.size U.alignment))
-        T.is_default U.is_default B.fixed (λ handlers. B.degrades handlers) (λ handlers. B.decides handlers) D.fixed
-        (λ handler. D.degrades handler) }
-    ensures releases { (variant : TypeVariant)
-        → ReleaseIsStep K (detail FixedSize T.name T.size T.alignment) (detail FixedSize U.name U.size U.alignment)
-        (asked_types variant (detail FixedSize T.name T.size T.alignment) (detail FixedSize U.name U.size U.alignment))
-        T.is_default U.is_default B.fixed (λ handlers. B.degrades handlers) (λ handlers. B.decides handlers) D.fixed
-        (λ handler. D.degrades handler) }
+    ensures { (variant : TypeVariant) → SubscriberCallsAreSteps K (asked_terms variant (terms_of T.name T.size T.alignment T.is_default
+        U.name U.size U.alignment U.is_default B.fixed (λ handlers. B.degrades handlers) (λ handlers. B.decides handlers) D.fixed
+        (λ handler. D.degrades handler))) }
 {}
 
 /// The user header of a loan is written: `user_header_write`, and `user_header_mut` as the reference ends. The machine has none, so the hub
@@ -289,16 +152,12 @@ pub fn typed_user_headers_keep_standing<
     B: PublisherHandlers,
     D: SubscriberHandler,
 >()
-    ensures stands { (variant : TypeVariant)
-        → UserHeadersKeepStanding (detail FixedSize T.name T.size T.alignment) (detail FixedSize U.name U.size U.alignment)
-        (asked_types variant (detail FixedSize T.name T.size T.alignment) (detail FixedSize U.name U.size U.alignment))
-        T.is_default U.is_default B.fixed (λ handlers. B.degrades handlers) (λ handlers. B.decides handlers) D.fixed
-        (λ handler. D.degrades handler) }
-    ensures called { (variant : TypeVariant)
-        → UserHeadersNeedNoCommand (detail FixedSize T.name T.size T.alignment) (detail FixedSize U.name U.size U.alignment)
-        (asked_types variant (detail FixedSize T.name T.size T.alignment) (detail FixedSize U.name U.size U.alignment))
-        T.is_default U.is_default B.fixed (λ handlers. B.degrades handlers) (λ handlers. B.decides handlers) D.fixed
-        (λ handler. D.degrades handler) }
+    ensures stands { (variant : TypeVariant) → UserHeadersKeepStanding (asked_terms variant (terms_of T.name T.size T.alignment T.is_default
+        U.name U.size U.alignment U.is_default B.fixed (λ handlers. B.degrades handlers) (λ handlers. B.decides handlers) D.fixed
+        (λ handler. D.degrades handler))) }
+    ensures called { (variant : TypeVariant) → UserHeadersNeedNoCommand (asked_terms variant (terms_of T.name T.size T.alignment
+        T.is_default U.name U.size U.alignment U.is_default B.fixed (λ handlers. B.degrades handlers) (λ handlers. B.decides handlers)
+        D.fixed (λ handler. D.degrades handler))) }
 {}
 
 /// The header of a sample is read: `header`. The sequence number that it tells is what the machine answers of the sample. The publisher of
@@ -309,16 +168,12 @@ pub fn typed_headers_are_read_by_steps<
     B: PublisherHandlers,
     D: SubscriberHandler,
 >()
-    ensures reads { (variant : TypeVariant)
-        → HeaderIsStep (detail FixedSize T.name T.size T.alignment) (detail FixedSize U.name U.size U.alignment)
-        (asked_types variant (detail FixedSize T.name T.size T.alignment) (detail FixedSize U.name U.size U.alignment))
-        T.is_default U.is_default B.fixed (λ handlers. B.degrades handlers) (λ handlers. B.decides handlers) D.fixed
-        (λ handler. D.degrades handler) }
-    ensures names { (variant : TypeVariant)
-        → HeaderNamesPublisher (detail FixedSize T.name T.size T.alignment) (detail FixedSize U.name U.size U.alignment)
-        (asked_types variant (detail FixedSize T.name T.size T.alignment) (detail FixedSize U.name U.size U.alignment))
-        T.is_default U.is_default B.fixed (λ handlers. B.degrades handlers) (λ handlers. B.decides handlers) D.fixed
-        (λ handler. D.degrades handler) }
+    ensures reads { (variant : TypeVariant) → HeaderIsStep (asked_terms variant (terms_of T.name T.size T.alignment T.is_default U.name
+        U.size U.alignment U.is_default B.fixed (λ handlers. B.degrades handlers) (λ handlers. B.decides handlers) D.fixed
+        (λ handler. D.degrades handler))) }
+    ensures names { (variant : TypeVariant) → HeaderNamesPublisher (asked_terms variant (terms_of T.name T.size T.alignment T.is_default
+        U.name U.size U.alignment U.is_default B.fixed (λ handlers. B.degrades handlers) (λ handlers. B.decides handlers) D.fixed
+        (λ handler. D.degrades handler))) }
 {}
 
 /// What is told in the domains of a hub as sends begin: nothing before any port came, and by a call of the ports of a domain what that call
@@ -336,11 +191,9 @@ pub fn typed_headers_are_as_sent<
     B: PublisherHandlers,
     D: SubscriberHandler,
 >()
-    ensures { (variant : TypeVariant)
-        → HeaderReadAsSent (detail FixedSize T.name T.size T.alignment) (detail FixedSize U.name U.size U.alignment)
-        (asked_types variant (detail FixedSize T.name T.size T.alignment) (detail FixedSize U.name U.size U.alignment))
-        T.is_default U.is_default B.fixed (λ handlers. B.degrades handlers) (λ handlers. B.decides handlers) D.fixed
-        (λ handler. D.degrades handler) }
+    ensures { (variant : TypeVariant) → HeaderReadAsSent (asked_terms variant (terms_of T.name T.size T.alignment T.is_default U.name U.size
+        U.alignment U.is_default B.fixed (λ handlers. B.degrades handlers) (λ handlers. B.decides handlers) D.fixed
+        (λ handler. D.degrades handler))) }
 {}
 
 /// What the `payload` of a sample gives, once a subscriber received it, are the values of a message whose send began before, in the run of
@@ -352,11 +205,9 @@ pub fn payload_was_sent<
     B: PublisherHandlers,
     D: SubscriberHandler,
 >()
-    ensures { (variant : TypeVariant)
-        → PayloadWasSent K (detail FixedSize T.name T.size T.alignment) (detail FixedSize U.name U.size U.alignment)
-        (asked_types variant (detail FixedSize T.name T.size T.alignment) (detail FixedSize U.name U.size U.alignment))
-        T.is_default U.is_default B.fixed (λ handlers. B.degrades handlers) (λ handlers. B.decides handlers) D.fixed
-        (λ handler. D.degrades handler) }
+    ensures { (variant : TypeVariant) → PayloadWasSent K (asked_terms variant (terms_of T.name T.size T.alignment T.is_default U.name U.size
+        U.alignment U.is_default B.fixed (λ handlers. B.degrades handlers) (λ handlers. B.decides handlers) D.fixed
+        (λ handler. D.degrades handler))) }
 {
     received_was_sent::<T, B, D>();
 }
@@ -370,112 +221,9 @@ pub fn payload_stays<
     B: PublisherHandlers,
     D: SubscriberHandler,
 >()
-    ensures { (variant : TypeVariant)
-        → PayloadStays K (detail FixedSize T.name T.size T.alignment) (detail FixedSize U.name U.size U.alignment)
-        (asked_types variant (detail FixedSize T.name T.size T.alignment) (detail FixedSize U.name U.size U.alignment))
-        T.is_default U.is_default B.fixed (λ handlers. B.degrades handlers) (λ handlers. B.decides handlers) D.fixed
-        (λ handler. D.degrades handler) }
+    ensures { (variant : TypeVariant) → PayloadStays K (asked_terms variant (terms_of T.name T.size T.alignment T.is_default U.name U.size
+        U.alignment U.is_default B.fixed (λ handlers. B.degrades handlers) (λ handlers. B.decides handlers) D.fixed
+        (λ handler. D.degrades handler))) }
 {
     samples_read_the_same::<T, B, D>();
 }
-
-/// A node is made: `new_node`.
-pub fn typed_nodes_are_steps<
-    T: ZeroCopySend + Default,
-    U: ZeroCopySend + Default,
-    B: PublisherHandlers,
-    D: SubscriberHandler,
->()
-    ensures { (variant : TypeVariant)
-        → NewNodeIsStep (detail FixedSize T.name T.size T.alignment) (detail FixedSize U.name U.size U.alignment)
-        (asked_types variant (detail FixedSize T.name T.size T.alignment) (detail FixedSize U.name U.size U.alignment))
-        T.is_default U.is_default B.fixed (λ handlers. B.degrades handlers) (λ handlers. B.decides handlers) D.fixed
-        (λ handler. D.degrades handler) }
-{}
-
-/// A publisher comes by a factory of a publish-subscribe service: `create` and `create_slice` of its builder, with what the options of the
-/// command name. One of single values is named as one with one value in a loan, whose room doesn't grow. Whoever is asked how many slots it
-/// gets answers what the options name.
-pub fn typed_publishers_come_by_steps<
-    T: ZeroCopySend + Default,
-    U: ZeroCopySend + Default,
-    O: Overrides,
-    B: PublisherHandlers,
-    D: SubscriberHandler,
->(_overriding: &O)
-    ensures { (variant : TypeVariant)
-        → PublisherIsStep (detail FixedSize T.name T.size T.alignment) (detail FixedSize U.name U.size U.alignment)
-        (asked_types variant (detail FixedSize T.name T.size T.alignment) (detail FixedSize U.name U.size U.alignment))
-        T.is_default U.is_default B.fixed (λ handlers. B.degrades handlers) (λ handlers. B.decides handlers) D.fixed
-        (λ handler. D.degrades handler) (O.overrides _overriding.now) }
-{}
-
-/// A node creates a service, opens it, or does either: `create_with_attributes_in`, `open_with_attributes_in` and
-/// `open_or_create_with_attributes_in` of a builder, with lists of steps of nodes outside the hub that are those that the command names. A
-/// factory that was made goes by the next number.
-pub fn typed_openings_are_steps<
-    T: ZeroCopySend + Default,
-    U: ZeroCopySend + Default,
-    B: PublisherHandlers,
-    D: SubscriberHandler,
->()
-    ensures creates { (variant : TypeVariant)
-        → CreateIsStep (detail FixedSize T.name T.size T.alignment) (detail FixedSize U.name U.size U.alignment)
-        (asked_types variant (detail FixedSize T.name T.size T.alignment) (detail FixedSize U.name U.size U.alignment))
-        T.is_default U.is_default B.fixed (λ handlers. B.degrades handlers) (λ handlers. B.decides handlers) D.fixed
-        (λ handler. D.degrades handler) }
-    ensures opens { (variant : TypeVariant)
-        → OpenIsStep (detail FixedSize T.name T.size T.alignment) (detail FixedSize U.name U.size U.alignment)
-        (asked_types variant (detail FixedSize T.name T.size T.alignment) (detail FixedSize U.name U.size U.alignment))
-        T.is_default U.is_default B.fixed (λ handlers. B.degrades handlers) (λ handlers. B.decides handlers) D.fixed
-        (λ handler. D.degrades handler) }
-    ensures either { (variant : TypeVariant)
-        → OpenOrCreateIsStep (detail FixedSize T.name T.size T.alignment) (detail FixedSize U.name U.size U.alignment)
-        (asked_types variant (detail FixedSize T.name T.size T.alignment) (detail FixedSize U.name U.size U.alignment))
-        T.is_default U.is_default B.fixed (λ handlers. B.degrades handlers) (λ handlers. B.decides handlers) D.fixed
-        (λ handler. D.degrades handler) }
-{}
-
-/// Nodes outside the hub act on a service: `foreign`, with the steps that the command names.
-pub fn typed_foreign_calls_are_steps<
-    T: ZeroCopySend + Default,
-    U: ZeroCopySend + Default,
-    B: PublisherHandlers,
-    D: SubscriberHandler,
->()
-    ensures { (variant : TypeVariant)
-        → ForeignIsStep (detail FixedSize T.name T.size T.alignment) (detail FixedSize U.name U.size U.alignment)
-        (asked_types variant (detail FixedSize T.name T.size T.alignment) (detail FixedSize U.name U.size U.alignment))
-        T.is_default U.is_default B.fixed (λ handlers. B.degrades handlers) (λ handlers. B.decides handlers) D.fixed
-        (λ handler. D.degrades handler) }
-{}
-
-/// A subscriber comes by a factory of a publish-subscribe service: `create` and `create_slice` of its builder, with what the options of the
-/// command name.
-pub fn typed_subscribers_come_by_steps<
-    T: ZeroCopySend + Default,
-    U: ZeroCopySend + Default,
-    B: PublisherHandlers,
-    D: SubscriberHandler,
->()
-    ensures { (variant : TypeVariant)
-        → SubscriberIsStep (detail FixedSize T.name T.size T.alignment) (detail FixedSize U.name U.size U.alignment)
-        (asked_types variant (detail FixedSize T.name T.size T.alignment) (detail FixedSize U.name U.size U.alignment))
-        T.is_default U.is_default B.fixed (λ handlers. B.degrades handlers) (λ handlers. B.decides handlers) D.fixed
-        (λ handler. D.degrades handler) }
-{}
-
-/// A factory is closed, or handed back while it is in use: `close`.
-pub fn typed_closes_are_steps<
-    T: ZeroCopySend + Default,
-    U: ZeroCopySend + Default,
-    F,
-    B: PublisherHandlers,
-    D: SubscriberHandler,
->()
-    ensures { (variant : TypeVariant)
-        → CloseIsStep (detail FixedSize T.name T.size T.alignment) (detail FixedSize U.name U.size U.alignment)
-        (asked_types variant (detail FixedSize T.name T.size T.alignment) (detail FixedSize U.name U.size U.alignment))
-        T.is_default U.is_default B.fixed (λ handlers. B.degrades handlers) (λ handlers. B.decides handlers) D.fixed
-        (λ handler. D.degrades handler) F }
-{}

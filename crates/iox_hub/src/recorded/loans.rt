@@ -28,10 +28,7 @@ use iox_describe_base::ZeroCopySend;
 use iox_domain_values::{LoanError, SendError};
 use iox_hub_base::Hub;
 use iox_hub_commands::{PublisherHandlers, SubscriberHandler};
-use iox_hub_machine::typed::{
-    typed_calls_are_a_run, typed_defaults_are_steps, typed_loans_are_steps,
-    typed_loans_end_by_steps, typed_writes_are_steps,
-};
+use iox_hub_machine::typed::{typed_calls_are_a_run, typed_publisher_calls_are_steps};
 use iox_queues_base::Words;
 use std::alloc::Global;
 
@@ -65,7 +62,7 @@ impl<
         ensures lends { IfSome result (λ answer. IfOk answer (λ loan. (loan.it.port ≡ publisher.now.it.port) × (loan.it.state.len ≡ len))) }
     {
         typed_calls_are_a_run::<T, U, B, D>();
-        typed_loans_are_steps::<T, U, Slice, B, D>();
+        typed_publisher_calls_are_steps::<T, U, Slice, B, D>();
         let number = Number::given(&self.history);
         let answer = lend_uninit_if(&mut self.hub, alloc, &publisher.it, len);
         self.history = told_lent(&self.history, &publisher.number, &answer, len);
@@ -96,7 +93,7 @@ impl<
         ensures lends { IfSome result (λ answer. IfOk answer (λ loan. loan.it.port ≡ publisher.now.it.port)) }
     {
         typed_calls_are_a_run::<T, U, B, D>();
-        typed_defaults_are_steps::<T, U, Slice, B, D>();
+        typed_publisher_calls_are_steps::<T, U, Slice, B, D>();
         let number = Number::given(&self.history);
         let answer = lend_if(&mut self.hub, alloc, &publisher.it, len);
         self.history = told_lent(&self.history, &publisher.number, &answer, len);
@@ -119,7 +116,7 @@ impl<
         ensures same { (result.0.number ≡ loan.number) × (result.0.it.port ≡ loan.it.port) × (result.0.it.slot ≡ loan.it.slot) }
     {
         typed_calls_are_a_run::<T, U, B, D>();
-        typed_writes_are_steps::<T, U, Slice, B, D>();
+        typed_publisher_calls_are_steps::<T, U, Slice, B, D>();
         let Named { it, number } = loan;
         let (sample, filled) = write_all(&mut self.hub, it, values);
         self.history = told_filled(&self.history, &number, filled, values);
@@ -135,7 +132,7 @@ impl<
         } }
     {
         typed_calls_are_a_run::<T, U, B, D>();
-        typed_loans_end_by_steps::<T, U, Slice, B, D>();
+        typed_publisher_calls_are_steps::<T, U, Slice, B, D>();
         let Named { it, number } = loan;
         it.drop_with(&mut self.hub);
         self.history = History::told(&self.history, &number, &(), &());
@@ -165,7 +162,7 @@ impl<
         ])) }
     {
         typed_calls_are_a_run::<T, U, B, D>();
-        typed_loans_end_by_steps::<T, U, Slice, B, D>();
+        typed_publisher_calls_are_steps::<T, U, Slice, B, D>();
         let Named { it, number } = sample;
         let answer = send_if(&mut self.hub, alloc, it);
         let came = calls::sent_came(&answer);

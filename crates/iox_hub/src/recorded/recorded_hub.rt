@@ -52,10 +52,9 @@ use iox_hub_commands::{
     publisher_handlers, subscriber_handler,
 };
 use iox_hub_machine::typed::{
-    typed_calls_are_a_run, typed_closes_are_steps, typed_nodes_are_steps, typed_openings_are_steps,
-    typed_publishers_come_by_steps, typed_publishers_follow_by_steps, typed_puts_are_steps,
-    typed_receives_are_steps, typed_samples_are_read_by_steps, typed_sends_go_on_by_steps,
-    typed_subscribers_come_by_steps, typed_subscribers_follow_by_steps, what_is_held_may_be_used,
+    typed_calls_are_a_run, typed_closes_are_steps, typed_publisher_calls_are_steps,
+    typed_publishers_come_by_steps, typed_service_calls_are_steps,
+    typed_subscriber_calls_are_steps, what_is_held_may_be_used,
 };
 use iox_machine::{received_was_sent, samples_read_the_same};
 use iox_negotiate_base::errors::{
@@ -90,9 +89,9 @@ impl<
     B: PublisherHandlers,
     D: SubscriberHandler,
 > Model for RecordedHub<T, U, B, D> {
-    ghost use Rattle.iox_domain.specs.Fitting.{asked_types};
-    ghost use Rattle.iox_hub_commands.specs.DescribeBase.Detail.{detail};
-    ghost use Rattle.iox_hub_commands.specs.DescribeBase.declared.type_detail.TypeVariant.TheVariants.{FixedSize, Dynamic};
+    ghost use Rattle.iox_hub_commands.specs.DescribeBase.declared.type_detail.TypeVariant.TheVariants.{Dynamic};
+    ghost use Rattle.iox_hub_commands.specs.Terms.{terms_of};
+    ghost use Rattle.iox_hub_machine.specs.TypedTerms.{asked_terms};
     ghost use Rattle.iox_hub.specs.Recorded.{HubRecord};
     ghost use Rattle.iox_hub.specs.Recording.{IsRecorded, newest_there};
 
@@ -103,10 +102,9 @@ impl<
       newest = newest_there recorded.history.calls recorded.hub;
     } };
 
-    ghost invariant = { λ recorded. IsRecorded (detail FixedSize T.name T.size T.alignment) (detail FixedSize U.name U.size U.alignment)
-        (asked_types Dynamic (detail FixedSize T.name T.size T.alignment) (detail FixedSize U.name U.size U.alignment)) T.is_default
-        U.is_default B.fixed (λ handlers. B.degrades handlers) (λ handlers. B.decides handlers) D.fixed (λ handler. D.degrades handler)
-        recorded.fit recorded.history.calls recorded.hub };
+    ghost invariant = { λ recorded. IsRecorded (asked_terms Dynamic (terms_of T.name T.size T.alignment T.is_default U.name U.size
+        U.alignment U.is_default B.fixed (λ handlers. B.degrades handlers) (λ handlers. B.decides handlers) D.fixed
+        (λ handler. D.degrades handler))) recorded.fit recorded.history.calls recorded.hub };
 }
 
 impl<
@@ -164,7 +162,7 @@ impl<
         ensures here { IfOk result (λ node. node.hub ≡ self.new.calls.config.id) }
     {
         typed_calls_are_a_run::<T, U, B, D>();
-        typed_nodes_are_steps::<T, U, B, D>();
+        typed_service_calls_are_steps::<T, U, B, D>();
         let answer = self.hub.new_node();
         self.history = History::told(&self.history, &(), &answer, &());
         answer
@@ -203,7 +201,7 @@ impl<
             factory.it.service.membership.storage ≡ self.old.calls.config.id)) }
     {
         typed_calls_are_a_run::<T, U, B, D>();
-        typed_openings_are_steps::<T, U, B, D>();
+        typed_service_calls_are_steps::<T, U, B, D>();
         let number = Number::given(&self.history);
         let asked = node.number();
         let answer = services::create_if(&mut self.hub, alloc, asked, name, options, attributes);
@@ -246,7 +244,7 @@ impl<
             factory.it.service.membership.storage ≡ self.old.calls.config.id)) }
     {
         typed_calls_are_a_run::<T, U, B, D>();
-        typed_openings_are_steps::<T, U, B, D>();
+        typed_service_calls_are_steps::<T, U, B, D>();
         let number = Number::given(&self.history);
         let (answer, history) = services::opened(
             &mut self.hub,
@@ -291,7 +289,7 @@ impl<
             factory.it.service.membership.storage ≡ self.old.calls.config.id)) }
     {
         typed_calls_are_a_run::<T, U, B, D>();
-        typed_openings_are_steps::<T, U, B, D>();
+        typed_service_calls_are_steps::<T, U, B, D>();
         let number = Number::given(&self.history);
         let (answer, history) = services::opened_or_created(
             &mut self.hub,
@@ -437,7 +435,7 @@ impl<
         let domain = calls::domain_of(&factory.it);
         let number = Number::given(&self.history);
         typed_calls_are_a_run::<T, U, B, D>();
-        typed_subscribers_come_by_steps::<T, U, B, D>();
+        typed_service_calls_are_steps::<T, U, B, D>();
         let config = calls::subscriber_config(calls::owner_of(&factory.it), options);
         let answer = create_subscriber(
             &mut self.hub,
@@ -473,7 +471,7 @@ impl<
         ])) }
     {
         typed_calls_are_a_run::<T, U, B, D>();
-        typed_puts_are_steps::<T, U, Slice, B, D>();
+        typed_publisher_calls_are_steps::<T, U, Slice, B, D>();
         let answer = calls::put_if(&mut self.hub, alloc, &publisher.it, values);
         self.history = calls::told_put(&self.history, &publisher.number, &answer, values);
         answer
@@ -501,7 +499,7 @@ impl<
         ])) (λ back. back ≡ blocked) }
     {
         typed_calls_are_a_run::<T, U, B, D>();
-        typed_sends_go_on_by_steps::<T, U, Slice, B, D>();
+        typed_publisher_calls_are_steps::<T, U, Slice, B, D>();
         let answer = calls::retry_if(&mut self.hub, blocked, elapsed_ns);
         let came = calls::sent_came(&answer);
         self.history = History::told(&self.history, &publisher.number, &came, &elapsed_ns);
@@ -523,7 +521,7 @@ impl<
             (option_map_or (λ count. reply.Delivered count) result reply.Skipped) self.old.calls }
     {
         typed_calls_are_a_run::<T, U, B, D>();
-        typed_sends_go_on_by_steps::<T, U, Slice, B, D>();
+        typed_publisher_calls_are_steps::<T, U, Slice, B, D>();
         let answer = blocked.drop_with(&mut self.hub);
         self.history = History::told(&self.history, &publisher.number, &answer, &());
         answer
@@ -545,7 +543,7 @@ impl<
             (λ done. reply.Done) refusal.Connection (λ done calls. calls) self.old.calls }
     {
         typed_calls_are_a_run::<T, U, B, D>();
-        typed_publishers_follow_by_steps::<T, U, Slice, B, D>();
+        typed_publisher_calls_are_steps::<T, U, Slice, B, D>();
         let answer = calls::update_publisher_if(&mut self.hub, alloc, &publisher.it);
         self.history = History::told(&self.history, &publisher.number, &answer, &());
         answer
@@ -568,7 +566,7 @@ impl<
             (λ handler. D.degrades handler) self.old.calls → IsSome result }
     {
         typed_calls_are_a_run::<T, U, B, D>();
-        typed_subscribers_follow_by_steps::<T, U, Slice, B, D>();
+        typed_subscriber_calls_are_steps::<T, U, Slice, B, D>();
         what_is_held_may_be_used::<T, U, B, D>();
         let answer = calls::update_subscriber_if(&mut self.hub, alloc, &subscriber.it);
         self.history = History::told(&self.history, &subscriber.number, &answer, &());
@@ -592,7 +590,7 @@ impl<
             (λ handler. D.degrades handler) self.old.calls → IsSome result }
     {
         typed_calls_are_a_run::<T, U, B, D>();
-        typed_subscribers_follow_by_steps::<T, U, Slice, B, D>();
+        typed_subscriber_calls_are_steps::<T, U, Slice, B, D>();
         what_is_held_may_be_used::<T, U, B, D>();
         let answer = calls::has_samples_if(&mut self.hub, alloc, &subscriber.it);
         self.history = History::told(&self.history, &subscriber.number, &answer, &());
@@ -620,7 +618,7 @@ impl<
             (λ handler. D.degrades handler) self.old.calls → IsSome result }
     {
         typed_calls_are_a_run::<T, U, B, D>();
-        typed_receives_are_steps::<T, U, Slice, B, D>();
+        typed_subscriber_calls_are_steps::<T, U, Slice, B, D>();
         what_is_held_may_be_used::<T, U, B, D>();
         let number = Number::given(&self.history);
         let answer = calls::receive_if(&mut self.hub, alloc, &subscriber.it);
@@ -656,7 +654,7 @@ impl<
             (λ handler. D.degrades handler) self.now.calls → IsSome result }
     {
         typed_calls_are_a_run::<T, U, B, D>();
-        typed_samples_are_read_by_steps::<T, U, Slice, B, D>();
+        typed_subscriber_calls_are_steps::<T, U, Slice, B, D>();
         what_is_held_may_be_used::<T, U, B, D>();
         received_was_sent::<T, FixedHandlers, FixedDegradation>();
         samples_read_the_same::<T, FixedHandlers, FixedDegradation>();
@@ -703,7 +701,7 @@ impl<
             (λ handler. D.degrades handler) self.old.calls → result ≡ true }
     {
         typed_calls_are_a_run::<T, U, B, D>();
-        typed_samples_are_read_by_steps::<T, U, Slice, B, D>();
+        typed_subscriber_calls_are_steps::<T, U, Slice, B, D>();
         what_is_held_may_be_used::<T, U, B, D>();
         let Named { it, number } = sample;
         let was_held = it.drop_with(&mut self.hub);
@@ -728,7 +726,7 @@ impl<
             ≡ asked_too (command.Leave (port_number.Subscriber subscriber.number.value)) reply.Skipped self.old.calls) }
     {
         typed_calls_are_a_run::<T, U, B, D>();
-        typed_subscribers_follow_by_steps::<T, U, Slice, B, D>();
+        typed_subscriber_calls_are_steps::<T, U, Slice, B, D>();
         let Named { it, number } = subscriber;
         let left = it.drop_with(&mut self.hub);
         let gone = calls::has_left(&left);
@@ -754,7 +752,7 @@ impl<
             ≡ asked_too (command.Leave (port_number.Publisher publisher.number.value)) reply.Skipped self.old.calls) }
     {
         typed_calls_are_a_run::<T, U, B, D>();
-        typed_publishers_follow_by_steps::<T, U, Slice, B, D>();
+        typed_publisher_calls_are_steps::<T, U, Slice, B, D>();
         let Named { it, number } = publisher;
         let left = it.drop_with(&mut self.hub);
         let gone = calls::has_left(&left);

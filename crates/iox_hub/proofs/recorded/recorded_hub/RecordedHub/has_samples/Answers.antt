@@ -4,18 +4,17 @@ use Rattle.iox_hub_base.specs.AsHome.{hub_ports, with_hub_ports}
 use Rattle.iox_hub_commands.specs.CommandSteps.{subscriber_may_degrade}
 use Rattle.iox_hub.proofs.RecordedFollowing.{samples_told, stands_so}
 use Rattle.iox_hub.proofs.RecordedTold.{has_so}
-use Rattle.iox_hub_commands.specs.DescribeBase.Detail.{detail}
-use Rattle.iox_hub_commands.specs.DescribeBase.declared.type_detail.TypeVariant.TheVariants.{FixedSize, Dynamic}
+use Rattle.iox_hub_commands.specs.DescribeBase.declared.type_detail.TypeVariant.TheVariants.{Dynamic}
 use Rattle.iox_hub.proofs.recorded.recorded_hub.RecordedHub.has_samples.Goals as goal
+use Rattle.iox_hub_commands.specs.Terms.{terms_of}
 
 pub invariant_of-self : goal.invariant_of-self
 invariant_of-self g c = rw c.told-self-inside.ensures
-    (samples_told (detail FixedSize g.T.ZeroCopySend.name g.T.ZeroCopySend.size g.T.ZeroCopySend.alignment)
-    (detail FixedSize g.U.ZeroCopySend.name g.U.ZeroCopySend.size g.U.ZeroCopySend.alignment)
-    (λ value. g.T.Default.is_default value) (λ header. g.U.Default.is_default header) g.B.PublisherHandlers.fixed
-    (λ handlers. g.B.Degrades.degrades handlers) (λ handlers. g.B.Decides.decides handlers) g.D.SubscriberHandler.fixed
-    (λ handler. g.D.Degrades.degrades handler) (c.typed_calls_are_a_run.ensures.goes_on Dynamic)
-    (c.typed_subscribers_follow_by_steps.ensures.tells Dynamic) (c.what_is_held_may_be_used.ensures Dynamic)
+    (samples_told (terms_of g.T.ZeroCopySend.name g.T.ZeroCopySend.size g.T.ZeroCopySend.alignment (λ value. g.T.Default.is_default value)
+    g.U.ZeroCopySend.name g.U.ZeroCopySend.size g.U.ZeroCopySend.alignment (λ header. g.U.Default.is_default header)
+    g.B.PublisherHandlers.fixed (λ handlers. g.B.Degrades.degrades handlers) (λ handlers. g.B.Decides.decides handlers)
+    g.D.SubscriberHandler.fixed (λ handler. g.D.Degrades.degrades handler)) (c.typed_calls_are_a_run.ensures.goes_on Dynamic)
+    (c.typed_subscriber_calls_are_steps.ensures Dynamic).has (c.what_is_held_may_be_used.ensures Dynamic)
     c.self.inside.history.calls c.self.inside.hub c.has_samples_if-answer.new.hub c.args.subscriber.now.number.value
     c.args.subscriber.now.it.port
     c.has_samples_if-answer.result (rw (← c.self.view_is) at c.requires) c.has_samples_if-answer.ensures c.self.invariant)
@@ -26,11 +25,10 @@ returns-clause-told g c = rw (← c.self.view_is, c.told-self-inside.ensures)
 
 pub returns-clause-stands : goal.returns-clause-stands
 returns-clause-stands g c = λ followed.
-    stands_so (detail FixedSize g.T.ZeroCopySend.name g.T.ZeroCopySend.size g.T.ZeroCopySend.alignment)
-    (detail FixedSize g.U.ZeroCopySend.name g.U.ZeroCopySend.size g.U.ZeroCopySend.alignment)
-    (λ value. g.T.Default.is_default value) (λ header. g.U.Default.is_default header) g.B.PublisherHandlers.fixed
-    (λ handlers. g.B.Degrades.degrades handlers) (λ handlers. g.B.Decides.decides handlers) g.D.SubscriberHandler.fixed
-    (λ handler. g.D.Degrades.degrades handler) (c.what_is_held_may_be_used.ensures Dynamic)
+    stands_so (terms_of g.T.ZeroCopySend.name g.T.ZeroCopySend.size g.T.ZeroCopySend.alignment (λ value. g.T.Default.is_default value)
+    g.U.ZeroCopySend.name g.U.ZeroCopySend.size g.U.ZeroCopySend.alignment (λ header. g.U.Default.is_default header)
+    g.B.PublisherHandlers.fixed (λ handlers. g.B.Degrades.degrades handlers) (λ handlers. g.B.Decides.decides handlers)
+    g.D.SubscriberHandler.fixed (λ handler. g.D.Degrades.degrades handler)) (c.what_is_held_may_be_used.ensures Dynamic)
     c.self.inside.history.calls c.self.inside.hub c.has_samples_if-answer.new.hub c.args.subscriber.now.number.value
     c.args.subscriber.now.it.port
     (TellsSamples hub_ports with_hub_ports (subscriber_may_degrade (λ handler. g.D.Degrades.degrades handler))

@@ -3,22 +3,21 @@ use Rattle.iox_hub.specs.RecordedNames.{subscriber_side}
 use Rattle.iox_hub.proofs.KeptNumbers.{subscribers_keep}
 use Rattle.iox_hub.proofs.RecordedRuns.{subscriber_recorded}
 use Rattle.iox_hub.proofs.RecordedTold.{has_side, subscriber_goes_by, subscriber_so}
-use Rattle.iox_hub_commands.specs.DescribeBase.Detail.{detail}
-use Rattle.iox_hub_commands.specs.DescribeBase.declared.type_detail.TypeVariant.TheVariants.{FixedSize, Dynamic}
+use Rattle.iox_hub_commands.specs.DescribeBase.declared.type_detail.TypeVariant.TheVariants.{Dynamic}
 use Rattle.iox_hub.proofs.recorded.recorded_hub.RecordedHub.subscriber.Goals as goal
+use Rattle.iox_hub_commands.specs.Terms.{terms_of}
 
 pub invariant_of-self : goal.invariant_of-self
 invariant_of-self g c = rw (c.told-self-inside.ensures, c.domain_of-domain.ensures)
-    (subscriber_recorded (detail FixedSize g.T.ZeroCopySend.name g.T.ZeroCopySend.size g.T.ZeroCopySend.alignment)
-    (detail FixedSize g.U.ZeroCopySend.name g.U.ZeroCopySend.size g.U.ZeroCopySend.alignment)
-    (λ value. g.T.Default.is_default value) (λ header. g.U.Default.is_default header) g.B.PublisherHandlers.fixed
-    (λ handlers. g.B.Degrades.degrades handlers) (λ handlers. g.B.Decides.decides handlers) g.D.SubscriberHandler.fixed
-    (λ handler. g.D.Degrades.degrades handler)
+    (subscriber_recorded (terms_of g.T.ZeroCopySend.name g.T.ZeroCopySend.size g.T.ZeroCopySend.alignment
+    (λ value. g.T.Default.is_default value) g.U.ZeroCopySend.name g.U.ZeroCopySend.size g.U.ZeroCopySend.alignment
+    (λ header. g.U.Default.is_default header) g.B.PublisherHandlers.fixed (λ handlers. g.B.Degrades.degrades handlers)
+    (λ handlers. g.B.Decides.decides handlers) g.D.SubscriberHandler.fixed (λ handler. g.D.Degrades.degrades handler))
     c.self.inside.history.calls c.self.inside.hub c.create_subscriber-answer.new.home c.args.factory.now.number.value
     (c.args.factory.now.it.service.membership, c.args.factory.now.it.owner)
     (let there = rw (← c.self.view_is) at c.requires in rw there refl)
     (c.typed_calls_are_a_run.ensures.goes_on Dynamic)
-    (c.typed_subscribers_come_by_steps.ensures Dynamic) c.args.options.now c.create_subscriber-answer.result
+    (c.typed_service_calls_are_steps.ensures Dynamic).subscriber c.args.options.now c.create_subscriber-answer.result
     (rw (c.subscriber_config-config.ensures, c.subscriber_handler.ensures, c.owner_of.ensures, c.domain_of-domain.ensures)
     at c.create_subscriber-answer.ensures) c.self.invariant)
 

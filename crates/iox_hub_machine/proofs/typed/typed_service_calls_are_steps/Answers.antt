@@ -1,0 +1,9 @@
+use Rattle.iox_hub_commands.specs.Terms.{terms_of}
+use Rattle.iox_hub_machine.proofs.TypedCalls.{service_calls_are_steps}
+use Rattle.iox_hub_machine.proofs.typed.typed_service_calls_are_steps.Goals as goal
+
+pub returns : goal.returns
+returns g c variant = service_calls_are_steps variant (terms_of g.T.ZeroCopySend.name g.T.ZeroCopySend.size g.T.ZeroCopySend.alignment
+    (λ value. g.T.Default.is_default value) g.U.ZeroCopySend.name g.U.ZeroCopySend.size g.U.ZeroCopySend.alignment
+    (λ header. g.U.Default.is_default header) g.B.PublisherHandlers.fixed (λ handlers. g.B.Degrades.degrades handlers)
+    (λ handlers. g.B.Decides.decides handlers) g.D.SubscriberHandler.fixed (λ handler. g.D.Degrades.degrades handler))
