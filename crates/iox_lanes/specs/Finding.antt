@@ -24,7 +24,7 @@ is_given_back (found.Sender publisher node_id publisher_id fails last) = false
 is_given_back (found.Swapped subscriber one other) = false
 
 -- none of what was found is a sample that was given back
-pub NoneCameBack : List Found → Type 0
+abbrev pub NoneCameBack : List Found → Type 0
 NoneCameBack [] = Unit {0}
 NoneCameBack (first ∷ rest) = (is_given_back first ≡ false) × NoneCameBack rest
 

@@ -6,6 +6,7 @@ use Rattle.iox_lanes.specs.Exact.{sizes_for}
 use Rattle.iox_lanes.specs.Failing.{FailAsAsked}
 use Rattle.iox_lanes.specs.Finding.{WasFound}
 use Rattle.iox_lanes.specs.Holding.{LanesHold}
+use Rattle.iox_lanes.specs.Joined.{IsJoined}
 use Rattle.iox_lanes.specs.Spelling.{spelling_of}
 use Rattle.iox_lanes.proofs.domain_lanes.into_lanes.Goals as goal
 
@@ -37,3 +38,10 @@ pub returns-in-Ok-clause-held : goal.returns-in-Ok-clause-held
 returns-in-Ok-clause-held g c =
     subst (λ made. AreAsHeld made.lanes.lanes made.lanes.messages × ArePast made.lanes.lanes made.lanes.messages) (sym c.with.ensures)
     c.in-Ok.ensures.held
+
+pub returns-in-Ok-clause-joined : goal.returns-in-Ok-clause-joined
+returns-in-Ok-clause-joined g c =
+    subst (λ made. IsJoined
+    (spelling_of c.args.domain.state.ports.sizes.sequence_numbers g.T.Words.parts g.T.Words.WORDS g.U.Words.parts g.U.Words.WORDS)
+    (length made.one.items) made.lanes.lanes c.args.domain.state.ports.publishers made.publishers.items (length made.subscribers.items)
+    made.connections.items) (sym c.with.ensures) c.in-Ok.ensures.joined
