@@ -234,7 +234,8 @@ fn waits(
         Ok(Sent::Blocked(blocked)) => {
             let stays = publisher.drop_with(domain).is_err();
             must_be_there(rt, blocked.holds(domain));
-            stays && sent_to(blocked.retry(domain, 5), domain) == Err(SendError::UnableToDeliver)
+            let retried = sent_to(blocked.retry(domain, 5), domain);
+            stays && retried == Err(SendError::UnableToDeliver)
         }
         Ok(Sent::Delivered(_)) => false,
         Err(_) => false,
