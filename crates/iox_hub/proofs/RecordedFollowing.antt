@@ -14,7 +14,6 @@ use Rattle.iox_hub_base.specs.AsHome.{hub_ports, with_hub_ports}
 use Rattle.iox_hub_base.specs.declared.hub.Hub.{Hub}
 use Rattle.iox_hub_commands.specs.Calls.{AtPort, Follows, may_lend}
 use Rattle.iox_hub_commands.specs.CommandSteps.{publisher_may_degrade, subscriber_may_degrade}
-use Rattle.iox_hub_commands.specs.DescribeBase.declared.type_detail.TypeVariant.TheVariants.{Dynamic}
 use Rattle.iox_hub_commands.specs.DomainValues.declared.connection_failure.ConnectionFailure.{ConnectionFailure}
 use Rattle.iox_hub_commands.specs.Replies.{has_reply, updated_reply}
 use Rattle.iox_hub_commands.specs.Tables.{port_under}
@@ -23,27 +22,22 @@ use Rattle.iox_hub_machine.specs.TypedReading.{HeldMayBeUsed}
 use Rattle.iox_hub_machine.specs.TypedRuns.{CallsGoOn}
 use Rattle.iox_hub_machine.specs.TypedSubscribing.{HasIsStep, SubscriberUpdateIsStep}
 use Rattle.iox_hub.proofs.RecordedIds.{at_keeps}
-use Rattle.iox_hub.proofs.RecordedRuns.{Followed, Recorded, absent_on, may_be_used, plain_on, skipped_on}
+use Rattle.iox_hub.proofs.RecordedRuns.{AreOfSlices, Followed, Recorded, absent_on, may_be_used, plain_on, skipped_on}
 use Rattle.iox_hub.proofs.RecordedSkips.{follows_none, never_so}
 use Rattle.iox_hub.specs.Recorded.{Calls, asked_too}
 use Rattle.iox_hub.specs.Recording.{IsDoneIf, numbered}
 use Rattle.iox_hub_commands.specs.Terms.{Terms}
-use Rattle.iox_hub_machine.specs.TypedTerms.{asked_terms}
 
-module _ {T U B D : Type 0} (terms : Terms T U B D) where
-  -- the terms of a hub whose messages are slices
-  abbrev terms_so : Terms T U B D
-  terms_so = asked_terms Dynamic terms
-
+module _ {T U B D : Type 0} (terms : Terms T U B D) (of_slices : AreOfSlices terms) where
   abbrev GoesOn : Type 0
-  GoesOn = CallsGoOn terms_so
+  GoesOn = CallsGoOn terms
 
   abbrev Kept : Bool → Calls T → Hub T U B D → Type 0
   Kept fit calls hub
-      = Recorded terms fit calls hub
+      = Recorded terms of_slices fit calls hub
 
   pub publisher_updated : {fit : Bool} → GoesOn
-      → PublisherUpdateIsStep Slice terms_so
+      → PublisherUpdateIsStep Slice terms
       → (old : Calls T) (hub after : Hub T U B D) (number : ℕ) (follower : PortId) (answer : Option (Result (Unit {0}) ConnectionFailure))
       → port_under (value_at old.made.publishers number) ≡ Some follower
       → IsDoneIf (may_lend hub_ports follower hub)
@@ -51,7 +45,7 @@ module _ {T U B D : Type 0} (terms : Terms T U B D) where
       → Kept fit old hub → Kept fit (asked_too (command.Update (port.Publisher number)) (updated_reply answer) old) after
   publisher_updated {fit} goes_on steps old hub after number follower None there (never, same) was =
       subst (λ (it : Hub T U B D). Kept fit (asked_too (command.Update (port.Publisher number)) reply.Skipped old) it) (sym same)
-      (skipped_on terms goes_on old hub hub (command.Update (port.Publisher number)) refl (λ names most state it. (
+      (skipped_on terms of_slices goes_on old hub hub (command.Update (port.Publisher number)) refl (λ names most state it. (
         (
           None,
           subst (λ (found : Option PortId). AtPort (Follows hub_ports with_hub_ports (publisher_may_degrade terms.degrades)) found hub None
@@ -63,51 +57,51 @@ module _ {T U B D : Type 0} (terms : Terms T U B D) where
         refl,
       )) was)
   publisher_updated goes_on steps old hub after number follower (Some answer) there (may, follows) was =
-      plain_on terms goes_on old hub after (command.Update (port.Publisher number)) (updated_reply (Some answer))
+      plain_on terms of_slices goes_on old hub after (command.Update (port.Publisher number)) (updated_reply (Some answer))
       (at_keeps follower.domain (UpdatesBy (publisher_may_degrade terms.degrades follower.domain follower.number hub) follower.number)
       (hub_ports follower.domain hub) hub after (Some answer) follows)
       (steps number follower (numbered old hub) after answer there follows) was
 
   pub subscriber_updated : {fit : Bool} → GoesOn
-      → SubscriberUpdateIsStep Slice terms_so
-      → HeldMayBeUsed terms_so
+      → SubscriberUpdateIsStep Slice terms
+      → HeldMayBeUsed terms
       → (old : Calls T) (hub after : Hub T U B D) (number : ℕ) (follower : PortId) (answer : Option (Result (Unit {0}) ConnectionFailure))
       → value_at old.made.subscribers number ≡ Some follower
       → IsDoneIf (subscriber_stands follower.number (hub_ports follower.domain hub))
       (FollowsPublishers hub_ports with_hub_ports (subscriber_may_degrade terms.reader_degrades) follower) hub answer after
       → Kept fit old hub → Kept fit (asked_too (command.Update (port.Subscriber number)) (updated_reply answer) old) after
   subscriber_updated goes_on steps may_use old hub after number follower None there (never, same) was =
-      absent_on terms goes_on may_use old hub after (command.Update (port.Subscriber number)) number follower there never same was
+      absent_on terms of_slices goes_on may_use old hub after (command.Update (port.Subscriber number)) number follower there never same was
   subscriber_updated goes_on steps may_use old hub after number follower (Some answer) there (may, follows) was =
-      plain_on terms goes_on old hub after (command.Update (port.Subscriber number)) (updated_reply (Some answer))
+      plain_on terms of_slices goes_on old hub after (command.Update (port.Subscriber number)) (updated_reply (Some answer))
       (at_keeps follower.domain (FollowsBy (subscriber_may_degrade terms.reader_degrades follower.domain follower.number hub)
       follower.number) (hub_ports follower.domain hub) hub after (Some answer) follows)
       (steps number follower (numbered old hub) after answer there follows) was
 
   pub samples_told : {fit : Bool} → GoesOn
-      → HasIsStep Slice terms_so
-      → HeldMayBeUsed terms_so
+      → HasIsStep Slice terms
+      → HeldMayBeUsed terms
       → (old : Calls T) (hub after : Hub T U B D) (number : ℕ) (asker : PortId) (answer : Option (Result Bool ConnectionFailure))
       → value_at old.made.subscribers number ≡ Some asker
       → IsDoneIf (subscriber_stands asker.number (hub_ports asker.domain hub))
       (TellsSamples hub_ports with_hub_ports (subscriber_may_degrade terms.reader_degrades) asker) hub answer after
       → Kept fit old hub → Kept fit (asked_too (command.Has number) (has_reply answer) old) after
   samples_told goes_on steps may_use old hub after number asker None there (never, same) was =
-      absent_on terms goes_on may_use old hub after (command.Has number) number asker there never same was
+      absent_on terms of_slices goes_on may_use old hub after (command.Has number) number asker there never same was
   samples_told goes_on steps may_use old hub after number asker (Some answer) there (may, tells) was =
-      plain_on terms goes_on old hub after (command.Has number) (has_reply (Some answer))
+      plain_on terms of_slices goes_on old hub after (command.Has number) (has_reply (Some answer))
       (at_keeps asker.domain (TellsBy (subscriber_may_degrade terms.reader_degrades asker.domain asker.number hub) asker.number)
       (hub_ports asker.domain hub) hub after (Some answer) tells)
       (steps number asker (numbered old hub) after answer there tells) was
 
   -- what a subscriber that the program holds is asked is answered
-  pub stands_so : {fit : Bool} {A : Type 0} → HeldMayBeUsed terms_so
+  pub stands_so : {fit : Bool} {A : Type 0} → HeldMayBeUsed terms
       → (old : Calls T) (hub after : Hub T U B D) (number : ℕ) (who : PortId) (does : Hub T U B D → A → Hub T U B D → Type 0)
       (answer : Option A) → value_at old.made.subscribers number ≡ Some who
       → IsDoneIf (subscriber_stands who.number (hub_ports who.domain hub)) does hub answer after
       → Kept fit old hub
-      → Followed terms old → IsSome answer
+      → Followed terms of_slices old → IsSome answer
   stands_so may_use old hub after number who does None there (never, same) was followed =
       never_so (subscriber_stands who.number (hub_ports who.domain hub))
-      ((may_be_used terms may_use old hub was followed).subscribers number who there) never
+      ((may_be_used terms of_slices may_use old hub was followed).subscribers number who there) never
   stands_so may_use old hub after number who does (Some it) there done was followed = refl

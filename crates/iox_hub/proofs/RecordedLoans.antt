@@ -26,7 +26,6 @@ use Rattle.iox_hub_base.specs.AsHome.{hub_ports, with_hub_ports}
 use Rattle.iox_hub_base.specs.declared.hub.Hub.{Hub}
 use Rattle.iox_hub_commands.specs.Calls.{AtPort, Lends, LendsWritten, may_lend}
 use Rattle.iox_hub_commands.specs.CommandSteps.{publisher_may_decide, publisher_may_degrade}
-use Rattle.iox_hub_commands.specs.DescribeBase.declared.type_detail.TypeVariant.TheVariants.{Dynamic}
 use Rattle.iox_hub_commands.specs.DomainValues.declared.backpressure.BackpressureDecision.{BackpressureDecision}
 use Rattle.iox_hub_commands.specs.DomainValues.declared.backpressure.BackpressureInfo.{BackpressureInfo}
 use Rattle.iox_hub_commands.specs.DomainValues.declared.degradation.DegradationAction.{DegradationAction}
@@ -50,7 +49,7 @@ use Rattle.iox_hub.proofs.LoanSkips.{lends_none, sends_none, written_where_fits}
 use Rattle.iox_hub.proofs.RecordedCame.{told_too}
 use Rattle.iox_hub.proofs.RecordedIds.{at_keeps, changed_keeps, defaults_keep}
 use Rattle.iox_hub.proofs.Recording.{calls_lent}
-use Rattle.iox_hub.proofs.RecordedRuns.{Recorded, Steps, plain_on, run_on, skipped_on}
+use Rattle.iox_hub.proofs.RecordedRuns.{AreOfSlices, Recorded, Steps, plain_on, run_on, skipped_on}
 use Rattle.iox_hub.proofs.RecordedSkips.{none_ready, not_waiting}
 use Rattle.iox_hub.proofs.RecordedTold.{WaitsAt, outcome_waits}
 use Rattle.iox_hub.specs.Recorded.{Calls, asked_too}
@@ -60,7 +59,6 @@ use Rattle.iox_hub.specs.Recording.{IsDoneIf, asked_with, is_written_with, may_s
 use Rattle.iox_hub.specs.declared.recorded.named.Named.{Named}
 use Rattle.iox_hub.specs.declared.recorded.named.Number.{Number}
 use Rattle.iox_hub_commands.specs.Terms.{Terms}
-use Rattle.iox_hub_machine.specs.TypedTerms.{asked_terms}
 
 module _ {T U B D : Type 0} where
   lend_none_if : (b : Bool) (elements : ℕ) (who : PortId) (hub : Hub T U B D) → may_lend hub_ports who hub ≡ false
@@ -193,21 +191,17 @@ module _ {T U B D : Type 0} (degrades : B → DegradationCause → DegradationIn
   sample_waits (Ok answer) (outcome, sends, is) = outcome_waits T U sample.it.port answer outcome is
   sample_waits (Err back) done = tt
 
-module _ {T U B D : Type 0} (terms : Terms T U B D) where
-  -- the terms of a hub whose messages are slices
-  abbrev terms_so : Terms T U B D
-  terms_so = asked_terms Dynamic terms
-
+module _ {T U B D : Type 0} (terms : Terms T U B D) (of_slices : AreOfSlices terms) where
   abbrev GoesOn : Type 0
-  GoesOn = CallsGoOn terms_so
+  GoesOn = CallsGoOn terms
 
   abbrev Kept : Bool → Calls T → Hub T U B D → Type 0
   Kept fit calls hub
-      = Recorded terms fit calls hub
+      = Recorded terms of_slices fit calls hub
 
   abbrev IsOne : Command T → Calls T → Hub T U B D → Reply T → Made → Hub T U B D → Type 0
   IsOne asked old hub answer made after =
-      Steps terms asked (numbered old hub) answer (hub_after_call (numbered old hub) made after)
+      Steps terms of_slices asked (numbered old hub) answer (hub_after_call (numbered old hub) made after)
 
   -- a publisher lends by a command, which is a step
   lent_on : {S : Type 0} {fit : Bool} → GoesOn → (old : Calls T) (hub after : Hub T U B D) (asked : Command T)
@@ -226,21 +220,21 @@ module _ {T U B D : Type 0} (terms : Terms T U B D) where
         id = kept ∙ was.id;
         all_fit = was.all_fit;
         told = told_too asked (reply.LoanMade old.made.loans.next) was.told;
-        run = run_on terms goes_on old hub after asked (reply.LoanMade old.made.loans.next) (having_lent (Ok loan) old.made) old.factories
-            does was.run;
+        run = run_on terms of_slices goes_on old hub after asked (reply.LoanMade old.made.loans.next) (having_lent (Ok loan) old.made)
+            old.factories does was.run;
       }
   lent_on goes_on old hub after asked (Err why) kept does was =
-      plain_on terms goes_on old hub after asked (reply.Refused (refusal.Loan why)) kept does was
+      plain_on terms of_slices goes_on old hub after asked (reply.Refused (refusal.Loan why)) kept does was
 
   pub lent_recorded : {fit : Bool} → GoesOn
-      → LoanUninitIsStep Slice terms_so
+      → LoanUninitIsStep Slice terms
       → (old : Calls T) (hub after : Hub T U B D) (number len : ℕ) (who : PortId)
       (answer : Option (Result (Lent T U Slice Uninit) LoanError)) → port_under (value_at old.made.publishers number) ≡ Some who
       → IsDoneIf (may_lend hub_ports who hub) (LendsSlice hub_ports with_hub_ports who len) hub answer after
       → Kept fit old hub → Kept fit (calls_lent (command.LoanUninit number len) answer old) after
   lent_recorded {fit} goes_on steps old hub after number len who None there (never, same) was =
       subst (λ (it : Hub T U B D). Kept fit (asked_too (command.LoanUninit number len) reply.Skipped old) it) (sym same)
-      (skipped_on terms goes_on old hub hub (command.LoanUninit number len) refl (λ names most state it. (
+      (skipped_on terms of_slices goes_on old hub hub (command.LoanUninit number len) refl (λ names most state it. (
         (
           Ok None,
           (old.made, as_roomy old.made, (None, lend_none len (value_at old.made.publishers number) who hub there never, (refl, refl))),
@@ -254,7 +248,7 @@ module _ {T U B D : Type 0} (terms : Terms T U B D) where
       (steps number len who (numbered old hub) after answer there (lent, lends, is)) was
 
   pub defaults_recorded : {fit : Bool} → GoesOn
-      → LoanIsStep Slice terms_so
+      → LoanIsStep Slice terms
       → (old : Calls T) (hub after : Hub T U B D) (number len : ℕ) (who : PortId)
       (answer : Option (Result (Lent T U Slice Written) LoanError)) → port_under (value_at old.made.publishers number) ≡ Some who
       → IsDoneIf (may_lend hub_ports who hub) (LendsDefaults hub_ports with_hub_ports terms.is_default who len) hub answer after
@@ -262,7 +256,7 @@ module _ {T U B D : Type 0} (terms : Terms T U B D) where
       → Kept fit old hub → Kept fit (calls_lent (command.Loan number len) answer old) after
   defaults_recorded {fit} goes_on steps old hub after number len who None there (never, same) (value, default) was =
       subst (λ (it : Hub T U B D). Kept fit (asked_too (command.Loan number len) reply.Skipped old) it) (sym same)
-      (skipped_on terms goes_on old hub hub (command.Loan number len) refl (λ names most state it. (
+      (skipped_on terms of_slices goes_on old hub hub (command.Loan number len) refl (λ names most state it. (
         (
           value,
           default,
@@ -289,7 +283,7 @@ module _ {T U B D : Type 0} (terms : Terms T U B D) where
 
   -- all values of a loan are written, if it has as many
   pub filled_recorded : {fit : Bool} → GoesOn
-      → WriteIsStep Slice terms_so
+      → WriteIsStep Slice terms
       → (old : Calls T) (hub after : Hub T U B D) (number : ℕ) (made : MadeLoan) (values : List T) (done : Bool)
       → value_at old.made.loans number ≡ Some made → WritesAll hub_ports with_hub_ports made.port made.slot values hub after
       → done ≡ is_written_with (loan_found made.port.number made.slot (hub_ports made.port.domain after)) (length values)
@@ -298,7 +292,7 @@ module _ {T U B D : Type 0} (terms : Terms T U B D) where
       let same : done ≡ fits_in values made.port.number made.slot (hub_ports made.port.domain hub)
       = is ∙ written_where_fits values made.port made.slot hub after writes in
       subst (λ (b : Bool). Kept fit (asked_too (command.Fill number values) (done_reply b) old) after) (sym same)
-      (plain_on terms goes_on old hub after (command.Fill number values)
+      (plain_on terms of_slices goes_on old hub after (command.Fill number values)
       (done_reply (fits_in values made.port.number made.slot (hub_ports made.port.domain hub)))
       (ap (λ hub. hub.table.id) writes ∙ changed_keeps made.port.domain _ (hub_ports made.port.domain hub) hub)
       (steps number made values (numbered old hub) after there writes) was)
@@ -319,11 +313,11 @@ module _ {T U B D : Type 0} (terms : Terms T U B D) where
         id = kept ∙ was.id;
         all_fit = was.all_fit;
         told = told_too asked answer was.told;
-        run = run_on terms goes_on old hub after asked answer (without_loan number old.made) old.factories does was.run;
+        run = run_on terms of_slices goes_on old hub after asked answer (without_loan number old.made) old.factories does was.run;
       }
 
   pub dropped_recorded : {fit : Bool} → GoesOn
-      → DropIsStep Slice terms_so
+      → DropIsStep Slice terms
       → (old : Calls T) (hub after : Hub T U B D) (number : ℕ) (made : MadeLoan) → value_at old.made.loans number ≡ Some made
       → GivesUpLoan hub_ports with_hub_ports made.port made.slot hub after
       → Kept fit old hub → Kept fit (asked_with (without_loan number old.made) (command.Drop number) (done_reply true) old) after
@@ -333,7 +327,7 @@ module _ {T U B D : Type 0} (terms : Terms T U B D) where
       (steps number made (numbered old hub) after there gives) was
 
   pub sent_recorded : {fit : Bool} → GoesOn
-      → SendIsStep Slice terms_so
+      → SendIsStep Slice terms
       → (old : Calls T) (hub after : Hub T U B D) (number : ℕ) (sample : Lent T U Slice Written)
       (answer : Result (Result (Sent T U) SendError) (Lent T U Slice Written))
       → value_at old.made.loans number ≡ Some (record { port = sample.port; slot = sample.slot })
@@ -349,7 +343,7 @@ module _ {T U B D : Type 0} (terms : Terms T U B D) where
       (steps number (record { port = sample.port; slot = sample.slot }) (numbered old hub) after answer there (outcome, sends, is)) was
   sent_recorded {fit} goes_on steps old hub after number sample (Err back) there (is, same, never) was =
       subst (λ (it : Hub T U B D). Kept fit (asked_too (command.Send number) reply.Skipped old) it) (sym same)
-      (skipped_on terms goes_on old hub hub (command.Send number) refl (λ names most state it. (
+      (skipped_on terms of_slices goes_on old hub hub (command.Send number) refl (λ names most state it. (
         (
           None,
           subst (λ (found : Option MadeLoan). SendsUnder hub_ports with_hub_ports (publisher_may_degrade terms.degrades)

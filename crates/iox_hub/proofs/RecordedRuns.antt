@@ -52,6 +52,7 @@ use Rattle.iox_hub_base.specs.declared.hub.Hub.{Hub}
 use Rattle.iox_hub_base.specs.declared.hub.HubConfig.{HubConfig}
 use Rattle.iox_hub_base.specs.declared.node.NodeHandle.{NodeHandle}
 use Rattle.iox_hub_commands.proofs.Rooms.{new_rises}
+use Rattle.iox_hub_commands.specs.CommandSteps as numbered_hub
 use Rattle.iox_hub_commands.specs.CommandSteps.{publisher_may_decide, publisher_may_degrade, subscriber_may_degrade}
 use Rattle.iox_hub_commands.specs.DescribeBase.declared.header.Header.{Header}
 use Rattle.iox_hub_commands.specs.DescribeBase.declared.message_type.MessageTypeDetails.{MessageTypeDetails}
@@ -81,7 +82,7 @@ use Rattle.iox_hub_commands.specs.declared.ports.made.Made.{Made}
 use Rattle.iox_hub_commands.specs.declared.ports.made.MadeSample.{MadeSample}
 use Rattle.iox_hub_machine.specs.RunLaws.{AsksAmong, all_asked, names_in, steps_named}
 use Rattle.iox_hub_machine.specs.TypedPublishing.{GiveUpIsStep, PublisherLeaveIsStep, RetryIsStep, SendSliceIsStep}
-use Rattle.iox_hub_machine.proofs.TypedSteps.{Does, as_roomy, by_step}
+use Rattle.iox_hub_machine.proofs.TypedSteps.{as_roomy, by_step}
 use Rattle.iox_hub_machine.specs.Ran.{StandsAfter}
 use Rattle.iox_hub_machine.specs.TypedReading.{HeldMayBeUsed, MayBeUsed}
 use Rattle.iox_hub_machine.specs.TypedRuns.{CallsBegin, CallsGoOn}
@@ -103,7 +104,6 @@ use Rattle.iox_hub.specs.Recording.{AllFit, asked_with, no_calls, told_sent_if, 
 use Rattle.iox_hub.proofs.RecordedIds.{at_keeps, drops_keeps, leaves_keeps, makes_keeps, receive_keeps, retry_keeps}
 use Rattle.iox_hub.proofs.RecordedIds.{slice_keeps}
 use Rattle.iox_hub_commands.specs.Terms.{Terms}
-use Rattle.iox_hub_machine.specs.TypedTerms.{asked_terms}
 
 -- what is below is told to be
 low : (n m : ℕ) → n < m → nat_lt n m ≡ true
@@ -206,35 +206,45 @@ module _ {T U B D : Type 0} (degrades : D → DegradationCause → DegradationIn
   came_there receiver old new sample (Ok None, takes, is) = cc
   came_there receiver old new sample (Err why, takes, is) = cc
 
-module _ {T U B D : Type 0} (terms : Terms T U B D) where
-  -- the terms of a hub whose messages are slices
-  abbrev pub terms_so : Terms T U B D
-  terms_so = asked_terms Dynamic terms
+-- the messages of a hub on these terms are slices
+abbrev pub AreOfSlices : {T U B D : Type 0} → Terms T U B D → Type 0
+AreOfSlices terms = terms.types ≡ asked_types Dynamic terms.payload terms.user_header
 
-  -- the types of the messages: slices
-  abbrev pub types : MessageTypeDetails
-  types = asked_types Dynamic terms.payload terms.user_header
+-- what a hub does, where it stands for a state, is a step of the machine
+abbrev IsStepWhere : {T U B D : Type 0} → Terms T U B D → Command T → NumberedHub T U B D → NumberedHub T U B D → Reply T → Type 0
+IsStepWhere {T} terms asked old new answer =
+    ((names : List (List ℕ)) (most : ℕ) (state : State T)
+    → StandsAfter terms.types (as_named terms.is_default) terms.degrades terms.decides terms.reader_degrades names most old state
+    → numbered_hub.Step terms asked old (Ok answer) new)
+    → IsStepBy terms asked old answer new
 
+module _ {T U B D : Type 0} (terms : Terms T U B D) (of_slices : AreOfSlices terms) where
   abbrev pub Run : Bool → Calls T → Hub T U B D → Type 0
   Run fit calls hub
-      = IsRun terms_so fit calls hub
+      = IsRun terms fit calls hub
 
   abbrev pub Recorded : Bool → Calls T → Hub T U B D → Type 0
   Recorded fit calls hub
-      = IsRecorded terms_so fit calls hub
+      = IsRecorded terms fit calls hub
 
   abbrev pub Steps : Command T → NumberedHub T U B D → Reply T → NumberedHub T U B D → Type 0
-  Steps = IsStepBy terms_so
+  Steps = IsStepBy terms
 
   abbrev pub Followed : Calls T → Type 0
   Followed calls = AreFollowed terms.fixed terms.degrades terms.decides terms.fixed_reader terms.reader_degrades calls
 
   abbrev pub Stood : List (List ℕ) → ℕ → NumberedHub T U B D → State T → Type 0
-  Stood names most hub state = StandsAfter types (as_named terms.is_default) terms.degrades terms.decides terms.reader_degrades names most
-      hub state
+  Stood names most hub state = StandsAfter terms.types (as_named terms.is_default) terms.degrades terms.decides terms.reader_degrades names
+      most hub state
+
+  -- what a hub of slices does, where it stands for a state, is a step of the machine
+  pub by_slices : (asked : Command T) (old new : NumberedHub T U B D) (answer : Reply T) → IsStepWhere terms asked old new answer
+  by_slices asked old new answer =
+      subst (λ (types : MessageTypeDetails). IsStepWhere (record terms { types = types }) asked old new answer) (sym of_slices)
+      (by_step Dynamic terms asked old new answer)
 
   -- one call more, which is a step, and what is known then
-  run_to : (fit known : Bool) → CallsGoOn terms_so
+  run_to : (fit known : Bool) → CallsGoOn terms
       → (old : Calls T) (hub after : Hub T U B D) (asked : Command T) (answer : Reply T) (made : Made) (factories : FactoryTable)
       (received : List (List T)) → (AllFit received → AllFit old.received)
       → (AllFit received → Steps asked (numbered old hub) answer (numbered (then old asked answer made factories received) after))
@@ -255,7 +265,7 @@ module _ {T U B D : Type 0} (terms : Terms T U B D) where
       (now, kept ∙ same, knows names (all_asked (old.asked ++ asked ∷ [])) now.state now.stands fits so)
 
   -- one call more, which is a step, and nothing more is known then
-  pub run_on : {fit : Bool} → CallsGoOn terms_so
+  pub run_on : {fit : Bool} → CallsGoOn terms
       → (old : Calls T) (hub after : Hub T U B D) (asked : Command T) (answer : Reply T) (made : Made) (factories : FactoryTable)
       → Steps asked (numbered old hub) answer (numbered (then old asked answer made factories old.received) after)
       → Run fit old hub → Run fit (then old asked answer made factories old.received) after
@@ -264,10 +274,10 @@ module _ {T U B D : Type 0} (terms : Terms T U B D) where
       (λ names most state stands fits so. so) was
 
   abbrev pub Skips : Command T → Calls T → Hub T U B D → Hub T U B D → Type 0
-  Skips asked old hub after = Does Dynamic terms asked (numbered old hub) reply.Skipped (numbered old after)
+  Skips asked old hub after = numbered_hub.Step terms asked (numbered old hub) (Ok reply.Skipped) (numbered old after)
 
   -- a call that leaves what the program holds as it was
-  pub plain_on : {fit : Bool} → CallsGoOn terms_so
+  pub plain_on : {fit : Bool} → CallsGoOn terms
       → (old : Calls T) (hub after : Hub T U B D) (asked : Command T) (answer : Reply T)
       → after.table.id ≡ hub.table.id → Steps asked (numbered old hub) answer (numbered old after)
       → Recorded fit old hub → Recorded fit (asked_too asked answer old) after
@@ -280,17 +290,17 @@ module _ {T U B D : Type 0} (terms : Terms T U B D) where
   }
 
   -- a call that isn't made is a command that is skipped
-  pub skipped_on : {fit : Bool} → CallsGoOn terms_so
+  pub skipped_on : {fit : Bool} → CallsGoOn terms
       → (old : Calls T) (hub after : Hub T U B D) (asked : Command T) → after.table.id ≡ hub.table.id
       → ((names : List (List ℕ)) (most : ℕ) (state : State T) → Stood names most (numbered old hub) state → Skips asked old hub after)
       → Recorded fit old hub → Recorded fit (asked_too asked reply.Skipped old) after
   skipped_on goes_on old hub after asked kept skips was =
       plain_on goes_on old hub after asked reply.Skipped kept
-      (by_step Dynamic terms asked (numbered old hub) (numbered old after) reply.Skipped skips) was
+      (by_slices asked (numbered old hub) (numbered old after) reply.Skipped skips) was
 
   -- a subscriber that the program holds stands, so that no call of it is skipped
-  pub absent_on : {fit : Bool} → CallsGoOn terms_so
-      → HeldMayBeUsed terms_so
+  pub absent_on : {fit : Bool} → CallsGoOn terms
+      → HeldMayBeUsed terms
       → (old : Calls T) (hub after : Hub T U B D) (asked : Command T) → (number : ℕ) (who : PortId)
       → value_at old.made.subscribers number ≡ Some who → subscriber_stands who.number (hub_ports who.domain hub) ≡ false → after ≡ hub
       → Recorded fit old hub → Recorded fit (asked_too asked reply.Skipped old) after
@@ -301,7 +311,7 @@ module _ {T U B D : Type 0} (terms : Terms T U B D) where
       ((may_use names most (numbered old hub) state it).subscribers number who there) never) was)
 
   -- nothing was asked of a new hub
-  pub new_recorded : CallsBegin terms_so
+  pub new_recorded : CallsBegin terms
       → (config : HubConfig) (hub : Hub T U B D) → IsNewHub config hub
       → Recorded true (no_calls config) hub
   new_recorded begins config hub is =
@@ -331,7 +341,7 @@ module _ {T U B D : Type 0} (terms : Terms T U B D) where
 
   -- what was asked and answered is a run of the machine
   pub answers_so : {fit : Bool} (calls : Calls T) (hub : Hub T U B D) → Run fit calls hub → Followed calls
-      → Answers types (as_named terms.is_default) calls.config.expired_connection_buffer calls.asked false calls.answers
+      → Answers terms.types (as_named terms.is_default) calls.config.expired_connection_buffer calls.asked false calls.answers
   answers_so calls hub run (decides_so, answer_so, own, few, fit) =
       let (called, same, known) = run (names_in calls.asked) decides_so answer_so own (all_among calls.asked) few fit in (
         calls.asked,
@@ -339,7 +349,7 @@ module _ {T U B D : Type 0} (terms : Terms T U B D) where
         called.state,
         sym (append-nil calls.asked),
         refl,
-        subst (λ (n : ℕ). Runs types (as_named terms.is_default) n calls.asked new_state calls.answers called.state) same called.run,
+        subst (λ (n : ℕ). Runs terms.types (as_named terms.is_default) n calls.asked new_state calls.answers called.state) same called.run,
       )
 
   -- by the premises it is known that all that was received fits
@@ -348,14 +358,14 @@ module _ {T U B D : Type 0} (terms : Terms T U B D) where
       (run (names_in calls.asked) decides_so answer_so own (all_among calls.asked) few fit).2
 
   -- what the program holds may be used
-  pub may_be_used : {fit : Bool} → HeldMayBeUsed terms_so
+  pub may_be_used : {fit : Bool} → HeldMayBeUsed terms
       → (calls : Calls T) (hub : Hub T U B D) → Recorded fit calls hub → Followed calls → MayBeUsed (numbered calls hub)
   may_be_used may calls hub recorded (decides_so, answers_so, own, few, fit) =
       let (called, same, known) = recorded.run (names_in calls.asked) decides_so answers_so own (all_among calls.asked) few fit in
       may (names_in calls.asked) (all_asked calls.asked) (numbered calls hub) called.state called.stands
 
-  pub node_recorded : {fit : Bool} → CallsGoOn terms_so
-      → NewNodeIsStep terms_so
+  pub node_recorded : {fit : Bool} → CallsGoOn terms
+      → NewNodeIsStep terms
       → (old : Calls T) (hub after : Hub T U B D) (answer : Result NodeHandle HubError)
       → answer ≡ Ok (record { hub = hub.table.id; number = one_more hub.nodes })
       → after ≡ record hub { nodes = one_more hub.nodes }
@@ -364,8 +374,8 @@ module _ {T U B D : Type 0} (terms : Terms T U B D) where
       plain_on goes_on old hub after command.Node (told_node answer) (ap (λ hub. hub.table.id) same)
       (steps (numbered old hub) after answer is same) was
 
-  pub put_recorded : {fit : Bool} → CallsGoOn terms_so
-      → SendSliceIsStep Slice terms_so
+  pub put_recorded : {fit : Bool} → CallsGoOn terms
+      → SendSliceIsStep Slice terms
       → (old : Calls T) (hub after : Hub T U B D) (number : ℕ) (lender : PortId) (values : List T)
       (answer : Option (Result (Sent T U) SendError)) → port_under (value_at old.made.publishers number) ≡ Some lender
       → IsDoneIf (may_lend hub_ports lender hub)
@@ -394,8 +404,8 @@ module _ {T U B D : Type 0} (terms : Terms T U B D) where
 
   -- a send that waits is tried again, or what doesn't wait is handed back
   pub retry_recorded : {fit : Bool} {W : Type 0}
-      → CallsGoOn terms_so
-      → RetryIsStep Slice terms_so
+      → CallsGoOn terms
+      → RetryIsStep Slice terms
       → (old : Calls T) (hub after : Hub T U B D) (number nanoseconds : ℕ) (sender : PortId) (waits : W)
       (answer : Result (Result (Sent T U) SendError) W) → port_under (value_at old.made.publishers number) ≡ Some sender
       → IsDoneOrBack (publisher_blocked sender.number (hub_ports sender.domain hub)) waits
@@ -420,8 +430,8 @@ module _ {T U B D : Type 0} (terms : Terms T U B D) where
       (retry_keeps terms.decides sender nanoseconds hub after answer tries)
       (steps number nanoseconds sender (numbered old hub) after answer there tries) was
 
-  pub give_up_recorded : {fit : Bool} → CallsGoOn terms_so
-      → GiveUpIsStep Slice terms_so
+  pub give_up_recorded : {fit : Bool} → CallsGoOn terms
+      → GiveUpIsStep Slice terms
       → (old : Calls T) (hub after : Hub T U B D) (number : ℕ) (sender : PortId) (answer : Option ℕ)
       → port_under (value_at old.made.publishers number) ≡ Some sender
       → EndsSend hub_ports with_hub_ports sender hub answer after
@@ -432,9 +442,9 @@ module _ {T U B D : Type 0} (terms : Terms T U B D) where
       (steps number sender (numbered old hub) after answer there ends) was
 
   -- a sample that came is told with its values; a subscriber that the program holds stands
-  pub receive_recorded : {fit : Bool} → CallsGoOn terms_so
-      → ReceiveIsStep Slice terms_so
-      → HeldMayBeUsed terms_so
+  pub receive_recorded : {fit : Bool} → CallsGoOn terms
+      → ReceiveIsStep Slice terms
+      → HeldMayBeUsed terms
       → (old : Calls T) (hub after : Hub T U B D) (number : ℕ) (receiver : PortId)
       (answer : Option (Result (Option (Sample T U Slice)) ReceiveError)) → value_at old.made.subscribers number ≡ Some receiver
       → IsDoneIf (subscriber_stands receiver.number (hub_ports receiver.domain hub))
@@ -484,7 +494,7 @@ module _ {T U B D : Type 0} (terms : Terms T U B D) where
       (steps number receiver (numbered old hub) after (Err why) (reply.Refused (refusal.Receive why)) there receives refl) was)
 
   -- a subscriber that the program holds receives
-  pub receives_some : {fit : Bool} → HeldMayBeUsed terms_so
+  pub receives_some : {fit : Bool} → HeldMayBeUsed terms
       → (old : Calls T) (hub after : Hub T U B D) (number : ℕ) (receiver : PortId)
       (answer : Option (Result (Option (Sample T U Slice)) ReceiveError)) (named : Number)
       → value_at old.made.subscribers number ≡ Some receiver
@@ -499,14 +509,14 @@ module _ {T U B D : Type 0} (terms : Terms T U B D) where
   receives_some may_use old hub after number receiver (Some (Err why)) named there done was followed = refl
 
   -- what a sample that goes by a number is read as, the machine may answer
-  pub read_so : {fit : Bool} → CallsGoOn terms_so
-      → PayloadIsStep Slice terms_so
+  pub read_so : {fit : Bool} → CallsGoOn terms
+      → PayloadIsStep Slice terms
       → (calls : Calls T) (hub : Hub T U B D) (number : ℕ) (made : MadeSample) (values : List T)
       → value_at calls.made.samples number ≡ Some made → values_under hub_ports (Some made) hub ≡ Some values → Recorded fit calls hub
       → Followed (record calls { asked = calls.asked ++ command.Read number ∷ [] }) → length values < 2 ^ 63
       → (told : Vec T) × (vec_items told ≡ values)
-      × Answers types (as_named terms.is_default) calls.config.expired_connection_buffer (calls.asked ++ command.Read number ∷ []) false
-      (calls.answers ++ reply.Values told ∷ [])
+      × Answers terms.types (as_named terms.is_default) calls.config.expired_connection_buffer (calls.asked ++ command.Read number ∷ [])
+      false (calls.answers ++ reply.Values told ∷ [])
   read_so goes_on steps calls hub number made values there read was followed small = (
     vector values,
     vector_is values small,
@@ -517,24 +527,24 @@ module _ {T U B D : Type 0} (terms : Terms T U B D) where
   )
 
   -- what the header of a sample that goes by a number tells as its sequence number, the machine may answer
-  pub sequence_so : {fit : Bool} → CallsGoOn terms_so
+  pub sequence_so : {fit : Bool} → CallsGoOn terms
       → (calls : Calls T) (hub : Hub T U B D) (number : ℕ) (made : MadeSample) (header : Header)
       → value_at calls.made.samples number ≡ Some made → Some header ≡ header_found made.taken (hub_ports made.port.domain hub)
       → Recorded fit calls hub → Followed (record calls { asked = calls.asked ++ command.Sequence number ∷ [] })
-      → Answers types (as_named terms.is_default) calls.config.expired_connection_buffer (calls.asked ++ command.Sequence number ∷ []) false
-      (calls.answers ++ reply.Sequence header.sequence ∷ [])
+      → Answers terms.types (as_named terms.is_default) calls.config.expired_connection_buffer (calls.asked ++ command.Sequence number ∷ [])
+      false (calls.answers ++ reply.Sequence header.sequence ∷ [])
   sequence_so goes_on calls hub number made header there is was followed =
       answers_so (then calls (command.Sequence number) (reply.Sequence header.sequence) calls.made calls.factories calls.received) hub
       (run_on goes_on calls hub hub (command.Sequence number) (reply.Sequence header.sequence) calls.made calls.factories
-      (by_step Dynamic terms (command.Sequence number) (numbered calls hub) (numbered calls hub) (reply.Sequence header.sequence)
+      (by_slices (command.Sequence number) (numbered calls hub) (numbered calls hub) (reply.Sequence header.sequence)
       (λ names most state it. (
         ap sequence_reply (sequence_told made.taken header (hub_ports made.port.domain hub) is
             ∙ sym (ap (λ (found : Option MadeSample). sequence_under hub_ports found hub) there)),
         refl,
       ))) was.run) followed
 
-  pub release_recorded : {fit : Bool} → CallsGoOn terms_so
-      → ReleaseIsStep Slice terms_so
+  pub release_recorded : {fit : Bool} → CallsGoOn terms
+      → ReleaseIsStep Slice terms
       → (old : Calls T) (hub after : Hub T U B D) (number : ℕ) (made : MadeSample) (released : Bool)
       → value_at old.made.samples number ≡ Some made
       → DropsSample hub_ports with_hub_ports made.port made.taken hub released after
@@ -557,7 +567,7 @@ module _ {T U B D : Type 0} (terms : Terms T U B D) where
       }
 
   -- a sample that goes by a number was held
-  pub release_held : {fit : Bool} → HeldMayBeUsed terms_so
+  pub release_held : {fit : Bool} → HeldMayBeUsed terms
       → (old : Calls T) (hub after : Hub T U B D) (number : ℕ) (made : MadeSample) (released : Bool)
       → value_at old.made.samples number ≡ Some made
       → DropsSample hub_ports with_hub_ports made.port made.taken hub released after
@@ -568,8 +578,8 @@ module _ {T U B D : Type 0} (terms : Terms T U B D) where
 
   -- ---- ports that come and leave
 
-  pub subscriber_ended : {fit : Bool} → CallsGoOn terms_so
-      → SubscriberLeaveIsStep Slice terms_so
+  pub subscriber_ended : {fit : Bool} → CallsGoOn terms
+      → SubscriberLeaveIsStep Slice terms
       → (old : Calls T) (hub after : Hub T U B D) (number : ℕ) (leaver : PortId) (left : Bool)
       → value_at old.made.subscribers number ≡ Some leaver
       → EndsSubscriber hub_ports with_hub_ports without_hub_subscriber leaver hub left after
@@ -600,8 +610,8 @@ module _ {T U B D : Type 0} (terms : Terms T U B D) where
       )
       rises false = was.rise
 
-  pub publisher_ended : {fit : Bool} → CallsGoOn terms_so
-      → PublisherLeaveIsStep Slice terms_so
+  pub publisher_ended : {fit : Bool} → CallsGoOn terms
+      → PublisherLeaveIsStep Slice terms
       → (old : Calls T) (hub after : Hub T U B D) (number : ℕ) (leaver : PortId) (left : Bool)
       → port_under (value_at old.made.publishers number) ≡ Some leaver
       → EndsPublisher hub_ports with_hub_ports without_hub_publisher leaver hub left after
@@ -650,9 +660,9 @@ module _ {T U B D : Type 0} (terms : Terms T U B D) where
         (publisher_config (owner_of_factory parts) named) header) (why_no_publisher (publisher_config (owner_of_factory parts) named))
         (hub_ports (domain_of_factory parts) hub) hub after answer makes
 
-    pub publisher_recorded : {fit : Bool} → CallsGoOn terms_so
+    pub publisher_recorded : {fit : Bool} → CallsGoOn terms
         → (named : PublisherOptions)
-        → PublisherIsStep terms_so (λ worst_case slots. slots ≡ unwrap_or named.preallocated_samples worst_case)
+        → PublisherIsStep terms (λ worst_case slots. slots ≡ unwrap_or named.preallocated_samples worst_case)
         → (header : U) (answer : Option (Result ℕ PublisherCreateError))
         → terms.is_default_header header
         → MakesAt (λ after. with_hub_ports (domain_of_factory parts) after hub)
@@ -705,8 +715,8 @@ module _ {T U B D : Type 0} (terms : Terms T U B D) where
         (subscriber_config (owner_of_factory parts) named)) (why_no_subscriber (subscriber_config (owner_of_factory parts) named))
         (hub_ports (domain_of_factory parts) hub) hub after answer makes
 
-    pub subscriber_recorded : {fit : Bool} → CallsGoOn terms_so
-        → SubscriberIsStep terms_so
+    pub subscriber_recorded : {fit : Bool} → CallsGoOn terms
+        → SubscriberIsStep terms
         → (named : SubscriberOptions) (answer : Option (Result ℕ SubscriberCreateError))
         → MakesAt (λ after. with_hub_ports (domain_of_factory parts) after hub)
         (λ number. with_hub_subscriber (domain_of_factory parts) number (subscriber_handler terms.fixed_reader named))

@@ -15,49 +15,36 @@ use Rattle.iox_command.specs.declared.service.ServiceOptions.TheVariants as opti
 use Rattle.iox_command.specs.declared.step.ForeignStep.{ForeignStep}
 use Rattle.iox_container.proofs.Rising.{Rises-push, Rises-removed}
 use Rattle.iox_container.specs.NumberTable.{Rises, inserted, value_at}
-use Rattle.iox_domain.specs.Fitting.{asked_types}
 use Rattle.iox_hub_base.specs.Closing.{Closes, in_use}
 use Rattle.iox_hub_base.specs.Hubs.{is_node}
 use Rattle.iox_hub_base.specs.declared.hub.Hub.{Hub}
 use Rattle.iox_hub_commands.specs.Creating.{CreatesAs, CreatesNumbered}
 use Rattle.iox_hub_commands.specs.DescribeBase.Attributes.{Required}
 use Rattle.iox_hub_commands.specs.DescribeBase.declared.attribute.Attribute.{Attribute}
-use Rattle.iox_hub_commands.specs.DescribeBase.declared.message_type.MessageTypeDetails.{MessageTypeDetails}
 use Rattle.iox_hub_commands.specs.DescribeBase.declared.pattern.MessagingPattern.{MessagingPattern}
-use Rattle.iox_hub_commands.specs.DescribeBase.declared.type_detail.TypeVariant.TheVariants.{Dynamic}
 use Rattle.iox_hub_commands.specs.Either.{EitherAs, EitherNumbered}
 use Rattle.iox_hub_commands.specs.Foreign.{ActsNamed}
 use Rattle.iox_hub_commands.specs.Opening.{OpensAs, OpensNumbered}
 use Rattle.iox_hub_commands.specs.Replies.{factory_reply, foreign_reply}
 use Rattle.iox_hub_commands.specs.ServicesTables.{FactoryTable, parts_of}
 use Rattle.iox_hub_commands.specs.declared.services.made.MadeFactory.{MadeFactory}
-use Rattle.iox_hub_machine.proofs.TypedSteps.{by_step}
 use Rattle.iox_hub_machine.specs.TypedOpening.{CreateIsStep, OpenIsStep, OpenOrCreateIsStep, opened_then}
 use Rattle.iox_hub_machine.specs.TypedRuns.{CallsGoOn}
 use Rattle.iox_hub_machine.specs.TypedServices.{CloseIsStep, factories_then, told_closed}
 use Rattle.iox_hub.proofs.RecordedCame.{told_too}
 use Rattle.iox_hub.proofs.RecordedIds.{closes_keeps, creates_keeps, either_keeps, foreign_keeps, opens_keeps}
-use Rattle.iox_hub.proofs.RecordedRuns.{Recorded, Skips, Steps, plain_on, run_on, skipped_on}
+use Rattle.iox_hub.proofs.RecordedRuns.{AreOfSlices, Recorded, Skips, Steps, by_slices, plain_on, run_on, skipped_on}
 use Rattle.iox_hub.specs.Recorded.{Calls, asked_too}
 use Rattle.iox_hub.specs.Recording.{OpensIf, calls_closed, calls_opened, numbered}
 use Rattle.iox_hub_commands.specs.Terms.{Terms}
-use Rattle.iox_hub_machine.specs.TypedTerms.{asked_terms}
 
-module _ {T U B D : Type 0} (terms : Terms T U B D) where
-  -- the terms of a hub whose messages are slices
-  abbrev terms_so : Terms T U B D
-  terms_so = asked_terms Dynamic terms
-
-  -- the types of the messages: slices
-  abbrev types : MessageTypeDetails
-  types = asked_types Dynamic terms.payload terms.user_header
-
+module _ {T U B D : Type 0} (terms : Terms T U B D) (of_slices : AreOfSlices terms) where
   abbrev GoesOn : Type 0
-  GoesOn = CallsGoOn terms_so
+  GoesOn = CallsGoOn terms
 
   abbrev Kept : Bool → Calls T → Hub T U B D → Type 0
   Kept fit calls hub
-      = Recorded terms fit calls hub
+      = Recorded terms of_slices fit calls hub
 
   -- a node asks for a service by a command, which is a step
   module _ {E : Type 0} (asked : Command T) (refused : E → Refusal) (node : ℕ)
@@ -67,16 +54,16 @@ module _ {T U B D : Type 0} (terms : Terms T U B D) where
       → after.table.id ≡ hub.table.id)
       (steps : (answer : Result ℕ Refusal) (table : FactoryTable) → is_node node hub.nodes ≡ true
       → asks old.factories hub answer table after
-      → Steps terms asked (numbered old hub) (factory_reply (Some answer)) (opened_then (numbered old hub) table after))
+      → Steps terms of_slices asked (numbered old hub) (factory_reply (Some answer)) (opened_then (numbered old hub) table after))
       (skips : is_node node hub.nodes ≡ false
-      → Skips terms asked old hub hub)
+      → Skips terms of_slices asked old hub hub)
     where
       asked_recorded : {fit : Bool} → GoesOn → (answer : Option (Result MadeFactory E))
           → OpensIf refused node asks old.factories hub answer after → Kept fit old hub
           → Kept fit (calls_opened asked refused answer old) after
       asked_recorded {fit} goes_on None (never, same) was =
           subst (λ (it : Hub T U B D). Kept fit (asked_too asked reply.Skipped old) it) (sym same)
-          (skipped_on terms goes_on old hub hub asked refl (λ names most state it. skips never) was)
+          (skipped_on terms of_slices goes_on old hub hub asked refl (λ names most state it. skips never) was)
       asked_recorded goes_on (Some (Ok factory)) (there, opens) was =
           let (factories, publishers, subscribers, loans, samples) = was.rise in record {
             rise = (
@@ -89,33 +76,33 @@ module _ {T U B D : Type 0} (terms : Terms T U B D) where
             id = keeps (Ok old.factories.next) (inserted old.factories factory) opens ∙ was.id;
             all_fit = was.all_fit;
             told = told_too asked (reply.FactoryMade old.factories.next) was.told;
-            run = run_on terms goes_on old hub after asked (reply.FactoryMade old.factories.next) old.made (inserted old.factories factory)
-                (steps (Ok old.factories.next) (inserted old.factories factory) there opens) was.run;
+            run = run_on terms of_slices goes_on old hub after asked (reply.FactoryMade old.factories.next) old.made
+                (inserted old.factories factory) (steps (Ok old.factories.next) (inserted old.factories factory) there opens) was.run;
           }
       asked_recorded goes_on (Some (Err why)) (there, opens) was =
-          plain_on terms goes_on old hub after asked (reply.Refused (refused why)) (keeps (Err (refused why)) old.factories opens)
+          plain_on terms of_slices goes_on old hub after asked (reply.Refused (refused why)) (keeps (Err (refused why)) old.factories opens)
           (steps (Err (refused why)) old.factories there opens) was
 
   module _ (old : Calls T) (hub after : Hub T U B D) (node : ℕ) (name : List ℕ) (named : PublishSubscribeOptions) where
     pub created_recorded : {fit : Bool} → GoesOn
-        → CreateIsStep terms_so
+        → CreateIsStep terms
         → (attributes : List Attribute) (answer : Option (Result MadeFactory PublishSubscribeCreateError))
         → OpensIf refusal.PublishSubscribeCreate node
-        (CreatesAs (options.PublishSubscribe named) terms.payload terms.user_header types node name attributes []) old.factories hub answer
-        after
+        (CreatesAs (options.PublishSubscribe named) terms.payload terms.user_header terms.types node name attributes []) old.factories hub
+        answer after
         → Kept fit old hub
         → Kept fit (calls_opened (command.Create node name (options.PublishSubscribe named) attributes [])
         refusal.PublishSubscribeCreate answer old) after
     created_recorded goes_on steps attributes answer opens was =
         asked_recorded (command.Create node name (options.PublishSubscribe named) attributes []) refusal.PublishSubscribeCreate node
-        (CreatesAs (options.PublishSubscribe named) terms.payload terms.user_header types node name attributes []) old hub after
-        (λ answer table creates. creates_keeps terms.payload terms.user_header types node name named attributes old.factories table hub
-        after answer creates)
+        (CreatesAs (options.PublishSubscribe named) terms.payload terms.user_header terms.types node name attributes []) old hub after
+        (λ answer table creates. creates_keeps terms.payload terms.user_header terms.types node name named attributes old.factories table
+        hub after answer creates)
         (λ answer table there creates. steps node name (options.PublishSubscribe named) attributes [] (numbered old hub) after answer table
         there tt creates)
         (λ never. (
           None,
-          subst (λ (b : Bool). CreatesNumbered b terms.payload terms.user_header types
+          subst (λ (b : Bool). CreatesNumbered b terms.payload terms.user_header terms.types
               (record { node = node; name = name; options = options.PublishSubscribe named }) attributes [] old.factories hub None
               old.factories hub) (sym never) (refl, refl, refl),
           refl,
@@ -123,24 +110,24 @@ module _ {T U B D : Type 0} (terms : Terms T U B D) where
         )) goes_on answer opens was
 
     pub opened_recorded : {fit : Bool} → GoesOn
-        → OpenIsStep terms_so
+        → OpenIsStep terms
         → (required : Required) (answer : Option (Result MadeFactory PublishSubscribeOpenError))
         → OpensIf refusal.PublishSubscribeOpen node
-        (OpensAs (options.PublishSubscribe named) terms.payload terms.user_header types node name required []) old.factories hub answer
-        after
+        (OpensAs (options.PublishSubscribe named) terms.payload terms.user_header terms.types node name required []) old.factories hub
+        answer after
         → Kept fit old hub
         → Kept fit (calls_opened (command.Open node name (options.PublishSubscribe named) required []) refusal.PublishSubscribeOpen answer
         old) after
     opened_recorded goes_on steps required answer opens was =
         asked_recorded (command.Open node name (options.PublishSubscribe named) required []) refusal.PublishSubscribeOpen node
-        (OpensAs (options.PublishSubscribe named) terms.payload terms.user_header types node name required []) old hub after
-        (λ answer table does. opens_keeps terms.payload terms.user_header types node name named required old.factories table hub after
+        (OpensAs (options.PublishSubscribe named) terms.payload terms.user_header terms.types node name required []) old hub after
+        (λ answer table does. opens_keeps terms.payload terms.user_header terms.types node name named required old.factories table hub after
         answer does)
         (λ answer table there does. steps node name (options.PublishSubscribe named) required [] (numbered old hub) after answer table
         there tt does)
         (λ never. (
           None,
-          subst (λ (b : Bool). OpensNumbered b terms.payload terms.user_header types
+          subst (λ (b : Bool). OpensNumbered b terms.payload terms.user_header terms.types
               (record { node = node; name = name; options = options.PublishSubscribe named }) required [] old.factories hub None
               old.factories hub) (sym never) (refl, refl, refl),
           refl,
@@ -148,25 +135,25 @@ module _ {T U B D : Type 0} (terms : Terms T U B D) where
         )) goes_on answer opens was
 
     pub either_recorded : {fit : Bool} → GoesOn
-        → OpenOrCreateIsStep terms_so
+        → OpenOrCreateIsStep terms
         → (required : Required) (answer : Option (Result MadeFactory PublishSubscribeOpenOrCreateError))
         → OpensIf refusal.PublishSubscribeOpenOrCreate node
-        (EitherAs (options.PublishSubscribe named) terms.payload terms.user_header types node name required []) old.factories hub answer
-        after
+        (EitherAs (options.PublishSubscribe named) terms.payload terms.user_header terms.types node name required []) old.factories hub
+        answer after
         → Kept fit old hub
         → Kept fit (calls_opened (command.OpenOrCreate node name (options.PublishSubscribe named) required [])
         refusal.PublishSubscribeOpenOrCreate answer old) after
     either_recorded goes_on steps required answer opens was =
         asked_recorded (command.OpenOrCreate node name (options.PublishSubscribe named) required [])
         refusal.PublishSubscribeOpenOrCreate node
-        (EitherAs (options.PublishSubscribe named) terms.payload terms.user_header types node name required []) old hub after
-        (λ answer table does. either_keeps terms.payload terms.user_header types node name named required old.factories table hub after
-        answer does)
+        (EitherAs (options.PublishSubscribe named) terms.payload terms.user_header terms.types node name required []) old hub after
+        (λ answer table does. either_keeps terms.payload terms.user_header terms.types node name named required old.factories table hub
+        after answer does)
         (λ answer table there does. steps node name (options.PublishSubscribe named) required [] (numbered old hub) after answer table
         there tt does)
         (λ never. (
           None,
-          subst (λ (b : Bool). EitherNumbered b terms.payload terms.user_header types
+          subst (λ (b : Bool). EitherNumbered b terms.payload terms.user_header terms.types
               (record { node = node; name = name; options = options.PublishSubscribe named }) required [] old.factories hub None
               old.factories hub) (sym never) (refl, refl, refl),
           refl,
@@ -174,12 +161,12 @@ module _ {T U B D : Type 0} (terms : Terms T U B D) where
         )) goes_on answer opens was
 
   pub foreign_recorded : {fit : Bool} → GoesOn → (old : Calls T) (hub after : Hub T U B D) (kind : MessagingPattern) (name : List ℕ)
-      (steps : List ForeignStep) (answer : Result (Unit {0}) HubError) → ActsNamed kind name types steps hub answer after
+      (steps : List ForeignStep) (answer : Result (Unit {0}) HubError) → ActsNamed kind name terms.types steps hub answer after
       → Kept fit old hub → Kept fit (asked_too (command.Foreign kind name steps) (foreign_reply answer) old) after
   foreign_recorded goes_on old hub after kind name steps answer acts was =
-      plain_on terms goes_on old hub after (command.Foreign kind name steps) (foreign_reply answer) (foreign_keeps kind name types steps hub
-      after answer acts)
-      (by_step Dynamic terms (command.Foreign kind name steps) (numbered old hub) (numbered old after) (foreign_reply answer)
+      plain_on terms of_slices goes_on old hub after (command.Foreign kind name steps) (foreign_reply answer)
+      (foreign_keeps kind name terms.types steps hub after answer acts)
+      (by_slices terms of_slices (command.Foreign kind name steps) (numbered old hub) (numbered old after) (foreign_reply answer)
       (λ names most state it. (answer, acts, refl, refl))) was
 
   -- ---- a factory that is closed
@@ -191,7 +178,7 @@ module _ {T U B D : Type 0} (terms : Terms T U B D) where
   closed_rises (Err (why, Some factory)) number table rises = rises
 
   pub closed_recorded : {fit : Bool} {F : Type 0} → GoesOn
-      → CloseIsStep terms_so F
+      → CloseIsStep terms F
       → (old : Calls T) (hub after : Hub T U B D) (number : ℕ) (made : MadeFactory) (factory : F)
       (answer : Result (Unit {0}) (CloseError × Option F)) → value_at old.factories number ≡ Some made
       → Closes (parts_of made).0 (parts_of made).1 factory hub answer after
@@ -203,6 +190,6 @@ module _ {T U B D : Type 0} (terms : Terms T U B D) where
             ∙ was.id;
         all_fit = was.all_fit;
         told = told_too (command.Close number) (told_closed answer) was.told;
-        run = run_on terms goes_on old hub after (command.Close number) (told_closed answer) old.made
+        run = run_on terms of_slices goes_on old hub after (command.Close number) (told_closed answer) old.made
             (factories_then answer number old.factories) (steps number made factory (numbered old hub) after answer there closes) was.run;
       }

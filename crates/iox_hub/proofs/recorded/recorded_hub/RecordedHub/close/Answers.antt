@@ -1,4 +1,4 @@
-use Rattle.std.proofs.Common.{◌∙◌, sym}
+use Rattle.std.proofs.Common.{◌∙◌, sym, refl}
 use Rattle.std.specs.Result.{result_map_both}
 use Rattle.iox_hub.proofs.RecordedServices.{closed_recorded}
 use Rattle.iox_hub.proofs.RecordedTold.{closed_so, closes_back}
@@ -6,15 +6,10 @@ use Rattle.iox_hub_base.specs.Closing.{in_use}
 use Rattle.iox_hub_commands.specs.DescribeBase.declared.type_detail.TypeVariant.TheVariants.{Dynamic}
 use Rattle.iox_hub_commands.specs.declared.services.made.MadeFactory.TheVariants as made_factory
 use Rattle.iox_hub.proofs.recorded.recorded_hub.RecordedHub.close.Goals as goal
-use Rattle.iox_hub_commands.specs.Terms.{terms_of}
 
 pub invariant_of-self : goal.invariant_of-self
 invariant_of-self g c = rw c.told-self-inside.ensures
-    (closed_recorded (terms_of g.T.ZeroCopySend.name g.T.ZeroCopySend.size g.T.ZeroCopySend.alignment
-    (λ value. g.T.Default.is_default value) g.U.ZeroCopySend.name g.U.ZeroCopySend.size g.U.ZeroCopySend.alignment
-    (λ header. g.U.Default.is_default header) g.B.PublisherHandlers.fixed (λ handlers. g.B.Degrades.degrades handlers)
-    (λ handlers. g.B.Decides.decides handlers) g.D.SubscriberHandler.fixed (λ handler. g.D.Degrades.degrades handler))
-    (c.typed_calls_are_a_run.ensures.goes_on Dynamic)
+    (closed_recorded _ refl (c.typed_calls_are_a_run.ensures.goes_on Dynamic)
     (c.typed_closes_are_steps.ensures Dynamic)
     c.self.inside.history.calls c.self.inside.hub c.close-closed.new.self c.args.factory.number.value
     (made_factory.PublishSubscribe c.args.factory.it) c.args.factory.it

@@ -1,20 +1,15 @@
 use Rattle.iox_hub.proofs.RecordedRuns.{publisher_ended}
 use Rattle.iox_hub_commands.specs.DescribeBase.declared.type_detail.TypeVariant.TheVariants.{Dynamic}
-use Rattle.std.proofs.Common.{is_ok}
+use Rattle.std.proofs.Common.{is_ok, refl}
 use Rattle.iox_command.specs.declared.command.Command.TheVariants as command
 use Rattle.iox_command.specs.declared.port.PortNumber.TheVariants as port
 use Rattle.iox_hub_commands.specs.Tables.{without_publisher}
 use Rattle.iox_hub.proofs.RecordedTold.{handed_back, left_so}
 use Rattle.iox_hub.proofs.recorded.recorded_hub.RecordedHub.end_publisher.Goals as goal
-use Rattle.iox_hub_commands.specs.Terms.{terms_of}
 
 pub invariant_of-self : goal.invariant_of-self
 invariant_of-self g c = rw (c.told-self-inside.ensures, c.has_left-gone.ensures)
-    (publisher_ended (terms_of g.T.ZeroCopySend.name g.T.ZeroCopySend.size g.T.ZeroCopySend.alignment
-    (λ value. g.T.Default.is_default value) g.U.ZeroCopySend.name g.U.ZeroCopySend.size g.U.ZeroCopySend.alignment
-    (λ header. g.U.Default.is_default header) g.B.PublisherHandlers.fixed (λ handlers. g.B.Degrades.degrades handlers)
-    (λ handlers. g.B.Decides.decides handlers) g.D.SubscriberHandler.fixed (λ handler. g.D.Degrades.degrades handler))
-    (c.typed_calls_are_a_run.ensures.goes_on Dynamic)
+    (publisher_ended _ refl (c.typed_calls_are_a_run.ensures.goes_on Dynamic)
     (c.typed_publisher_calls_are_steps.ensures Dynamic).leave
     c.self.inside.history.calls c.self.inside.hub c.drop_with-left.new.home c.args.publisher.number.value c.args.publisher.it.port
     (is_ok c.drop_with-left.result)

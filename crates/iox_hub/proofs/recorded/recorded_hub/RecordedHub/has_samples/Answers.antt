@@ -1,3 +1,4 @@
+use Rattle.std.proofs.Common.{refl}
 use Rattle.iox_command.specs.declared.command.Command.TheVariants as command
 use Rattle.iox_delivery.specs.Subscribing.{TellsSamples}
 use Rattle.iox_hub_base.specs.AsHome.{hub_ports, with_hub_ports}
@@ -6,14 +7,10 @@ use Rattle.iox_hub.proofs.RecordedFollowing.{samples_told, stands_so}
 use Rattle.iox_hub.proofs.RecordedTold.{has_so}
 use Rattle.iox_hub_commands.specs.DescribeBase.declared.type_detail.TypeVariant.TheVariants.{Dynamic}
 use Rattle.iox_hub.proofs.recorded.recorded_hub.RecordedHub.has_samples.Goals as goal
-use Rattle.iox_hub_commands.specs.Terms.{terms_of}
 
 pub invariant_of-self : goal.invariant_of-self
 invariant_of-self g c = rw c.told-self-inside.ensures
-    (samples_told (terms_of g.T.ZeroCopySend.name g.T.ZeroCopySend.size g.T.ZeroCopySend.alignment (λ value. g.T.Default.is_default value)
-    g.U.ZeroCopySend.name g.U.ZeroCopySend.size g.U.ZeroCopySend.alignment (λ header. g.U.Default.is_default header)
-    g.B.PublisherHandlers.fixed (λ handlers. g.B.Degrades.degrades handlers) (λ handlers. g.B.Decides.decides handlers)
-    g.D.SubscriberHandler.fixed (λ handler. g.D.Degrades.degrades handler)) (c.typed_calls_are_a_run.ensures.goes_on Dynamic)
+    (samples_told _ refl (c.typed_calls_are_a_run.ensures.goes_on Dynamic)
     (c.typed_subscriber_calls_are_steps.ensures Dynamic).has (c.what_is_held_may_be_used.ensures Dynamic)
     c.self.inside.history.calls c.self.inside.hub c.has_samples_if-answer.new.hub c.args.subscriber.now.number.value
     c.args.subscriber.now.it.port
@@ -25,10 +22,7 @@ returns-clause-told g c = rw (← c.self.view_is, c.told-self-inside.ensures)
 
 pub returns-clause-stands : goal.returns-clause-stands
 returns-clause-stands g c = λ followed.
-    stands_so (terms_of g.T.ZeroCopySend.name g.T.ZeroCopySend.size g.T.ZeroCopySend.alignment (λ value. g.T.Default.is_default value)
-    g.U.ZeroCopySend.name g.U.ZeroCopySend.size g.U.ZeroCopySend.alignment (λ header. g.U.Default.is_default header)
-    g.B.PublisherHandlers.fixed (λ handlers. g.B.Degrades.degrades handlers) (λ handlers. g.B.Decides.decides handlers)
-    g.D.SubscriberHandler.fixed (λ handler. g.D.Degrades.degrades handler)) (c.what_is_held_may_be_used.ensures Dynamic)
+    stands_so _ refl (c.what_is_held_may_be_used.ensures Dynamic)
     c.self.inside.history.calls c.self.inside.hub c.has_samples_if-answer.new.hub c.args.subscriber.now.number.value
     c.args.subscriber.now.it.port
     (TellsSamples hub_ports with_hub_ports (subscriber_may_degrade (λ handler. g.D.Degrades.degrades handler))

@@ -1,18 +1,14 @@
+use Rattle.std.proofs.Common.{refl}
 use Rattle.iox_command.specs.declared.command.Command.TheVariants as command
 use Rattle.iox_hub_commands.specs.DescribeBase.declared.type_detail.TypeVariant.TheVariants.{Dynamic}
 use Rattle.iox_hub_commands.specs.Calls.{may_lend}
 use Rattle.iox_hub_base.specs.AsHome.{hub_ports}
 use Rattle.iox_hub.proofs.RecordedLoans.{lent_recorded, lends_so, lent_so, loan_goes_by, loans_keep}
 use Rattle.iox_hub.proofs.recorded.recorded_hub.RecordedHub.loan_slice_uninit.Goals as goal
-use Rattle.iox_hub_commands.specs.Terms.{terms_of}
 
 pub invariant_of-self : goal.invariant_of-self
 invariant_of-self g c = rw c.told_lent-self-inside.ensures
-    (lent_recorded (terms_of g.T.ZeroCopySend.name g.T.ZeroCopySend.size g.T.ZeroCopySend.alignment
-    (λ value. g.T.Default.is_default value) g.U.ZeroCopySend.name g.U.ZeroCopySend.size g.U.ZeroCopySend.alignment
-    (λ header. g.U.Default.is_default header) g.B.PublisherHandlers.fixed (λ handlers. g.B.Degrades.degrades handlers)
-    (λ handlers. g.B.Decides.decides handlers) g.D.SubscriberHandler.fixed (λ handler. g.D.Degrades.degrades handler))
-    (c.typed_calls_are_a_run.ensures.goes_on Dynamic)
+    (lent_recorded _ refl (c.typed_calls_are_a_run.ensures.goes_on Dynamic)
     (c.typed_publisher_calls_are_steps.ensures Dynamic).loan_uninit
     c.self.inside.history.calls c.self.inside.hub c.lend_uninit_if-answer.new.hub c.args.publisher.now.number.value c.args.len
     c.args.publisher.now.it.port c.lend_uninit_if-answer.result (rw (← c.self.view_is) at c.requires)

@@ -1,4 +1,4 @@
-use Rattle.std.proofs.Common.{[]}
+use Rattle.std.proofs.Common.{[], refl}
 use Rattle.iox_command.specs.declared.command.Command.TheVariants as command
 use Rattle.iox_command.specs.declared.refusal.Refusal.TheVariants as refusal
 use Rattle.iox_command.specs.declared.service.ServiceOptions.TheVariants as options
@@ -12,15 +12,10 @@ use Rattle.iox_hub_commands.specs.Asked.{types_of}
 use Rattle.iox_hub_commands.specs.DescribeBase.declared.type_detail.TypeVariant.TheVariants.{Dynamic}
 use Rattle.iox_hub_commands.specs.declared.services.made.MadeFactory.TheVariants as made_factory
 use Rattle.iox_hub.proofs.recorded.recorded_hub.RecordedHub.open_or_create.Goals as goal
-use Rattle.iox_hub_commands.specs.Terms.{terms_of}
 
 pub invariant_of-self : goal.invariant_of-self
 invariant_of-self g c = rw c.opened_or_created-answer.ensures.told
-    (either_recorded (terms_of g.T.ZeroCopySend.name g.T.ZeroCopySend.size g.T.ZeroCopySend.alignment
-    (λ value. g.T.Default.is_default value) g.U.ZeroCopySend.name g.U.ZeroCopySend.size g.U.ZeroCopySend.alignment
-    (λ header. g.U.Default.is_default header) g.B.PublisherHandlers.fixed (λ handlers. g.B.Degrades.degrades handlers)
-    (λ handlers. g.B.Decides.decides handlers) g.D.SubscriberHandler.fixed (λ handler. g.D.Degrades.degrades handler))
-    c.self.inside.history.calls c.self.inside.hub c.opened_or_created-answer.new.hub c.number.result
+    (either_recorded _ refl c.self.inside.history.calls c.self.inside.hub c.opened_or_created-answer.new.hub c.number.result
     c.args.name c.args.options.now (c.typed_calls_are_a_run.ensures.goes_on Dynamic)
     (c.typed_service_calls_are_steps.ensures Dynamic).either c.args.attributes
     (as_made (λ it. made_factory.PublishSubscribe it) c.opened_or_created-answer.result.0) c.opened_or_created-answer.ensures.opens

@@ -1,4 +1,4 @@
-use Rattle.std.proofs.Common.{◌∙◌, None, subst, sym}
+use Rattle.std.proofs.Common.{◌∙◌, None, subst, sym, refl}
 use Rattle.iox_domain.specs.Fitting.{asked_types}
 use Rattle.iox_hub.proofs.RecordedSent.{reads_as_sent}
 use Rattle.iox_hub.specs.RecordedLaws.{WasSentBefore}
@@ -9,7 +9,6 @@ use Rattle.iox_hub.proofs.RecordedTold.{gives_newest}
 use Rattle.iox_hub_commands.specs.DescribeBase.Detail.{detail}
 use Rattle.iox_hub_commands.specs.DescribeBase.declared.type_detail.TypeVariant.TheVariants.{FixedSize, Dynamic}
 use Rattle.iox_hub.proofs.recorded.recorded_hub.RecordedHub.payload.Goals as goal
-use Rattle.iox_hub_commands.specs.Terms.{terms_of}
 
 pub returns-clause-gives : goal.returns-clause-gives
 returns-clause-gives g c = rw (← c.self.view_is)
@@ -19,11 +18,7 @@ returns-clause-gives g c = rw (← c.self.view_is)
 
 pub returns-clause-reads : goal.returns-clause-reads
 returns-clause-reads g c = rw (← c.self.view_is)
-    (λ followed small. read_so (terms_of g.T.ZeroCopySend.name g.T.ZeroCopySend.size g.T.ZeroCopySend.alignment
-    (λ value. g.T.Default.is_default value) g.U.ZeroCopySend.name g.U.ZeroCopySend.size g.U.ZeroCopySend.alignment
-    (λ header. g.U.Default.is_default header) g.B.PublisherHandlers.fixed (λ handlers. g.B.Degrades.degrades handlers)
-    (λ handlers. g.B.Decides.decides handlers) g.D.SubscriberHandler.fixed (λ handler. g.D.Degrades.degrades handler))
-    (c.typed_calls_are_a_run.ensures.goes_on Dynamic)
+    (λ followed small. read_so _ refl (c.typed_calls_are_a_run.ensures.goes_on Dynamic)
     (c.typed_subscriber_calls_are_steps.ensures Dynamic).payload
     c.self.inside.history.calls c.self.inside.hub c.args.sample.now.number.value
     (record { port = c.args.sample.now.it.port; taken = c.args.sample.now.it.taken })
@@ -31,11 +26,7 @@ returns-clause-reads g c = rw (← c.self.view_is)
 
 pub returns-clause-sent : goal.returns-clause-sent
 returns-clause-sent g c = rw (← c.self.view_is)
-    (λ followed small. let (told, are, answers) = read_so (terms_of g.T.ZeroCopySend.name g.T.ZeroCopySend.size g.T.ZeroCopySend.alignment
-    (λ value. g.T.Default.is_default value) g.U.ZeroCopySend.name g.U.ZeroCopySend.size g.U.ZeroCopySend.alignment
-    (λ header. g.U.Default.is_default header) g.B.PublisherHandlers.fixed (λ handlers. g.B.Degrades.degrades handlers)
-    (λ handlers. g.B.Decides.decides handlers) g.D.SubscriberHandler.fixed (λ handler. g.D.Degrades.degrades handler))
-    (c.typed_calls_are_a_run.ensures.goes_on Dynamic)
+    (λ followed small. let (told, are, answers) = read_so _ refl (c.typed_calls_are_a_run.ensures.goes_on Dynamic)
     (c.typed_subscriber_calls_are_steps.ensures Dynamic).payload
     c.self.inside.history.calls c.self.inside.hub c.args.sample.now.number.value
     (record { port = c.args.sample.now.it.port; taken = c.args.sample.now.it.taken })
@@ -57,11 +48,7 @@ returns-clause-sent g c = rw (← c.self.view_is)
 
 pub returns-then-not-holds-clause-held : goal.returns-then-not-holds-clause-held
 returns-then-not-holds-clause-held g c = λ followed.
-    never_so c.holds.result (c.holds.ensures ∙ (may_be_used (terms_of g.T.ZeroCopySend.name g.T.ZeroCopySend.size
-    g.T.ZeroCopySend.alignment (λ value. g.T.Default.is_default value) g.U.ZeroCopySend.name g.U.ZeroCopySend.size
-    g.U.ZeroCopySend.alignment (λ header. g.U.Default.is_default header) g.B.PublisherHandlers.fixed
-    (λ handlers. g.B.Degrades.degrades handlers) (λ handlers. g.B.Decides.decides handlers) g.D.SubscriberHandler.fixed
-    (λ handler. g.D.Degrades.degrades handler)) (c.what_is_held_may_be_used.ensures Dynamic)
+    never_so c.holds.result (c.holds.ensures ∙ (may_be_used _ refl (c.what_is_held_may_be_used.ensures Dynamic)
     c.self.inside.history.calls c.self.inside.hub c.self.invariant
     (rw (← c.self.view_is) at followed)).samples c.args.sample.now.number.value
     (record { port = c.args.sample.now.it.port; taken = c.args.sample.now.it.taken }) (rw (← c.self.view_is) at c.requires))

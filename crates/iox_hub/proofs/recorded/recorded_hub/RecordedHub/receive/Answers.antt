@@ -1,17 +1,13 @@
+use Rattle.std.proofs.Common.{refl}
 use Rattle.iox_hub.proofs.KeptNumbers.{samples_keep}
 use Rattle.iox_hub.proofs.RecordedRuns.{receive_recorded, receives_some}
 use Rattle.iox_hub.proofs.RecordedTold.{received_so, sample_goes_by}
 use Rattle.iox_hub_commands.specs.DescribeBase.declared.type_detail.TypeVariant.TheVariants.{Dynamic}
 use Rattle.iox_hub.proofs.recorded.recorded_hub.RecordedHub.receive.Goals as goal
-use Rattle.iox_hub_commands.specs.Terms.{terms_of}
 
 pub invariant_of-self : goal.invariant_of-self
 invariant_of-self g c = rw (c.told_received-self-inside.ensures, c.newest_is_known-self-inside.ensures)
-    (receive_recorded (terms_of g.T.ZeroCopySend.name g.T.ZeroCopySend.size g.T.ZeroCopySend.alignment
-    (λ value. g.T.Default.is_default value) g.U.ZeroCopySend.name g.U.ZeroCopySend.size g.U.ZeroCopySend.alignment
-    (λ header. g.U.Default.is_default header) g.B.PublisherHandlers.fixed (λ handlers. g.B.Degrades.degrades handlers)
-    (λ handlers. g.B.Decides.decides handlers) g.D.SubscriberHandler.fixed (λ handler. g.D.Degrades.degrades handler))
-    (c.typed_calls_are_a_run.ensures.goes_on Dynamic)
+    (receive_recorded _ refl (c.typed_calls_are_a_run.ensures.goes_on Dynamic)
     (c.typed_subscriber_calls_are_steps.ensures Dynamic).receive (c.what_is_held_may_be_used.ensures Dynamic)
     c.self.inside.history.calls c.self.inside.hub c.receive_if-answer.new.hub c.args.subscriber.now.number.value
     c.args.subscriber.now.it.port
@@ -29,11 +25,7 @@ returns-clause-number g c = rw (c.received_with_number.ensures, ← c.self.view_
 
 pub returns-clause-stands : goal.returns-clause-stands
 returns-clause-stands g c = λ followed. rw c.received_with_number.ensures
-    (receives_some (terms_of g.T.ZeroCopySend.name g.T.ZeroCopySend.size g.T.ZeroCopySend.alignment
-    (λ value. g.T.Default.is_default value) g.U.ZeroCopySend.name g.U.ZeroCopySend.size g.U.ZeroCopySend.alignment
-    (λ header. g.U.Default.is_default header) g.B.PublisherHandlers.fixed (λ handlers. g.B.Degrades.degrades handlers)
-    (λ handlers. g.B.Decides.decides handlers) g.D.SubscriberHandler.fixed (λ handler. g.D.Degrades.degrades handler))
-    (c.what_is_held_may_be_used.ensures Dynamic)
+    (receives_some _ refl (c.what_is_held_may_be_used.ensures Dynamic)
     c.self.inside.history.calls c.self.inside.hub c.receive_if-answer.new.hub c.args.subscriber.now.number.value
     c.args.subscriber.now.it.port
     c.receive_if-answer.result c.given-number.result (rw (← c.self.view_is) at c.requires) c.receive_if-answer.ensures c.self.invariant

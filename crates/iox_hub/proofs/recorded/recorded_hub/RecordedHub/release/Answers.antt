@@ -2,15 +2,10 @@ use Rattle.iox_hub.proofs.RecordedRuns.{release_held, release_recorded}
 use Rattle.iox_hub_commands.specs.DescribeBase.declared.type_detail.TypeVariant.TheVariants.{Dynamic}
 use Rattle.std.proofs.Common.{refl}
 use Rattle.iox_hub.proofs.recorded.recorded_hub.RecordedHub.release.Goals as goal
-use Rattle.iox_hub_commands.specs.Terms.{terms_of}
 
 pub invariant_of-self : goal.invariant_of-self
 invariant_of-self g c = rw c.told-self-inside.ensures
-    (release_recorded (terms_of g.T.ZeroCopySend.name g.T.ZeroCopySend.size g.T.ZeroCopySend.alignment
-    (λ value. g.T.Default.is_default value) g.U.ZeroCopySend.name g.U.ZeroCopySend.size g.U.ZeroCopySend.alignment
-    (λ header. g.U.Default.is_default header) g.B.PublisherHandlers.fixed (λ handlers. g.B.Degrades.degrades handlers)
-    (λ handlers. g.B.Decides.decides handlers) g.D.SubscriberHandler.fixed (λ handler. g.D.Degrades.degrades handler))
-    (c.typed_calls_are_a_run.ensures.goes_on Dynamic)
+    (release_recorded _ refl (c.typed_calls_are_a_run.ensures.goes_on Dynamic)
     (c.typed_subscriber_calls_are_steps.ensures Dynamic).release
     c.self.inside.history.calls c.self.inside.hub c.drop_with-was_held.new.home c.args.sample.number.value
     (record { port = c.args.sample.it.port; taken = c.args.sample.it.taken }) c.drop_with-was_held.result
@@ -22,10 +17,7 @@ returns-clause-released g c = rw (← c.self.view_is, c.told-self-inside.ensures
 
 pub returns-clause-held : goal.returns-clause-held
 returns-clause-held g c = λ followed.
-    release_held (terms_of g.T.ZeroCopySend.name g.T.ZeroCopySend.size g.T.ZeroCopySend.alignment (λ value. g.T.Default.is_default value)
-    g.U.ZeroCopySend.name g.U.ZeroCopySend.size g.U.ZeroCopySend.alignment (λ header. g.U.Default.is_default header)
-    g.B.PublisherHandlers.fixed (λ handlers. g.B.Degrades.degrades handlers) (λ handlers. g.B.Decides.decides handlers)
-    g.D.SubscriberHandler.fixed (λ handler. g.D.Degrades.degrades handler)) (c.what_is_held_may_be_used.ensures Dynamic)
+    release_held _ refl (c.what_is_held_may_be_used.ensures Dynamic)
     c.self.inside.history.calls c.self.inside.hub c.drop_with-was_held.new.home c.args.sample.number.value
     (record { port = c.args.sample.it.port; taken = c.args.sample.it.taken }) c.drop_with-was_held.result
     (rw (← c.self.view_is) at c.requires)

@@ -1,4 +1,4 @@
-use Rattle.std.proofs.Common.{◌≡◌, IfOk, MatchResult, subst}
+use Rattle.std.proofs.Common.{◌≡◌, IfOk, MatchResult, subst, refl}
 use Rattle.iox_delivery.specs.declared.port_id.PortId.{PortId}
 use Rattle.iox_hub.proofs.RecordedRuns.{retry_recorded}
 use Rattle.iox_hub.proofs.RecordedTold.{WaitsAt, retry_waits, sent_so}
@@ -6,15 +6,10 @@ use Rattle.iox_command.specs.declared.command.Command.TheVariants as command
 use Rattle.iox_hub_commands.specs.DescribeBase.declared.type_detail.TypeVariant.TheVariants.{Dynamic}
 use Rattle.std.specs.Result.{result_ok}
 use Rattle.iox_hub.proofs.recorded.recorded_hub.RecordedHub.retry.Goals as goal
-use Rattle.iox_hub_commands.specs.Terms.{terms_of}
 
 pub invariant_of-self : goal.invariant_of-self
 invariant_of-self g c = rw (c.told-self-inside.ensures, c.sent_came-came.ensures)
-    (retry_recorded (terms_of g.T.ZeroCopySend.name g.T.ZeroCopySend.size g.T.ZeroCopySend.alignment
-    (λ value. g.T.Default.is_default value) g.U.ZeroCopySend.name g.U.ZeroCopySend.size g.U.ZeroCopySend.alignment
-    (λ header. g.U.Default.is_default header) g.B.PublisherHandlers.fixed (λ handlers. g.B.Degrades.degrades handlers)
-    (λ handlers. g.B.Decides.decides handlers) g.D.SubscriberHandler.fixed (λ handler. g.D.Degrades.degrades handler))
-    (c.typed_calls_are_a_run.ensures.goes_on Dynamic)
+    (retry_recorded _ refl (c.typed_calls_are_a_run.ensures.goes_on Dynamic)
     (c.typed_publisher_calls_are_steps.ensures Dynamic).retry
     c.self.inside.history.calls c.self.inside.hub c.retry_if-answer.new.hub c.args.publisher.now.number.value c.args.elapsed_ns
     c.args.blocked.port c.args.blocked c.retry_if-answer.result (rw c.requires.waits (rw (← c.self.view_is) at c.requires.made))

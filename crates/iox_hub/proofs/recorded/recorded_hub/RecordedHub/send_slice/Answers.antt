@@ -1,16 +1,13 @@
+use Rattle.std.proofs.Common.{refl}
 use Rattle.iox_hub.proofs.RecordedRuns.{put_recorded}
 use Rattle.iox_hub.proofs.RecordedTold.{put_waits, sent_so}
 use Rattle.iox_command.specs.declared.command.Command.TheVariants as command
 use Rattle.iox_hub_commands.specs.DescribeBase.declared.type_detail.TypeVariant.TheVariants.{Dynamic}
 use Rattle.iox_hub.proofs.recorded.recorded_hub.RecordedHub.send_slice.Goals as goal
-use Rattle.iox_hub_commands.specs.Terms.{terms_of}
 
 pub invariant_of-self : goal.invariant_of-self
 invariant_of-self g c = rw c.told_put-self-inside.ensures
-    (put_recorded (terms_of g.T.ZeroCopySend.name g.T.ZeroCopySend.size g.T.ZeroCopySend.alignment (λ value. g.T.Default.is_default value)
-    g.U.ZeroCopySend.name g.U.ZeroCopySend.size g.U.ZeroCopySend.alignment (λ header. g.U.Default.is_default header)
-    g.B.PublisherHandlers.fixed (λ handlers. g.B.Degrades.degrades handlers) (λ handlers. g.B.Decides.decides handlers)
-    g.D.SubscriberHandler.fixed (λ handler. g.D.Degrades.degrades handler)) (c.typed_calls_are_a_run.ensures.goes_on Dynamic)
+    (put_recorded _ refl (c.typed_calls_are_a_run.ensures.goes_on Dynamic)
     (c.typed_publisher_calls_are_steps.ensures Dynamic).send_slice
     c.self.inside.history.calls c.self.inside.hub c.put_if-answer.new.hub c.args.publisher.now.number.value c.args.publisher.now.it.port
     c.args.values.now c.put_if-answer.result (rw (← c.self.view_is) at c.requires) c.put_if-answer.ensures c.self.invariant)

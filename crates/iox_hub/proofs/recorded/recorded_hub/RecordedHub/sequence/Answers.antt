@@ -1,28 +1,19 @@
-use Rattle.std.proofs.Common.{◌∙◌}
+use Rattle.std.proofs.Common.{◌∙◌, refl}
 use Rattle.iox_hub.proofs.RecordedRuns.{may_be_used, sequence_so}
 use Rattle.iox_hub.proofs.RecordedSkips.{never_so}
 use Rattle.iox_hub_commands.specs.DescribeBase.declared.type_detail.TypeVariant.TheVariants.{Dynamic}
 use Rattle.iox_hub.proofs.recorded.recorded_hub.RecordedHub.sequence.Goals as goal
-use Rattle.iox_hub_commands.specs.Terms.{terms_of}
 
 pub returns-clause-tells : goal.returns-clause-tells
 returns-clause-tells g c = rw (← c.self.view_is)
-    (λ followed. sequence_so (terms_of g.T.ZeroCopySend.name g.T.ZeroCopySend.size g.T.ZeroCopySend.alignment
-    (λ value. g.T.Default.is_default value) g.U.ZeroCopySend.name g.U.ZeroCopySend.size g.U.ZeroCopySend.alignment
-    (λ header. g.U.Default.is_default header) g.B.PublisherHandlers.fixed (λ handlers. g.B.Degrades.degrades handlers)
-    (λ handlers. g.B.Decides.decides handlers) g.D.SubscriberHandler.fixed (λ handler. g.D.Degrades.degrades handler))
-    (c.typed_calls_are_a_run.ensures.goes_on Dynamic)
+    (λ followed. sequence_so _ refl (c.typed_calls_are_a_run.ensures.goes_on Dynamic)
     c.self.inside.history.calls c.self.inside.hub c.args.sample.now.number.value
     (record { port = c.args.sample.now.it.port; taken = c.args.sample.now.it.taken })
     c.header.result (rw (← c.self.view_is) at c.requires) c.header.ensures c.self.invariant followed)
 
 pub returns-then-not-holds-clause-held : goal.returns-then-not-holds-clause-held
 returns-then-not-holds-clause-held g c = λ followed.
-    never_so c.holds.result (c.holds.ensures ∙ (may_be_used (terms_of g.T.ZeroCopySend.name g.T.ZeroCopySend.size
-    g.T.ZeroCopySend.alignment (λ value. g.T.Default.is_default value) g.U.ZeroCopySend.name g.U.ZeroCopySend.size
-    g.U.ZeroCopySend.alignment (λ header. g.U.Default.is_default header) g.B.PublisherHandlers.fixed
-    (λ handlers. g.B.Degrades.degrades handlers) (λ handlers. g.B.Decides.decides handlers) g.D.SubscriberHandler.fixed
-    (λ handler. g.D.Degrades.degrades handler)) (c.what_is_held_may_be_used.ensures Dynamic)
+    never_so c.holds.result (c.holds.ensures ∙ (may_be_used _ refl (c.what_is_held_may_be_used.ensures Dynamic)
     c.self.inside.history.calls c.self.inside.hub c.self.invariant
     (rw (← c.self.view_is) at followed)).samples c.args.sample.now.number.value
     (record { port = c.args.sample.now.it.port; taken = c.args.sample.now.it.taken }) (rw (← c.self.view_is) at c.requires))

@@ -5,14 +5,10 @@ use Rattle.iox_hub.proofs.RecordedRuns.{subscriber_recorded}
 use Rattle.iox_hub.proofs.RecordedTold.{has_side, subscriber_goes_by, subscriber_so}
 use Rattle.iox_hub_commands.specs.DescribeBase.declared.type_detail.TypeVariant.TheVariants.{Dynamic}
 use Rattle.iox_hub.proofs.recorded.recorded_hub.RecordedHub.subscriber.Goals as goal
-use Rattle.iox_hub_commands.specs.Terms.{terms_of}
 
 pub invariant_of-self : goal.invariant_of-self
 invariant_of-self g c = rw (c.told-self-inside.ensures, c.domain_of-domain.ensures)
-    (subscriber_recorded (terms_of g.T.ZeroCopySend.name g.T.ZeroCopySend.size g.T.ZeroCopySend.alignment
-    (λ value. g.T.Default.is_default value) g.U.ZeroCopySend.name g.U.ZeroCopySend.size g.U.ZeroCopySend.alignment
-    (λ header. g.U.Default.is_default header) g.B.PublisherHandlers.fixed (λ handlers. g.B.Degrades.degrades handlers)
-    (λ handlers. g.B.Decides.decides handlers) g.D.SubscriberHandler.fixed (λ handler. g.D.Degrades.degrades handler))
+    (subscriber_recorded _ refl
     c.self.inside.history.calls c.self.inside.hub c.create_subscriber-answer.new.home c.args.factory.now.number.value
     (c.args.factory.now.it.service.membership, c.args.factory.now.it.owner)
     (let there = rw (← c.self.view_is) at c.requires in rw there refl)

@@ -1,16 +1,12 @@
+use Rattle.std.proofs.Common.{refl}
 use Rattle.iox_command.specs.declared.command.Command.TheVariants as command
 use Rattle.iox_hub_commands.specs.DescribeBase.declared.type_detail.TypeVariant.TheVariants.{Dynamic}
 use Rattle.iox_hub.proofs.RecordedLoans.{filled_recorded, filled_so}
 use Rattle.iox_hub.proofs.recorded.recorded_hub.RecordedHub.write_from_slice.Goals as goal
-use Rattle.iox_hub_commands.specs.Terms.{terms_of}
 
 pub invariant_of-self : goal.invariant_of-self
 invariant_of-self g c = rw c.told_filled-self-inside.ensures
-    (filled_recorded (terms_of g.T.ZeroCopySend.name g.T.ZeroCopySend.size g.T.ZeroCopySend.alignment
-    (λ value. g.T.Default.is_default value) g.U.ZeroCopySend.name g.U.ZeroCopySend.size g.U.ZeroCopySend.alignment
-    (λ header. g.U.Default.is_default header) g.B.PublisherHandlers.fixed (λ handlers. g.B.Degrades.degrades handlers)
-    (λ handlers. g.B.Decides.decides handlers) g.D.SubscriberHandler.fixed (λ handler. g.D.Degrades.degrades handler))
-    (c.typed_calls_are_a_run.ensures.goes_on Dynamic)
+    (filled_recorded _ refl (c.typed_calls_are_a_run.ensures.goes_on Dynamic)
     (c.typed_publisher_calls_are_steps.ensures Dynamic).write
     c.self.inside.history.calls c.self.inside.hub c.write_all-filled.new.hub c.args.loan.number.value
     (record { port = c.args.loan.it.port; slot = c.args.loan.it.slot }) c.args.values.now c.write_all-filled.result.1
