@@ -29,6 +29,7 @@ pub mod SlotTable
 pub mod Accepted
 pub mod Refusals
 pub mod ByteSteps
+pub mod Encoding
 pub mod Wide
 pub mod NumberLaws
 pub mod NumberTable

@@ -1,5 +1,6 @@
 //! A messaging pattern, with all that making and opening a service needs of it.
-ghost use Rattle.std.specs.Prelude.{◌≡◌, ◌≤◌, ◌<◌, ◌^◌, ◌↔◌, List, [], Option, Result, Ok, Some, IsOk, IfOk, IsSome, IsTrue, refl};
+ghost use Rattle.std.specs.Prelude.{◌≡◌, ◌≤◌, ◌<◌, ◌^◌, ◌↔◌, List, [], Option, Result, Ok, Some};
+ghost use Rattle.std.specs.Prelude.{IsOk, IfOk, IsSome, IsTrue, refl};
 ghost use Rattle.iox_describe_settings.specs.DescribeBase.declared.pattern.MessagingPattern.{MessagingPattern};
 ghost use Rattle.iox_describe_settings.specs.DescribeBase.declared.pattern.MessagingPattern.TheVariants as messaging_pattern;
 ghost use Rattle.iox_describe_settings.specs.DescribeBase.Attributes.{Required, required};
@@ -124,31 +125,17 @@ pub trait Pattern: RequiredPattern {
     // the settings that a service is created with: each number at least the least that can serve
     ghost adjusted: { Self.StaticConfig → Self.StaticConfig };
 
-    // the numbers that a description may have
-    ghost IsWithinLimits: { Self.StaticConfig → Type 0 };
-
-    // a full buffer holds the publisher up, and has no room for the history
-    ghost IsHistoryTooLong: { Self.StaticConfig → Type 0 };
-
     /// The settings that a service is created with: a 0 that can't serve becomes 1.
     fn adjusted(config: Self::StaticConfig) -> Self::StaticConfig
         ensures { result ≡ adjusted config };
 
-    // the limits are those of a description
-    ghost limits_are_those_of_descriptions: { (config : Self.StaticConfig) → IsWithinLimits config
-        ↔ AreWithinLimits (Self.settings config) };
-
-    // so it is of the history
-    ghost history_is_that_of_descriptions: { (config : Self.StaticConfig) → IsHistoryTooLong config
-        ↔ HasNoRoomForHistory (Self.settings config) };
-
     // within the limits there is a node, and there are fewer than 2^24
-    ghost has_nodes: { (config : Self.StaticConfig) → IsWithinLimits config → (1 ≤ max_nodes_of (Self.settings config))
-        × (max_nodes_of (Self.settings config) < 2 ^ 24) };
+    ghost has_nodes: { (config : Self.StaticConfig) → AreWithinLimits (Self.settings config) → (1 ≤ max_nodes_of (Self.settings config))
+        × (max_nodes_of (Self.settings config) < 2 ^ 24) } = { λ config. patterns.has_nodes (Self.settings config) };
 
     /// Whether the numbers are within the limits of a description, so that a service may be created with them.
     final fn is_within_limits(config: &Self::StaticConfig) -> bool
-        ensures { IsTrue result ↔ IsWithinLimits config.now }
+        ensures { IsTrue result ↔ AreWithinLimits (Self.settings config.now) }
     {
         Self::settings(*config).are_within_limits()
     }
@@ -156,7 +143,7 @@ pub trait Pattern: RequiredPattern {
     /// Whether a full buffer would hold the publisher up and has no room for the history: such a service isn't
     /// created. Always false of a pattern without a history.
     final fn is_history_too_long(config: &Self::StaticConfig) -> bool
-        ensures { IsTrue result ↔ IsHistoryTooLong config.now }
+        ensures { IsTrue result ↔ HasNoRoomForHistory (Self.settings config.now) }
     {
         Self::settings(*config).is_history_too_long()
     }
@@ -220,19 +207,9 @@ impl Pattern for PublishSubscribe {
 
     ghost adjusted = { config_of.adjusted };
 
-    ghost IsWithinLimits = { config_of.IsWithinLimits };
-
-    ghost IsHistoryTooLong = { config_of.IsHistoryTooLong };
-
     fn adjusted(config: Self::StaticConfig) -> Self::StaticConfig {
         config.adjusted()
     }
-
-    ghost limits_are_those_of_descriptions = { λ config. (λ h. h, λ h. h) };
-
-    ghost history_is_that_of_descriptions = { λ config. (λ h. h, λ h. h) };
-
-    ghost has_nodes = { λ config. patterns.has_nodes (settings_of.PublishSubscribe config) };
 }
 
 /// Notifiers wake listeners.
@@ -275,19 +252,9 @@ impl Pattern for Event {
 
     ghost adjusted = { config_of.adjusted };
 
-    ghost IsWithinLimits = { config_of.IsWithinLimits };
-
-    ghost IsHistoryTooLong = { λ _. ⊥ };
-
     fn adjusted(config: Self::StaticConfig) -> Self::StaticConfig {
         config.adjusted()
     }
-
-    ghost limits_are_those_of_descriptions = { λ config. (λ h. h, λ h. h) };
-
-    ghost history_is_that_of_descriptions = { λ config. (λ h. h, λ h. h) };
-
-    ghost has_nodes = { λ config. patterns.has_nodes (settings_of.Event config) };
 }
 
 /// Clients send requests, and servers answer them.
@@ -330,17 +297,7 @@ impl Pattern for RequestResponse {
 
     ghost adjusted = { config_of.adjusted };
 
-    ghost IsWithinLimits = { config_of.IsWithinLimits };
-
-    ghost IsHistoryTooLong = { λ _. ⊥ };
-
     fn adjusted(config: Self::StaticConfig) -> Self::StaticConfig {
         config.adjusted()
     }
-
-    ghost limits_are_those_of_descriptions = { λ config. (λ h. h, λ h. h) };
-
-    ghost history_is_that_of_descriptions = { λ config. (λ h. h, λ h. h) };
-
-    ghost has_nodes = { λ config. patterns.has_nodes (settings_of.RequestResponse config) };
 }

@@ -4,6 +4,7 @@ ghost use Rattle.std.specs.Result.{result_map_both};
 ghost use Rattle.iox_delivery_factories.specs.DescribeBase.Detail.{detail};
 ghost use Rattle.iox_delivery_factories.specs.DescribeBase.Hash.{service_hash_of};
 ghost use Rattle.iox_delivery_factories.specs.DescribeBase.declared.type_detail.TypeVariant.TheVariants.{FixedSize};
+ghost use Rattle.iox_delivery_factories.specs.DescribeSettings.Agreement.{AreWithinLimits, HasNoRoomForHistory};
 ghost use Rattle.iox_hub_base.specs.OfPattern.{CreatesOfPattern, OpensJudged, EitherOfPattern};
 
 use crate::factory::PortFactory;
@@ -61,7 +62,7 @@ pub trait HubBuilder<P: Negotiated>: Sized {
         requires { hub_of self ≡ hub.old.table.id }
         ensures { let config = P.adjusted (P.asked (requirement_of self)) in CreatesOfPattern
             (detail FixedSize T.name T.size T.alignment) (detail FixedSize U.name U.size U.alignment) P.pattern (P.settings config)
-            (P.IsWithinLimits config) (P.IsHistoryTooLong config) P.create_error (node_of self) (name_of self)
+            (AreWithinLimits (P.settings config)) (HasNoRoomForHistory (P.settings config)) P.create_error (node_of self) (name_of self)
             (P.attributes (requirement_of self)).pairs steps.items hub.old
             (result_map_both (λ factory. (factory.service.membership, factory.owner)) (λ error. error) result) hub.new }
     {
@@ -82,7 +83,8 @@ pub trait HubBuilder<P: Negotiated>: Sized {
         requires { hub_of self ≡ hub.old.table.id }
         ensures { let asked = P.asked (requirement_of self) in let config = P.adjusted asked in CreatesOfPattern
             (detail FixedSize T.name T.size T.alignment) (detail FixedSize U.name U.size U.alignment) P.pattern (P.settings config)
-            (P.IsWithinLimits config) (P.IsHistoryTooLong config) P.create_error (node_of self) (name_of self) attributes.now steps.items
+            (AreWithinLimits (P.settings config)) (HasNoRoomForHistory (P.settings config))
+            P.create_error (node_of self) (name_of self) attributes.now steps.items
             hub.old (result_map_both (λ factory. (factory.service.membership, factory.owner)) (λ error. error) result) hub.new }
     {
         create(alloc, self.builder(), Some(attributes), hub, steps)
@@ -135,7 +137,8 @@ pub trait HubBuilder<P: Negotiated>: Sized {
         requires { hub_of self ≡ hub.old.table.id }
         ensures { let required = requirement_of self in let config = P.adjusted (P.asked required) in EitherOfPattern
             (detail FixedSize T.name T.size T.alignment) (detail FixedSize U.name U.size U.alignment) P.pattern (P.settings config)
-            (P.IsWithinLimits config) (P.IsHistoryTooLong config) (λ given. P.verdict required given) P.open_or_create_error
+            (AreWithinLimits (P.settings config)) (HasNoRoomForHistory (P.settings config))
+            (λ given. P.verdict required given) P.open_or_create_error
             (node_of self) (name_of self) (P.attributes required).pairs steps.items hub.old
             (result_map_both (λ factory. (factory.service.membership, factory.owner)) (λ error. error) result) hub.new }
     {
@@ -162,7 +165,8 @@ pub trait HubBuilder<P: Negotiated>: Sized {
         ensures { let required = P.with_attributes (requirement_of self) attributes in
             let config = P.adjusted (P.asked required) in EitherOfPattern
             (detail FixedSize T.name T.size T.alignment) (detail FixedSize U.name U.size U.alignment) P.pattern (P.settings config)
-            (P.IsWithinLimits config) (P.IsHistoryTooLong config) (λ given. P.verdict required given) P.open_or_create_error
+            (AreWithinLimits (P.settings config)) (HasNoRoomForHistory (P.settings config))
+            (λ given. P.verdict required given) P.open_or_create_error
             (node_of self) (name_of self) (P.attributes required).pairs steps.items hub.old
             (result_map_both (λ factory. (factory.service.membership, factory.owner)) (λ error. error) result) hub.new }
     {

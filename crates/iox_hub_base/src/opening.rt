@@ -5,7 +5,7 @@ ghost use Rattle.std.specs.Result.{result_map_both};
 ghost use Rattle.iox_delivery_factories.specs.DescribeBase.Detail.{detail};
 ghost use Rattle.iox_delivery_factories.specs.DescribeBase.Hash.{service_hash_of};
 ghost use Rattle.iox_delivery_factories.specs.DescribeBase.declared.type_detail.TypeVariant.TheVariants.{FixedSize};
-ghost use Rattle.iox_delivery_factories.specs.DescribeSettings.Agreement.{agreement};
+ghost use Rattle.iox_delivery_factories.specs.DescribeSettings.Agreement.{agreement, AreWithinLimits, HasNoRoomForHistory};
 ghost use Rattle.iox_negotiate.specs.Negotiation.{Negotiates, Creates, Either};
 ghost use Rattle.iox_negotiate_table.specs.NegotiateBase.Opening.{Opens};
 ghost use Rattle.iox_negotiate_table.specs.Stepped.{SteppedSight};
@@ -40,7 +40,7 @@ pub(crate) fn create<
 ) -> Result<PortFactory<P>, P::CreateError>
     ensures { let config = P.adjusted (P.asked builder.requirement) in CreatesOfPattern
         (detail FixedSize T.name T.size T.alignment) (detail FixedSize U.name U.size U.alignment) P.pattern (P.settings config)
-        (P.IsWithinLimits config) (P.IsHistoryTooLong config) P.create_error builder.node builder.name
+        (AreWithinLimits (P.settings config)) (HasNoRoomForHistory (P.settings config)) P.create_error builder.node builder.name
         (unwrap_or (option_copied attributes.entry) (P.attributes builder.requirement).pairs) steps.items hub.old
         (result_map_both (λ factory. (factory.service.membership, factory.owner)) (λ error. error) result) hub.new }
 {
@@ -64,8 +64,8 @@ fn created<P: Negotiated>(
     ensures of_table { IfOk result (λ service. service.membership.storage ≡ table.new.table.id) }
     ensures creates { let config = P.adjusted (P.asked builder.requirement) in let hash = service_hash_of P.pattern builder.name in
         Creates SteppedSight table.old.table.id hash builder.node (agreement builder.name hash (P.settings config)
-        (unwrap_or (option_copied attributes.entry) (P.attributes builder.requirement).pairs)) (P.IsWithinLimits config)
-        (P.IsHistoryTooLong config) P.create_error table.old
+        (unwrap_or (option_copied attributes.entry) (P.attributes builder.requirement).pairs)) (AreWithinLimits (P.settings config))
+        (HasNoRoomForHistory (P.settings config)) P.create_error table.old
         (result_map_both (λ factory. factory.membership) (λ error. error) result) table.new }
 {
     match attributes {
@@ -139,7 +139,8 @@ pub(crate) fn open_or_create<
     ensures { let required = option_map_or (λ more. P.with_attributes builder.requirement more) attributes builder.requirement in
         let config = P.adjusted (P.asked required) in EitherOfPattern
         (detail FixedSize T.name T.size T.alignment) (detail FixedSize U.name U.size U.alignment) P.pattern (P.settings config)
-        (P.IsWithinLimits config) (P.IsHistoryTooLong config) (λ given. P.verdict required given) P.open_or_create_error
+        (AreWithinLimits (P.settings config)) (HasNoRoomForHistory (P.settings config))
+        (λ given. P.verdict required given) P.open_or_create_error
         builder.node builder.name (P.attributes required).pairs steps.items hub.old
         (result_map_both (λ factory. (factory.service.membership, factory.owner)) (λ error. error) result) hub.new }
 {
@@ -164,8 +165,8 @@ fn opened_or_created<P: Negotiated>(
     ensures either { let required = option_map_or (λ more. P.with_attributes builder.requirement more) attributes builder.requirement in
         let config = P.adjusted (P.asked required) in let hash = service_hash_of P.pattern builder.name in
         Either SteppedSight table.old.table.id hash builder.node (λ given. P.verdict required given)
-        (agreement builder.name hash (P.settings config) (P.attributes required).pairs) (P.IsWithinLimits config)
-        (P.IsHistoryTooLong config) P.open_or_create_error table.old
+        (agreement builder.name hash (P.settings config) (P.attributes required).pairs) (AreWithinLimits (P.settings config))
+        (HasNoRoomForHistory (P.settings config)) P.open_or_create_error table.old
         (result_map_both (λ factory. factory.membership) (λ error. error) result) table.new }
 {
     match attributes {

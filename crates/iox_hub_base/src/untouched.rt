@@ -1,6 +1,7 @@
 //! A table that isn't touched.
 ghost use Rattle.std.specs.Prelude.{◌≡◌, Option};
 ghost use Rattle.std.specs.Option.{unwrap_or};
+ghost use Rattle.iox_delivery_factories.specs.DescribeSettings.Agreement.{AreWithinLimits, HasNoRoomForHistory};
 ghost use Rattle.iox_negotiate.specs.Asked.{IsRefusal};
 ghost use Rattle.iox_negotiate_table.specs.NegotiateBase.declared.failure.CreateFailure.{CreateFailure};
 ghost use Rattle.iox_negotiate_table.specs.NegotiateBase.declared.failure.CreateFailure.TheVariants.{OutOfMemory};
@@ -78,8 +79,8 @@ pub(crate) fn lacking_create<P: Negotiated>(
     builder: ServiceBuilder<P>,
 ) -> P::CreateError
     ensures { (refusal : Option CreateFailure)
-        × IsRefusal (P.IsWithinLimits (P.adjusted (P.asked builder.requirement)))
-        (P.IsHistoryTooLong (P.adjusted (P.asked builder.requirement))) refusal
+        × IsRefusal (AreWithinLimits (P.settings (P.adjusted (P.asked builder.requirement))))
+        (HasNoRoomForHistory (P.settings (P.adjusted (P.asked builder.requirement)))) refusal
         × (result ≡ P.create_error (unwrap_or refusal OutOfMemory)) }
 {
     let mut table = Untouched;

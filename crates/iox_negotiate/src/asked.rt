@@ -1,7 +1,7 @@
 //! What a builder asks of a service, as a request of the rounds.
 ghost use Rattle.std.specs.Prelude.{◌≡◌, None};
 ghost use Rattle.iox_negotiate_base.specs.DescribeBase.Hash.{service_hash_of};
-ghost use Rattle.iox_negotiate_base.specs.DescribeSettings.Agreement.{agreement};
+ghost use Rattle.iox_negotiate_base.specs.DescribeSettings.Agreement.{agreement, AreWithinLimits, HasNoRoomForHistory};
 ghost use Rattle.iox_negotiate_base.specs.Describe.Within.{IsWithinLimits};
 ghost use Rattle.iox_negotiate.specs.Asked.{IsRefusal};
 
@@ -41,8 +41,8 @@ impl<'a, P: Pattern> Asked<'a, P> {
         ensures requirement { result.requirement.now ≡ requirement.now }
         ensures config { result.config ≡ P.adjusted (P.asked requirement.now) }
         ensures attributes { result.attributes.now ≡ attributes.now }
-        ensures refusal { let config = P.adjusted (P.asked requirement.now) in IsRefusal (P.IsWithinLimits config)
-            (P.IsHistoryTooLong config) result.refusal }
+        ensures refusal { let config = P.adjusted (P.asked requirement.now) in IsRefusal (AreWithinLimits (P.settings config))
+            (HasNoRoomForHistory (P.settings config)) result.refusal }
         ensures within { result.refusal ≡ None → IsWithinLimits (agreement name (service_hash_of P.pattern name)
             (P.settings (P.adjusted (P.asked requirement.now))) attributes.now) }
     {
@@ -66,15 +66,15 @@ impl<'a, P: Pattern> Asked<'a, P> {
 /// This port's own.
 /// Example: `let failure = settings_refusal::<PublishSubscribe>(&requirement);`
 pub fn settings_refusal<P: Pattern>(requirement: &P::Requirement) -> Option<CreateFailure>
-    ensures { let config = P.adjusted (P.asked requirement.now) in IsRefusal (P.IsWithinLimits config) (P.IsHistoryTooLong config)
-        result }
+    ensures { let config = P.adjusted (P.asked requirement.now) in IsRefusal (AreWithinLimits (P.settings config))
+        (HasNoRoomForHistory (P.settings config)) result }
 {
     refusal_of::<P>(&P::adjusted(P::asked(requirement)))
 }
 
 /// Why no service is created with these settings.
 fn refusal_of<P: Pattern>(config: &P::StaticConfig) -> Option<CreateFailure>
-    ensures { IsRefusal (P.IsWithinLimits config.now) (P.IsHistoryTooLong config.now) result }
+    ensures { IsRefusal (AreWithinLimits (P.settings config.now)) (HasNoRoomForHistory (P.settings config.now)) result }
 {
     if !P::is_within_limits(config) {
         return Some(CreateFailure::InternalFailure);

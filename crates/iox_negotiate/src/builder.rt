@@ -3,7 +3,7 @@ ghost use Rattle.std.specs.Prelude.{◌≡◌, [], IsOk, IfOk};
 ghost use Rattle.std.specs.Result.{result_map_both};
 ghost use Rattle.iox_negotiate_base.specs.DescribeBase.Attributes.{required};
 ghost use Rattle.iox_negotiate_base.specs.DescribeBase.Hash.{service_hash_of};
-ghost use Rattle.iox_negotiate_base.specs.DescribeSettings.Agreement.{agreement};
+ghost use Rattle.iox_negotiate_base.specs.DescribeSettings.Agreement.{agreement, AreWithinLimits, HasNoRoomForHistory};
 ghost use Rattle.iox_negotiate_base.specs.DescribeVerdict.PublishSubscribeClauses as publish_subscribe_of;
 ghost use Rattle.iox_negotiate_base.specs.DescribeVerdict.EventClauses as event_of;
 ghost use Rattle.iox_negotiate_base.specs.DescribeVerdict.RequestResponseClauses as request_response_of;
@@ -179,8 +179,8 @@ impl<P: Negotiated> ServiceBuilder<P> {
     ) -> Result<PortFactory<P>, P::CreateError>
         ensures { Creates S.gives (S.id storage.old) (service_hash_of P.pattern self.name) self.node
             (agreement self.name (service_hash_of P.pattern self.name) (P.settings (P.adjusted (P.asked self.requirement)))
-            (P.attributes self.requirement).pairs) (P.IsWithinLimits (P.adjusted (P.asked self.requirement)))
-            (P.IsHistoryTooLong (P.adjusted (P.asked self.requirement))) P.create_error storage.old
+            (P.attributes self.requirement).pairs) (AreWithinLimits (P.settings (P.adjusted (P.asked self.requirement))))
+            (HasNoRoomForHistory (P.settings (P.adjusted (P.asked self.requirement)))) P.create_error storage.old
             (result_map_both (λ factory. factory.membership) (λ error. error) result) storage.new }
     {
         self.created(
@@ -203,8 +203,8 @@ impl<P: Negotiated> ServiceBuilder<P> {
     ) -> Result<PortFactory<P>, P::CreateError>
         ensures { Creates S.gives (S.id storage.old) (service_hash_of P.pattern self.name) self.node
             (agreement self.name (service_hash_of P.pattern self.name) (P.settings (P.adjusted (P.asked self.requirement)))
-            attributes.now) (P.IsWithinLimits (P.adjusted (P.asked self.requirement)))
-            (P.IsHistoryTooLong (P.adjusted (P.asked self.requirement))) P.create_error storage.old
+            attributes.now) (AreWithinLimits (P.settings (P.adjusted (P.asked self.requirement))))
+            (HasNoRoomForHistory (P.settings (P.adjusted (P.asked self.requirement)))) P.create_error storage.old
             (result_map_both (λ factory. factory.membership) (λ error. error) result) storage.new }
     {
         self.created(alloc, attributes, storage)
@@ -258,8 +258,8 @@ impl<P: Negotiated> ServiceBuilder<P> {
         ensures { Either S.gives (S.id storage.old) (service_hash_of P.pattern self.name) self.node
             (λ given. P.verdict self.requirement given)
             (agreement self.name (service_hash_of P.pattern self.name) (P.settings (P.adjusted (P.asked self.requirement)))
-            (P.attributes self.requirement).pairs) (P.IsWithinLimits (P.adjusted (P.asked self.requirement)))
-            (P.IsHistoryTooLong (P.adjusted (P.asked self.requirement))) P.open_or_create_error storage.old
+            (P.attributes self.requirement).pairs) (AreWithinLimits (P.settings (P.adjusted (P.asked self.requirement))))
+            (HasNoRoomForHistory (P.settings (P.adjusted (P.asked self.requirement)))) P.open_or_create_error storage.old
             (result_map_both (λ factory. factory.membership) (λ error. error) result) storage.new }
     {
         self.opened_or_created(alloc, storage)
@@ -281,8 +281,8 @@ impl<P: Negotiated> ServiceBuilder<P> {
             (agreement self.name (service_hash_of P.pattern self.name)
             (P.settings (P.adjusted (P.asked (P.with_attributes self.requirement attributes))))
             (P.attributes (P.with_attributes self.requirement attributes)).pairs)
-            (P.IsWithinLimits (P.adjusted (P.asked (P.with_attributes self.requirement attributes))))
-            (P.IsHistoryTooLong (P.adjusted (P.asked (P.with_attributes self.requirement attributes)))) P.open_or_create_error
+            (AreWithinLimits (P.settings (P.adjusted (P.asked (P.with_attributes self.requirement attributes)))))
+            (HasNoRoomForHistory (P.settings (P.adjusted (P.asked (P.with_attributes self.requirement attributes))))) P.open_or_create_error
             storage.old (result_map_both (λ factory. factory.membership) (λ error. error) result) storage.new }
     {
         let builder = ServiceBuilder {
@@ -302,8 +302,8 @@ impl<P: Negotiated> ServiceBuilder<P> {
     ) -> Result<PortFactory<P>, P::CreateError>
         ensures { Creates S.gives (S.id storage.old) (service_hash_of P.pattern self.now.name) self.now.node
             (agreement self.now.name (service_hash_of P.pattern self.now.name) (P.settings (P.adjusted (P.asked self.now.requirement)))
-            attributes.now) (P.IsWithinLimits (P.adjusted (P.asked self.now.requirement)))
-            (P.IsHistoryTooLong (P.adjusted (P.asked self.now.requirement))) P.create_error storage.old
+            attributes.now) (AreWithinLimits (P.settings (P.adjusted (P.asked self.now.requirement))))
+            (HasNoRoomForHistory (P.settings (P.adjusted (P.asked self.now.requirement)))) P.create_error storage.old
             (result_map_both (λ factory. factory.membership) (λ error. error) result) storage.new }
     {
         let asked = Asked::<P>::new(self.name, self.node, &self.requirement, attributes);
@@ -333,8 +333,8 @@ impl<P: Negotiated> ServiceBuilder<P> {
         ensures { Either S.gives (S.id storage.old) (service_hash_of P.pattern self.now.name) self.now.node
             (λ given. P.verdict self.now.requirement given)
             (agreement self.now.name (service_hash_of P.pattern self.now.name) (P.settings (P.adjusted (P.asked self.now.requirement)))
-            (P.attributes self.now.requirement).pairs) (P.IsWithinLimits (P.adjusted (P.asked self.now.requirement)))
-            (P.IsHistoryTooLong (P.adjusted (P.asked self.now.requirement))) P.open_or_create_error storage.old
+            (P.attributes self.now.requirement).pairs) (AreWithinLimits (P.settings (P.adjusted (P.asked self.now.requirement))))
+            (HasNoRoomForHistory (P.settings (P.adjusted (P.asked self.now.requirement)))) P.open_or_create_error storage.old
             (result_map_both (λ factory. factory.membership) (λ error. error) result) storage.new }
     {
         let attributes = P::attributes(&self.requirement).attributes();

@@ -6,6 +6,7 @@
 //! ```
 //! few_are_in();
 //! ```
+ghost use Rattle.iox_negotiate_base.specs.DescribeSettings.Agreement.{AreWithinLimits, HasNoRoomForHistory};
 ghost use Rattle.iox_negotiate.specs.Agreements.{AgreesAsBefore};
 ghost use Rattle.iox_negotiate.specs.Built.{BuildersMakeCalls};
 ghost use Rattle.iox_negotiate.specs.Calls.{OpenFactoriesStand, StandInsideCalls, of_three};
@@ -79,7 +80,8 @@ pub fn closes_one()
 /// these laws speak of, and what it agrees on is within the limits. So `rooms_are_agreed` holds of builders' calls. The builder is of the
 /// pattern `B`, and its error of any type.
 pub fn builders_make_calls<B: Pattern, P: Request, Q: Request, R: Request, E>()
-    ensures { BuildersMakeCalls B.IsWithinLimits B.IsHistoryTooLong (of_three P.ClauseError Q.ClauseError R.ClauseError) E }
+    ensures { BuildersMakeCalls (λ (config : B.StaticConfig). AreWithinLimits (B.settings config))
+        (λ (config : B.StaticConfig). HasNoRoomForHistory (B.settings config)) (of_three P.ClauseError Q.ClauseError R.ClauseError) E }
 {}
 
 /// After any calls in a new table the segment of each published service has room for just the agreed number of nodes.

@@ -26,8 +26,8 @@ impl<T, const SIZE: usize> Model for FixedSizeByteAtomic<T, SIZE> {
 impl<T: Coded<SIZE>, const SIZE: usize> FixedSizeByteAtomic<T, SIZE> {
     /// A cell that holds the value.
     pub fn new(value: T) -> Self
-        ensures bytes { result ≡ T.bytes_of value }
-        ensures value { T.is_value value }
+        ensures bytes { result ≡ T.encoding.bytes_of value }
+        ensures value { T.encoding.is_value value }
     {
         FixedSizeByteAtomic {
             bytes: value.to_bytes(),
@@ -44,8 +44,8 @@ impl<T: Coded<SIZE>, const SIZE: usize> FixedSizeByteAtomic<T, SIZE> {
 
     /// Puts the value in the place of what the cell held.
     pub fn write(&mut self, value: T)
-        ensures bytes { self.new ≡ T.bytes_of value }
-        ensures value { T.is_value value }
+        ensures bytes { self.new ≡ T.encoding.bytes_of value }
+        ensures value { T.encoding.is_value value }
     {
         self.bytes = value.to_bytes();
     }

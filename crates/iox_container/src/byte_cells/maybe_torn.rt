@@ -45,8 +45,8 @@ impl<T, const SIZE: usize> MaybeTorn<T, SIZE> {
     pub fn assume_consistent(&self) -> Option<T>
     where
         T: Coded<SIZE>,
-        ensures same { (v : T) → T.is_value v → ((result ≡ Some v) ↔ (self.now ≡ T.bytes_of v)) }
-        ensures value { IfSome result (λ v. T.is_value v × (self.now ≡ T.bytes_of v)) }
+        ensures same { (v : T) → T.encoding.is_value v → ((result ≡ Some v) ↔ (self.now ≡ T.encoding.bytes_of v)) }
+        ensures value { IfSome result (λ v. T.encoding.is_value v × (self.now ≡ T.encoding.bytes_of v)) }
     {
         let value = T::of_bytes(&self.bytes);
         if value.to_bytes() == self.bytes {

@@ -7,7 +7,7 @@ ghost use Rattle.iox_command.specs.declared.refusal.Refusal.TheVariants as refus
 ghost use Rattle.iox_command.specs.declared.service.ServiceOptions.TheVariants as options;
 ghost use Rattle.iox_command.specs.declared.step.ForeignStep.{ForeignStep};
 ghost use Rattle.iox_hub_base.specs.DescribeBase.Hash.{service_hash_of};
-ghost use Rattle.iox_hub_base.specs.DescribeSettings.Agreement.{agreement};
+ghost use Rattle.iox_hub_base.specs.DescribeSettings.Agreement.{agreement, AreWithinLimits, HasNoRoomForHistory};
 ghost use Rattle.iox_hub_base.specs.Negotiate.Asked.{IsRefusal};
 ghost use Rattle.iox_hub_base.specs.Negotiate.Negotiation.{Creates, Either, Negotiates};
 ghost use Rattle.iox_hub_base.specs.Opening.{OpensInHub, lacking_either};
@@ -126,14 +126,14 @@ fn creates_as_asked<
 ) -> Result<PortFactory<P>, P::CreateError>
     requires { builder.hub ≡ hub.old.table.id }
     ensures { OpensInHub (detail FixedSize T.name T.size T.alignment) (detail FixedSize U.name U.size U.alignment)
-        (IsRefusal (P.IsWithinLimits (P.adjusted (P.asked builder.requirement)))
-        (P.IsHistoryTooLong (P.adjusted (P.asked builder.requirement))) None)
+        (IsRefusal (AreWithinLimits (P.settings (P.adjusted (P.asked builder.requirement))))
+        (HasNoRoomForHistory (P.settings (P.adjusted (P.asked builder.requirement)))) None)
         (λ was_new. P.create_error uncreated.OutOfMemory)
         (λ before came after. Creates SteppedSight before.table.id (service_hash_of P.pattern builder.name) builder.node
         (agreement builder.name (service_hash_of P.pattern builder.name)
         (P.settings (P.adjusted (P.asked builder.requirement))) attributes.now)
-        (P.IsWithinLimits (P.adjusted (P.asked builder.requirement)))
-        (P.IsHistoryTooLong (P.adjusted (P.asked builder.requirement))) P.create_error before came after) [] hub.old
+        (AreWithinLimits (P.settings (P.adjusted (P.asked builder.requirement))))
+        (HasNoRoomForHistory (P.settings (P.adjusted (P.asked builder.requirement)))) P.create_error before came after) [] hub.old
         (result_map_both (λ factory. (factory.service.membership, factory.owner)) (λ error. error) result) hub.new }
 {
     builder.create_with_attributes_in(alloc, attributes, hub, Vec::new(alloc))
@@ -368,8 +368,8 @@ fn opens_or_creates_as_asked<
         (agreement builder.name (service_hash_of P.pattern builder.name)
         (P.settings (P.adjusted (P.asked (P.with_attributes builder.requirement attributes))))
         (P.attributes (P.with_attributes builder.requirement attributes)).pairs)
-        (P.IsWithinLimits (P.adjusted (P.asked (P.with_attributes builder.requirement attributes))))
-        (P.IsHistoryTooLong (P.adjusted (P.asked (P.with_attributes builder.requirement attributes)))) P.open_or_create_error
+        (AreWithinLimits (P.settings (P.adjusted (P.asked (P.with_attributes builder.requirement attributes)))))
+        (HasNoRoomForHistory (P.settings (P.adjusted (P.asked (P.with_attributes builder.requirement attributes))))) P.open_or_create_error
         before came after) [] hub.old
         (result_map_both (λ factory. (factory.service.membership, factory.owner)) (λ error. error) result) hub.new }
 {

@@ -6,6 +6,7 @@ ghost use Rattle.iox_command.specs.declared.refusal.Refusal.{Refusal};
 ghost use Rattle.iox_hub_base.specs.DescribeBase.Detail.{detail};
 ghost use Rattle.iox_hub_base.specs.DescribeBase.Hash.{service_hash_of};
 ghost use Rattle.iox_hub_base.specs.DescribeBase.declared.type_detail.TypeVariant.TheVariants.{FixedSize};
+ghost use Rattle.iox_hub_base.specs.DescribeSettings.Agreement.{AreWithinLimits, HasNoRoomForHistory};
 ghost use Rattle.iox_hub_base.specs.Hubs.{is_node};
 ghost use Rattle.iox_hub_base.specs.OfPattern.{CreatesOfPattern, OpensJudged, EitherOfPattern};
 ghost use Rattle.iox_hub_commands.specs.Asked.{types_of};
@@ -230,7 +231,8 @@ fn built<P: CommandPattern, T: Words + ZeroCopySend, U: Copy + ZeroCopySend, B: 
         → ByCall call.entry
         (λ attributes. let config = P.adjusted (P.asked requirement) in GetsNumber P.pattern P.create_refusal
         (CreatesOfPattern (detail FixedSize T.name T.size T.alignment) (detail FixedSize U.name U.size U.alignment) P.pattern
-        (P.settings config) (P.IsWithinLimits config) (P.IsHistoryTooLong config) P.create_error asked.now.node asked.now.name
+        (P.settings config) (AreWithinLimits (P.settings config)) (HasNoRoomForHistory (P.settings config))
+        P.create_error asked.now.node asked.now.name
         attributes lists.items) table hub.old answer after hub.new)
         (λ attributes. GetsNumber P.pattern P.open_refusal
         (OpensJudged (detail FixedSize T.name T.size T.alignment) (detail FixedSize U.name U.size U.alignment) P.open_error
@@ -239,7 +241,8 @@ fn built<P: CommandPattern, T: Words + ZeroCopySend, U: Copy + ZeroCopySend, B: 
         (λ attributes. let required = P.with_attributes requirement attributes in let config = P.adjusted (P.asked required) in
         GetsNumber P.pattern P.either_refusal
         (EitherOfPattern (detail FixedSize T.name T.size T.alignment) (detail FixedSize U.name U.size U.alignment) P.pattern
-        (P.settings config) (P.IsWithinLimits config) (P.IsHistoryTooLong config) (λ given. P.verdict required given)
+        (P.settings config) (AreWithinLimits (P.settings config)) (HasNoRoomForHistory (P.settings config))
+        (λ given. P.verdict required given)
         P.open_or_create_error asked.now.node asked.now.name (P.attributes required).pairs lists.items) table hub.old answer after
         hub.new) }
 {
