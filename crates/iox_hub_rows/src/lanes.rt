@@ -1,16 +1,14 @@
 //! The domain of a service goes by lanes for a while, in a hub that commands drive.
 use crate::handled::{CONFIG, Given, Numbers, Row, go_on};
-use iox_container::by_number::Numbered;
-use iox_hub::prelude::*;
 use iox_hub::service::Domain;
-use iox_hub_commands::services::MadeFactory;
 use iox_lanes::{Call, Entry, Move, Party, into_lanes};
-use std::alloc::AllocError;
+use std::alloc::{AllocError, Global};
 use std::process::Abort;
-use std::test::Fail;
 
 // A publisher has two slots, and a message waits in one.
-const BEFORE: [Row; 3] = [
+const BEFORE: [Row; 5] = [
+    ("node", None, None, "ok n1"),
+    ("create n1 ps A", None, None, "ok f1"),
     ("publisher f1 slots=2", None, None, "ok p1"),
     ("subscriber f1", None, None, "ok s1"),
     ("put p1 10", None, None, "ok 1"),
@@ -35,35 +33,6 @@ const BEHIND: [Row; 7] = [
     ("receive s1", None, None, "ok m3 40"),
     ("publisher f1", None, None, "ok p2"),
 ];
-
-// A factory goes by the next number.
-fn insert(
-    rt: &impl Abort,
-    table: &mut Numbered<MadeFactory>,
-    factory: MadeFactory,
-) -> Result<(), AllocError> {
-    table.reserve(1)?;
-    assert!(rt; table.next_number() < 1000);
-    assert!(rt; table.len() < table.room());
-    table.insert_next(factory);
-    Ok(())
-}
-
-// A service of single values is created: those that commands create are of slices.
-fn create(
-    rt: &impl Abort,
-    alloc: Global,
-    hub: &mut Hub<u64, u64>,
-) -> Result<PortFactory<PublishSubscribe>, Fail> {
-    let node = hub.new_node()?;
-    assert!(rt; hub.holds_node(&node));
-    let asked = hub
-        .service_builder(&node, ServiceName::new(b"A")?)
-        .publish_subscribe::<u64>()
-        .user_header::<u64>();
-    assert!(rt; asked.holds(hub));
-    Ok(asked.create_in(alloc, hub, Vec::new(alloc))?)
-}
 
 // The domain of the service, if it is there.
 fn take(rt: &impl Abort, hub: &mut Numbers) -> Option<Domain<u64, u64>> {
@@ -126,19 +95,20 @@ fn goes_by_lanes(
     Ok(is_back)
 }
 
-fn go(rt: &impl Abort, alloc: Global, hub: &mut Numbers, given: &mut Given) -> Result<(), Fail> {
-    let service = create(rt, alloc, &mut hub.hub)?;
-    let factory = MadeFactory::PublishSubscribe(service);
-    insert(rt, &mut hub.factories.made, factory)?;
+fn go(
+    rt: &impl Abort,
+    alloc: Global,
+    hub: &mut Numbers,
+    given: &mut Given,
+) -> Result<(), AllocError> {
     go_on(rt, alloc, hub, given, &BEFORE)?;
     let entries = schedule(alloc)?;
     assert!(rt; goes_by_lanes(rt, alloc, hub, given, entries.as_slice())?);
-    go_on(rt, alloc, hub, given, &BEHIND)?;
-    Ok(())
+    go_on(rt, alloc, hub, given, &BEHIND)
 }
 
 #[test]
-fn a_service_of_commands_goes_by_lanes(rt: HostRuntime) -> Result<(), Fail> {
+fn a_service_of_commands_goes_by_lanes(rt: HostRuntime) -> Result<(), AllocError> {
     let alloc = rt.alloc();
     go(
         &rt,

@@ -17,13 +17,13 @@ use Rattle.iox_lanes_machine.specs.declared.found.Found.{Found}
 use Rattle.iox_lanes_machine.specs.declared.sizes.LaneSizes.{LaneSizes}
 use Rattle.iox_lanes_machine.proofs.FoundKeptWhole.{all_found, found_moments}
 use Rattle.iox_lanes_machine.proofs.StartUses.{start_kept}
-use Rattle.iox_lanes.specs.Finding.{NoneCameBack, WasFound, is_given_back}
+use Rattle.iox_lanes.specs.Finding.{NoneCameBack, NothingCameBack, WasFound, is_given_back}
 
 -- lanes that were just made
 pub was_made : (sizes : LaneSizes) (m : World) → 0 < sizes.buffer → sizes.buffer < 2 ^ 61 → sizes.most_borrowed < 2 ^ 61
-    → sizes.subscribers < 2 ^ 61 → m ≡ start sizes → WasFound sizes m
+    → sizes.subscribers < 2 ^ 61 → m ≡ start sizes → NothingCameBack sizes m
 was_made sizes m some buffer borrowed ports is
-    = record { some = some; ports = ports; small = omega (arith, buffer, borrowed); found = []; none_came_back = tt; finds = is }
+    = record { was = record { some = some; ports = ports; small = omega (arith, buffer, borrowed); found = []; finds = is }; none = tt }
 
 -- one more behind a list of findings
 one_more : (s : World) (fs : List Found) (m : World) (f : Found) → AreFound s fs m → finds m f ≡ true
@@ -37,30 +37,29 @@ none_more [] f none new = (new, tt)
 none_more (g ∷ fs) f none new = (none.0, none_more fs f none.1 new)
 
 pub found_on : (sizes : LaneSizes) (m : World) (f : Found) (answer : Bool) (n : World) → is_given_back f ≡ false → FindsTo m f answer n
-    → WasFound sizes m → WasFound sizes n
-found_on sizes m f true n new h w
-    = subst (WasFound sizes) (sym h.1)
-    (record {
-      some = w.some;
-      ports = w.ports;
-      small = w.small;
-      found = w.found ++ f ∷ [];
-      none_came_back = none_more w.found f w.none_came_back new;
-      finds
-          = one_more (start sizes) w.found m f w.finds h.0;
-    })
-found_on sizes m f false n new h w = subst (WasFound sizes) (sym h.1) w
+    → NothingCameBack sizes m → NothingCameBack sizes n
+found_on sizes m f true n new h b = subst (NothingCameBack sizes) (sym h.1) (record {
+  was = record {
+    some = b.was.some;
+    ports = b.was.ports;
+    small = b.was.small;
+    found = b.was.found ++ f ∷ [];
+    finds = one_more (start sizes) b.was.found m f b.was.finds h.0;
+  };
+  none = none_more b.was.found f b.none new;
+})
+found_on sizes m f false n new h b = subst (NothingCameBack sizes) (sym h.1) b
 
 -- they came from where they were made
-pub came : (sizes : LaneSizes) (m : World) → WasFound sizes m → CameTo m
-came sizes m w = record {
+pub came : (sizes : LaneSizes) (m : World) → NothingCameBack sizes m → CameTo m
+came sizes m b = record {
   sizes = sizes;
-  some = w.some;
-  ports = w.ports;
-  small = w.small;
-  found = w.found;
+  some = b.was.some;
+  ports = b.was.ports;
+  small = b.was.small;
+  found = b.was.found;
   begun = m;
-  finds = w.finds;
+  finds = b.was.finds;
   schedule = [];
   made
       = 0;

@@ -26,7 +26,7 @@ use Rattle.iox_lanes_opening.specs.Lingering.{connection_lingers, has_ended, has
 use Rattle.iox_lanes_opening.specs.Lingering.{publisher_lingers, subscriber_lingers}
 use Rattle.iox_lanes_opening.specs.Refusals.{first_reason, has_growing, is_blocked}
 use Rattle.iox_lanes_opening.specs.Restored.{IsRested}
-use Rattle.iox_lanes_opening.specs.Slices.{deals_in_slices, has_slices, is_dynamic, is_slice, keeps_slice, slice_waits}
+use Rattle.iox_lanes_opening.specs.Slices.{deals_in_slices, has_slices, is_slice, keeps_slice, slice_waits}
 use Rattle.iox_lanes_opening.specs.UpToDate.{is_current_port, is_current_publisher, is_current_reader, is_current_subscriber, is_up_to_date}
 use Rattle.iox_lanes.specs.Holding.{numbers_of, AreThere}
 
@@ -185,8 +185,7 @@ no_slices {T} {U} domain number port none is =
     let lingering = no_reason (is_lingering ports) _ _ retrying.1 in
     let sliced = no_reason (has_slices domain) _ _ lingering.1 in
     let slices = none_under (λ (entry : ℕ × PublisherPort T U). deals_in_slices entry.1) (is_at (nat_cmp number)) ports.publishers port
-    (neither (is_dynamic domain.agreed.types.payload.variant)
-    (list_any (λ (entry : ℕ × PublisherPort T U). deals_in_slices entry.1) ports.publishers) sliced.0).1 is in
+    sliced.0 is in
     let unit = neither (not (port.unit == 1)) (not (port.sender.room == 1) || keeps_slice port) slices.1 in
     let one = neither (not (port.sender.room == 1)) (keeps_slice port) unit.1 in
     (eqb-true port.sender.room 1 (not_no (port.sender.room == 1) one.0), one.1)

@@ -28,14 +28,18 @@ abbrev pub NoneCameBack : List Found → Type 0
 NoneCameBack [] = Unit {0}
 NoneCameBack (first ∷ rest) = (is_given_back first ≡ false) × NoneCameBack rest
 
--- lanes that were made of these sizes, and what they found: no sample that was given back is among it
+-- lanes that were made of these sizes, and what they found
 pub record WasFound (sizes : LaneSizes) (m : World) : Type 0 where
   pub some : 0 < sizes.buffer
   pub ports : sizes.subscribers < 2 ^ 61
   pub small : sizes.buffer + sizes.most_borrowed + 1 < 2 ^ 62
   pub found : List Found
-  pub none_came_back : NoneCameBack found
   pub finds : AreFound (start sizes) found m
+
+-- Lanes that were made of these sizes, and what they found: no sample that was given back is among it.
+pub record NothingCameBack (sizes : LaneSizes) (m : World) : Type 0 where
+  pub was : WasFound sizes m
+  pub none : NoneCameBack was.found
 
 -- whether the sends of each publisher fail behind a finding
 abbrev pub failing_behind : Found → List Bool → List Bool

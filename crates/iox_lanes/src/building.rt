@@ -14,7 +14,7 @@ ghost use Rattle.iox_lanes.specs.Alone.{AreAlone, HasOne, KeepAlone};
 ghost use Rattle.iox_lanes.specs.Behind.{behind_findings, behind_finding};
 ghost use Rattle.iox_lanes.specs.Built.{slots_if, AreBuilt, HaveSlots};
 ghost use Rattle.iox_lanes.specs.Exact.{loans_if, most_loans_of, most_slots_of, sizes_for};
-ghost use Rattle.iox_lanes.specs.Finding.{WasFound};
+ghost use Rattle.iox_lanes.specs.Finding.{NothingCameBack};
 ghost use Rattle.iox_lanes.specs.Laid.{first_slot, flat_listed, header_findings, history_findings, link_findings, message_findings};
 ghost use Rattle.iox_lanes.specs.Laid.{publishers_behind, sender_behind, slots_in, value_findings, waiting_findings};
 ghost use Rattle.iox_lanes.specs.Ordered.{keys_behind, leads_here, route_place, reader_behind, readers_behind};
@@ -51,7 +51,7 @@ pub(crate) fn build<T: Words, U: Words>(
     ensures between { IfOk result (λ opened. AllBetween opened.lanes) }
     ensures sized { IfOk result (λ opened. AreSized domain.now.state.ports.sizes (length opened.publishers.items)
         (length opened.subscribers.items) T.WORDS (middle_count domain.now.state.ports.sizes.sequence_numbers U.WORDS) opened.lanes) }
-    ensures exact { IfOk result (λ opened. WasFound (sizes_for T.WORDS
+    ensures exact { IfOk result (λ opened. NothingCameBack (sizes_for T.WORDS
         (middle_count domain.now.state.ports.sizes.sequence_numbers U.WORDS) domain.now.state.ports opened.publishers.items
         (length opened.subscribers.items)) opened.lanes) }
     ensures publishers { IfOk result (λ opened. opened.publishers.items

@@ -11,7 +11,7 @@ ghost use Rattle.iox_lanes.specs.Failing.{FailAsAsked};
 ghost use Rattle.iox_lanes.specs.Holding.{LanesHold};
 ghost use Rattle.iox_lanes.specs.Joined.{IsJoined};
 ghost use Rattle.iox_lanes.specs.Exact.{sizes_for};
-ghost use Rattle.iox_lanes.specs.Finding.{WasFound};
+ghost use Rattle.iox_lanes.specs.Finding.{NothingCameBack};
 ghost use Rattle.iox_lanes.specs.Sized.{AreSized};
 ghost use Rattle.iox_lanes.specs.Spelling.{spelling_of};
 
@@ -104,8 +104,8 @@ pub fn into_lanes<T: Words, U: Words>(
     ensures between { IfOk result (λ opened. AllBetween opened.lanes.lanes) }
     ensures sized { IfOk result (λ opened. AreSized domain.state.ports.sizes (length opened.publishers.items)
         (length opened.subscribers.items) T.WORDS (middle_count domain.state.ports.sizes.sequence_numbers U.WORDS) opened.lanes.lanes) }
-    ensures exact { IfOk result (λ opened. WasFound (sizes_for T.WORDS (middle_count domain.state.ports.sizes.sequence_numbers U.WORDS)
-        domain.state.ports opened.publishers.items
+    ensures exact { IfOk result (λ opened. NothingCameBack (sizes_for T.WORDS
+        (middle_count domain.state.ports.sizes.sequence_numbers U.WORDS) domain.state.ports opened.publishers.items
         (length opened.subscribers.items)) opened.lanes.lanes) }
     ensures few { IfOk result (λ opened. opened.lanes.lanes.table.sizes.slots < 2 ^ 64) }
     ensures messages { IfOk result (λ opened. opened.lanes.messages ≡ found_messages opened.lanes.lanes) }
@@ -160,7 +160,7 @@ fn open<T: Words, U: Words>(alloc: Global, domain: &Domain<T, U>) -> Result<Reco
     ensures between { IfOk result (λ opened. AllBetween opened.lanes.lanes) }
     ensures sized { IfOk result (λ opened. AreSized domain.now.state.ports.sizes (length opened.publishers.items)
         (length opened.subscribers.items) T.WORDS (middle_count domain.now.state.ports.sizes.sequence_numbers U.WORDS) opened.lanes.lanes) }
-    ensures exact { IfOk result (λ opened. WasFound (sizes_for T.WORDS
+    ensures exact { IfOk result (λ opened. NothingCameBack (sizes_for T.WORDS
         (middle_count domain.now.state.ports.sizes.sequence_numbers U.WORDS) domain.now.state.ports opened.publishers.items
         (length opened.subscribers.items)) opened.lanes.lanes) }
     ensures few { IfOk result (λ opened. opened.lanes.lanes.table.sizes.slots < 2 ^ 64) }

@@ -13,13 +13,13 @@ pub(crate) struct NewLanes {
 }
 
 impl Model for NewLanes {
-    ghost use Rattle.iox_lanes.specs.Finding.{Beginning, WasFound};
+    ghost use Rattle.iox_lanes.specs.Finding.{Beginning, NothingCameBack};
 
     ghost Value = { Beginning };
 
     ghost view = { λ n. record { sizes = n.sizes; lanes = n.lanes } };
 
-    ghost invariant = { λ n. WasFound n.sizes n.lanes };
+    ghost invariant = { λ n. NothingCameBack n.sizes n.lanes };
 }
 
 impl NewLanes {
@@ -29,10 +29,10 @@ impl NewLanes {
     ghost use Rattle.iox_lanes_machine.specs.WholeReads.{CameTo};
     ghost use Rattle.iox_lanes.specs.Behind.{behind_finding};
     ghost use Rattle.iox_lanes.specs.Failing.{failing};
-    ghost use Rattle.iox_lanes.specs.Finding.{WasFound, failing_behind, is_given_back};
+    ghost use Rattle.iox_lanes.specs.Finding.{NothingCameBack, failing_behind, is_given_back};
 
     /// Lanes of these sizes. Fails only where an allocation fails; no memory has the numbers of 2^61 subscribers.
-    #[tactic(auto, using(crate::proofs::Found::was_made, crate::proofs::Failing::as_many_made))]
+    #[tactic(auto, using(crate::proofs::Failing::as_many_made))]
     pub fn new(alloc: Global, sizes: LaneSizes) -> Result<NewLanes, AllocError>
         requires some { 0 < sizes.buffer }
         requires small { (sizes.buffer < 2 ^ 61) × (sizes.most_borrowed < 2 ^ 61) }
@@ -75,7 +75,7 @@ impl NewLanes {
     pub fn into_lanes(self) -> LaneMachine
         ensures came { CameTo result }
         ensures between { AllBetween result }
-        ensures found { WasFound self.sizes result }
+        ensures found { NothingCameBack self.sizes result }
         ensures lanes { result ≡ self.lanes }
     {
         let NewLanes { lanes, .. } = self;

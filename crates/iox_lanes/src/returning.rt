@@ -100,7 +100,7 @@ fn returned<T: Words, U: Words>(opened: DomainLanes<T, U>) -> Domain<T, U>
         connections,
         one,
     } = opened;
-    let lanes = lanes.into_lanes();
+    let lanes = lanes.into_machine();
     let mut domain = domain;
     let mut one = one;
     if one.is_empty() {

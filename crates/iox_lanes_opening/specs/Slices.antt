@@ -1,17 +1,10 @@
 -- What isn't one value.
 use Rattle.std.specs.Prelude.{◌==◌, ◌||◌, Bool, true, false, not, length, Option, None, Some}
 use Rattle.std.specs.List.{list_any}
-use Rattle.iox_domain.specs.DescribeBase.declared.type_detail.TypeVariant.{TypeVariant}
-use Rattle.iox_domain.specs.DescribeBase.declared.type_detail.TypeVariant.TheVariants as variant
 use Rattle.iox_domain.specs.DomainPorts.Messages.{Message}
 use Rattle.iox_domain.specs.DomainSlots.Uses.{Connection}
 use Rattle.iox_domain.specs.DomainPorts.declared.publisher_port.PublisherPort.{PublisherPort}
 use Rattle.iox_domain.specs.declared.domain.Domain.{Domain}
-
--- whether messages of this kind are slices
-abbrev pub is_dynamic : TypeVariant → Bool
-is_dynamic variant.FixedSize = false
-is_dynamic variant.Dynamic = true
 
 -- whether a message has another number of values than one
 abbrev pub is_slice : {T U : Type 0} → Message T U → Bool
@@ -34,7 +27,6 @@ keeps_slice port = list_any is_slice port.sender.uses.history || list_any slice_
 abbrev pub deals_in_slices : {T U : Type 0} → PublisherPort T U → Bool
 deals_in_slices port = not (port.unit == 1) || (not (port.sender.room == 1) || keeps_slice port)
 
--- The messages of a domain are slices, or some publisher deals in slices.
+-- Some publisher deals in slices. Where none does, messages of a service of slices are single values, too.
 abbrev pub has_slices : {T U B D : Type 0} → Domain T U B D → Bool
-has_slices domain = is_dynamic domain.agreed.types.payload.variant
-    || list_any (λ entry. deals_in_slices entry.1) domain.state.ports.publishers
+has_slices domain = list_any (λ entry. deals_in_slices entry.1) domain.state.ports.publishers

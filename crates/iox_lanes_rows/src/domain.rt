@@ -16,8 +16,26 @@ use iox_domain_values::{
 };
 use std::alloc::{AllocError, Global};
 
-/// A domain of numbers, with user headers of a byte.
-pub(crate) type Numbers = Domain<u64, u8>;
+/// A domain of numbers of two words, with no user header.
+pub(crate) type Numbers = Domain<u128, ()>;
+
+// Above each number of one word.
+const ABOVE: u128 = 1 << 64;
+
+/// A number in both words of a value.
+pub(crate) fn in_both_words(number: u64) -> u128 {
+    u128::from(number).saturating_mul(ABOVE + 1)
+}
+
+/// The number in both words of a value, or the largest one where they differ.
+pub(crate) fn number_in(value: u128) -> u64 {
+    let number = (value % ABOVE) as u64;
+    if in_both_words(number) == value {
+        number
+    } else {
+        u64::MAX
+    }
+}
 
 /// What is agreed.
 #[derive(Clone, Copy)]
@@ -26,12 +44,14 @@ pub(crate) struct Service {
     pub(crate) overflow: bool,
     pub(crate) buffer: u64,
     pub(crate) history: u64,
+    /// How many samples a subscriber may hold.
+    pub(crate) borrowed: u64,
     pub(crate) numbered: bool,
     /// How many publishers there may be, and how many subscribers.
     pub(crate) ports: u64,
 }
 
-/// How a publisher is made. It lends one value at a time.
+/// How a publisher is made. It lends one value at a time, if no more is said.
 #[derive(Clone, Copy)]
 pub(crate) enum Plan {
     /// It discards at a full mailbox.
@@ -46,6 +66,10 @@ pub(crate) enum Plan {
     Asking,
     /// Its last number before any send is 2^63.
     Far,
+    /// Its slots have room for two values.
+    Pairs,
+    /// It lends so many values.
+    Lending(u64),
 }
 
 // An object that decides as little as it can.
@@ -63,13 +87,13 @@ impl BackpressureFn for Quiet {
 // What is agreed, as it is described.
 fn described(service: &Service) -> Option<Description> {
     let name = ServiceName::new(b"A").ok()?;
-    let types = MessageTypeDetails::from::<Header, u8, u64>(service.variant);
+    let types = MessageTypeDetails::from::<Header, (), u128>(service.variant);
     let mut config = StaticConfig::new(types);
     config.enable_safe_overflow = service.overflow;
     config.subscriber_max_buffer_size = service.buffer;
     config.history_size = service.history;
     config.sequence_numbers = service.numbered;
-    config.subscriber_max_borrowed_samples = 1;
+    config.subscriber_max_borrowed_samples = service.borrowed;
     config.max_publishers = service.ports;
     config.max_subscribers = service.ports;
     let settings = Settings::PublishSubscribe(config);
@@ -107,8 +131,14 @@ const FAR: u64 = (1 << 63) + 1;
 fn config(plan: Plan) -> PublisherConfig {
     PublisherConfig {
         owner: OWNER,
-        max_loaned_samples: 1,
-        values: 1,
+        max_loaned_samples: match plan {
+            Plan::Lending(count) => count as usize,
+            _ => 1,
+        },
+        values: match plan {
+            Plan::Pairs => 2,
+            _ => 1,
+        },
         unit: 1,
         allocation: match plan {
             Plan::Growing => AllocationStrategy::BestFit,
@@ -142,13 +172,13 @@ fn handlers(alloc: Global, plan: Plan) -> Result<Handlers, AllocError> {
     })
 }
 
-// The number of a publisher that comes, with user header 6.
+// The number of a publisher that comes.
 fn publisher(alloc: Global, domain: &mut Numbers, plan: Plan) -> Result<u64, AllocError> {
     let by = handlers(alloc, plan)?;
     let slots = PreallocatedSamplesOverride::WorstCase;
     match domain
         .state
-        .create_publisher(alloc, config(plan), 6, &slots, by)
+        .create_publisher(alloc, config(plan), (), &slots, by)
     {
         Ok(number) => Ok(number),
         Err(_) => Err(AllocError),
@@ -293,7 +323,10 @@ pub(crate) fn send(
         return Ok(Told::Otherwise);
     };
     let slot = lent(alloc, domain, number)?;
-    domain.state.ports.write_payload(number, slot, value);
+    domain
+        .state
+        .ports
+        .write_payload(number, slot, in_both_words(value));
     told(domain.state.send(alloc, number, slot))
 }
 
@@ -329,7 +362,8 @@ pub(crate) fn release(domain: &mut Numbers, sample: Taken) -> bool {
 
 // The value of a sample.
 fn value_of(domain: &Numbers, sample: Taken) -> Option<u64> {
-    domain.state.ports.payload(sample)?.first().copied()
+    let value = *domain.state.ports.payload(sample)?.first()?;
+    Some(number_in(value))
 }
 
 // The number of a sample's message, and its value.

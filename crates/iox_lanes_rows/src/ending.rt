@@ -7,12 +7,12 @@ use iox_lanes::{
 use std::alloc::{AllocError, Global};
 
 // The ports of a domain of numbers.
-type NumberThreads = DomainThreads<u64, u8>;
+type NumberThreads = DomainThreads<u128, ()>;
 
 /// The domain that is left where its lanes go on in threads that end together at once.
 pub(crate) fn together(
     alloc: Global,
-    lanes: DomainLanes<u64, u8>,
+    lanes: DomainLanes<u128, ()>,
 ) -> Result<Option<Numbers>, AllocError> {
     match threads::open_threads(alloc, 1, lanes) {
         Ok(opened) => Ok(end_together(opened.board, opened.publishers, opened.subscribers).ok()),

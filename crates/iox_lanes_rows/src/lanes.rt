@@ -1,4 +1,5 @@
 //! What the ports of lanes send and receive, by whole calls. Messages have numbers.
+use crate::domain::{in_both_words, number_in};
 use crate::stepping::{step, whole, whole_counted};
 use crate::worlds::{Pace, Told};
 use iox_lanes::{
@@ -7,14 +8,14 @@ use iox_lanes::{
 use std::alloc::{AllocError, Global};
 
 /// The user header of what is sent: the send sets the number.
-pub(crate) const USER_HEADER: WithSequence<u8> = WithSequence {
+pub(crate) const USER_HEADER: WithSequence<()> = WithSequence {
     sequence: 0,
-    user_header: 6,
+    user_header: (),
 };
 
 /// A message, by its number and its value.
-pub(crate) fn numbered(values: (WithSequence<u8>, u64)) -> (u64, u64) {
-    (values.0.sequence, values.1)
+pub(crate) fn numbered(values: (WithSequence<()>, u128)) -> (u64, u64) {
+    (values.0.sequence, number_in(values.1))
 }
 
 /// What a send comes to that answered so.
@@ -47,7 +48,7 @@ pub(crate) fn send(
     let Some(Answer::Lent(LoanAnswer::Slot(loan))) = whole(lanes, party, Call::LoanUninit) else {
         return Ok(Told::Otherwise);
     };
-    let write = Call::write(alloc, loan, &value, &USER_HEADER)?;
+    let write = Call::write(alloc, loan, &in_both_words(value), &USER_HEADER)?;
     Ok(send_loan(lanes, party, loan, write))
 }
 
@@ -70,7 +71,7 @@ pub(crate) fn paces(
     let Some(Answer::Lent(LoanAnswer::Slot(loan))) = lent else {
         return Ok(false);
     };
-    let write = Call::write(alloc, loan, &value, &USER_HEADER)?;
+    let write = Call::write(alloc, loan, &in_both_words(value), &USER_HEADER)?;
     let written = whole(lanes, party, write).is_some();
     Ok(written && within(lanes, party, Call::Send { loan }, pace.send).is_some())
 }

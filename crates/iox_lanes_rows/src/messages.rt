@@ -1,4 +1,6 @@
 //! Messages that lanes keep, beside what a read gives.
+ghost use Rattle.std.specs.Prelude.{◌<◌};
+
 use crate::stepping::{new_lanes, whole, words_read};
 use iox_lanes::{Call, LaneSizes, Lanes, Party, RingKind};
 use std::alloc::{AllocError, Global};
@@ -52,11 +54,12 @@ fn is_kept(lanes: &Lanes, number: u64) -> bool {
 // Whether the connection's order has the message of a number as it is put, and as it is taken.
 fn is_placed(lanes: &Lanes, number: u64) -> bool {
     let put = (number as usize).saturating_mul(2);
-    match lanes.order(0).get(put.saturating_add(1)) {
-        Some(taken) => {
-            taken.number == Some(number as usize) && lanes.number(0, put) == taken.number
+    let order = lanes.order(0);
+    match (order.get(put), order.get(put.saturating_add(1))) {
+        (Some(put), Some(taken)) => {
+            [put.number, taken.number] == [Some(number as usize), Some(number as usize)]
         }
-        None => false,
+        _ => false,
     }
 }
 
@@ -102,6 +105,66 @@ fn all_are_kept(rt: &impl Abort, alloc: Global) -> Result<(), AllocError> {
         assert!(rt; are_kept(alloc, *count)?, "{count}");
     }
     Ok(())
+}
+
+// So many words of user header and of payload.
+const WORDS: [(u64, u64); 8] = [
+    (0, 0),
+    (0, 1),
+    (1, 0),
+    (1, 2),
+    (2, 7),
+    (7, 1),
+    (0, 64),
+    (64, 1000),
+];
+
+fn sizes(words: (u64, u64)) -> LaneSizes
+    ensures { 0 < result.buffer }
+{
+    LaneSizes {
+        user_header_words: words.0,
+        payload_words: words.1,
+        ..SIZES
+    }
+}
+
+// The write of such a message into the first slot.
+fn write(alloc: Global, words: (u64, u64)) -> Result<Call, AllocError> {
+    Ok(Call::Write {
+        loan: 0,
+        payload: vec![in alloc; 7u64; words.1 as usize]?,
+        user_header: vec![in alloc; 5u64; words.0 as usize]?,
+    })
+}
+
+// Whether a message of so many words is kept as it is sent.
+fn keeps_words(lanes: &mut Lanes, write: Call, count: u64) -> bool {
+    if !sends(lanes, 0, write) {
+        return false;
+    }
+    match lanes.message(0) {
+        Some(message) => message.words().len() as u64 == count,
+        None => false,
+    }
+}
+
+fn keep_words(alloc: Global, words: (u64, u64)) -> Result<bool, AllocError> {
+    let count = words.0.saturating_add(words.1).saturating_add(3);
+    let write = write(alloc, words)?;
+    Ok(keeps_words(&mut new_lanes(alloc, sizes(words))?, write, count))
+}
+
+fn all_keep_words(rt: &impl Abort, alloc: Global) -> Result<(), AllocError> {
+    for words in &WORDS {
+        assert!(rt; keep_words(alloc, *words)?, "{words:?}");
+    }
+    Ok(())
+}
+
+#[test]
+fn messages_of_all_sizes_are_kept(rt: HostRuntime) -> Result<(), AllocError> {
+    all_keep_words(&rt, rt.alloc())
 }
 
 #[test]

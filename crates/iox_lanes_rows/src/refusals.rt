@@ -11,6 +11,7 @@ const OVERFLOWING: Service = Service {
     overflow: true,
     buffer: 2,
     history: 1,
+    borrowed: 1,
     numbered: true,
     ports: 2,
 };
@@ -21,6 +22,7 @@ const REFUSING: Service = Service {
     overflow: false,
     buffer: 1,
     history: 0,
+    borrowed: 1,
     numbered: false,
     ports: 2,
 };
@@ -31,11 +33,12 @@ const SLICES: Service = Service {
     overflow: true,
     buffer: 1,
     history: 0,
-    numbered: false,
+    borrowed: 1,
+    numbered: true,
     ports: 2,
 };
 
-const CASES: [Case; 9] = [
+const CASES: [Case; 10] = [
     Case {
         name: "a send that waits",
         service: &REFUSING,
@@ -98,9 +101,25 @@ const CASES: [Case; 9] = [
         ],
     },
     Case {
-        name: "a service of slices",
+        name: "room for two values",
         service: &SLICES,
-        steps: &[Step::Opens(Some(IntoLanesError::HasSlices))],
+        steps: &[
+            Step::Publish(Plan::Pairs),
+            Step::Opens(Some(IntoLanesError::HasSlices)),
+        ],
+    },
+    Case {
+        name: "single values of a service of slices",
+        service: &SLICES,
+        steps: &[
+            Step::Publish(Plan::Plain),
+            Step::Subscribe(None),
+            Step::Meet,
+            Step::Opens(None),
+            Step::Sends(0, 7, Told::To(1)),
+            Step::Gets(0, 1, 7),
+            Step::Returns(None),
+        ],
     },
     Case {
         name: "a publisher that is listed twice",

@@ -11,6 +11,7 @@ const OVERFLOWING: Service = Service {
     overflow: true,
     buffer: 3,
     history: 2,
+    borrowed: 1,
     numbered: true,
     ports: 3,
 };
@@ -21,6 +22,7 @@ const REFUSING: Service = Service {
     overflow: false,
     buffer: 1,
     history: 0,
+    borrowed: 1,
     numbered: true,
     ports: 2,
 };
@@ -116,11 +118,11 @@ fn a_domain_has_what_its_lanes_left(rt: HostRuntime) -> Result<(), AllocError> {
 }
 
 // Of two subscribers, at each of which 3 messages may wait and 1 be borrowed: 4 · 2 · (3 + 1 + 2) + 2 steps for a loan, and for a send
-// 4 · 2 · (3 + 1 + 3) + 2 + 7, where user header and number are 2 words.
-const OF_TWO: Pace = Pace { loan: 50, send: 65 };
+// 4 · 2 · (3 + 1 + 3) + 1 + 7, where the number is a word.
+const OF_TWO: Pace = Pace { loan: 50, send: 64 };
 
-// Of one: 4 · (1 + 1 + 2) + 2 steps, and 4 · (1 + 1 + 3) + 2 + 7.
-const OF_ONE: Pace = Pace { loan: 18, send: 29 };
+// Of one: 4 · (1 + 1 + 2) + 2 steps, and 4 · (1 + 1 + 3) + 1 + 7.
+const OF_ONE: Pace = Pace { loan: 18, send: 28 };
 
 const PACES: [Case; 2] = [
     Case {

@@ -6,22 +6,24 @@ use std::alloc::{AllocError, Global};
 use std::process::Abort;
 use std::sync::Wait;
 
-// A service of so many ports of each kind, and of so many messages that may wait and stand in a history.
-fn service(ports: u64, buffer: u64, history: u64) -> Service {
+// A service of so many ports of each kind, of so many messages that may wait and stand in a history, and of so many that may be borrowed.
+fn service(ports: u64, messages: (u64, u64), borrowed: u64) -> Service {
     Service {
         variant: TypeVariant::FixedSize,
         overflow: true,
-        buffer,
-        history,
+        buffer: messages.0,
+        history: messages.1,
+        borrowed,
         numbered: true,
         ports,
     }
 }
 
-// Whether as many messages stand in the history, wait for the subscriber and are in the lanes, of which one is received there.
+// Whether as many messages stand in the history, wait for the subscriber and are in the lanes, of which one is received there. As many may
+// be borrowed and lent.
 fn has_messages(rt: &impl Wait, alloc: Global, count: u64) -> Result<bool, AllocError> {
     let steps = [
-        Step::Publish(Plan::Plain),
+        Step::Publish(Plan::Lending(count)),
         Step::Fills(0, count),
         Step::Subscribe(None),
         Step::Meet,
@@ -29,7 +31,7 @@ fn has_messages(rt: &impl Wait, alloc: Global, count: u64) -> Result<bool, Alloc
         Step::Gets(0, 1, 0),
         Step::Returns(None),
     ];
-    Ok(go(rt, alloc, &service(1, count, count), &steps)? == steps.len())
+    Ok(go(rt, alloc, &service(1, (count, count), count), &steps)? == steps.len())
 }
 
 fn all_have_messages<R: Abort + Wait>(rt: &R, alloc: Global) -> Result<(), AllocError> {
@@ -44,12 +46,11 @@ fn domains_of_all_sizes_become_lanes_and_domains_again(rt: HostRuntime) -> Resul
     all_have_messages(&rt, rt.alloc())
 }
 
-// A loan and a send to so many subscribers, at each of which one message may wait and one be borrowed, with 2 words of user header and
-// number.
+// A loan and a send to so many subscribers, at each of which one message may wait and one be borrowed, with a word of number.
 fn pace_of(count: u64) -> Pace {
     Pace {
         loan: count.saturating_mul(16).saturating_add(2),
-        send: count.saturating_mul(20).saturating_add(9),
+        send: count.saturating_mul(20).saturating_add(8),
     }
 }
 
@@ -63,7 +64,7 @@ fn has_pace(rt: &impl Wait, alloc: Global, count: u64) -> Result<bool, AllocErro
         Step::Paces(0, 2, pace_of(count)),
         Step::Paces(0, 3, pace_of(count)),
     ];
-    Ok(go(rt, alloc, &service(count, 1, 0), &steps)? == steps.len())
+    Ok(go(rt, alloc, &service(count, (1, 0), 1), &steps)? == steps.len())
 }
 
 fn all_have_pace<R: Abort + Wait>(rt: &R, alloc: Global) -> Result<(), AllocError> {
@@ -91,7 +92,7 @@ fn has_ports(rt: &impl Wait, alloc: Global, count: u64) -> Result<bool, AllocErr
         Step::Opens(None),
         Step::Returns(None),
     ];
-    Ok(go(rt, alloc, &service(count, 1, 0), &steps)? == steps.len())
+    Ok(go(rt, alloc, &service(count, (1, 0), 1), &steps)? == steps.len())
 }
 
 fn all_have_ports<R: Abort + Wait>(rt: &R, alloc: Global) -> Result<(), AllocError> {

@@ -43,7 +43,7 @@ fn step_again(lanes: &mut Lanes, party: Party, entry: &Move) -> Stepped {
 
 // Goes on inside a call up to its end, and gives its answer and how many steps it has, its begin among them.
 fn rest(lanes: &mut Lanes, party: Party) -> Option<(Answer, u64)> {
-    for steps in 2..1000 {
+    for steps in 2..2000 {
         if step_again(lanes, party, &Move::GoOn) == Stepped::Finished {
             return Some((last_call(lanes)?.answer, steps));
         }

@@ -1,4 +1,5 @@
 //! What the ports of a domain send and receive in threads. Messages have numbers.
+use crate::domain::in_both_words;
 use crate::lanes::{USER_HEADER, numbered, told};
 use crate::worlds::Told;
 use iox_lanes::{LanePublisher, LaneSubscriber, LoanAnswer, Receipt, SendAnswer};
@@ -9,7 +10,7 @@ fn sent(port: &mut LanePublisher, value: u64) -> Option<SendAnswer> {
     let LoanAnswer::Slot(loan) = port.loan_uninit()? else {
         return None;
     };
-    if port.write_values(loan, &value, &USER_HEADER) {
+    if port.write_values(loan, &in_both_words(value), &USER_HEADER) {
         port.send(loan)
     } else {
         None

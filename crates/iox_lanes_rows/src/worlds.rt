@@ -86,10 +86,10 @@ pub(crate) enum Step {
 }
 
 // The lanes of a domain of numbers.
-type NumberLanes = DomainLanes<u64, u8>;
+type NumberLanes = DomainLanes<u128, ()>;
 
 // The ports of one in threads.
-type NumberThreads = DomainThreads<u64, u8>;
+type NumberThreads = DomainThreads<u128, ()>;
 
 // A domain, its lanes, or its ports in threads, and the sample that is kept.
 #[derive(Drop)]
@@ -122,11 +122,11 @@ fn let_go(world: World) {
     drop(world.threads);
 }
 
-fn opened(alloc: Global, domain: Numbers) -> Result<NumberLanes, Refused<u64, u8>> {
+fn opened(alloc: Global, domain: Numbers) -> Result<NumberLanes, Refused<u128, ()>> {
     into_lanes(alloc, domain)
 }
 
-fn returned(lanes: NumberLanes) -> Result<Numbers, StillLanes<u64, u8>> {
+fn returned(lanes: NumberLanes) -> Result<Numbers, StillLanes<u128, ()>> {
     lanes.into_domain()
 }
 

@@ -96,7 +96,7 @@ pub(super) fn with_number(messages: &[Message], placed: Placed) -> PlacedMessage
 }
 
 // The number of the message that an entry puts or takes: the last one that was sent in its slot by its moment.
-pub(super) fn number_of(messages: &[Message], placed: Placed) -> Option<usize>
+fn number_of(messages: &[Message], placed: Placed) -> Option<usize>
     ensures { result ≡ number_of_placed messages.now (Some placed) }
 {
     let slot = acted_slot(placed.act)?;

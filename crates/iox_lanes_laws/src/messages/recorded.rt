@@ -4,10 +4,10 @@ ghost use Rattle.std.specs.Prelude.{if◌then◌else◌, ◌++◌, ◌+◌, ◌�
 ghost use Rattle.iox_lanes_machine.specs.LanesParties.Values.{AreValues};
 ghost use Rattle.iox_lanes_machine.specs.LanesBase.Numbers.{words_of};
 ghost use Rattle.iox_lanes_laws.specs.Recorded.{AreAsHeld, ArePast};
-ghost use Rattle.iox_lanes_laws.specs.Numbered.{found_first, found_in, found_messages, found_of, number_of_placed, with_number};
+ghost use Rattle.iox_lanes_laws.specs.Numbered.{found_first, found_in, found_messages, found_of, with_number};
 
 use crate::messages::message::Message;
-use crate::messages::order::{Order, number_of};
+use crate::messages::order::Order;
 use iox_lanes_machine::{LaneMachine, Positions};
 use iox_lanes_parties::publisher::SlotBook;
 use iox_lanes_parties::{Call, Entry, FinishedCall, Move, Party, PublisherLane, values_in};
@@ -245,17 +245,10 @@ impl Lanes {
         self.messages.get(number)
     }
 
-    /// The number of the message that an entry of a connection's order puts or takes: the last one that was sent in its slot by its
-    /// moment. None for a look, for a take that found nothing, for a message that isn't kept, and for an entry from before the lanes
-    /// were handed in.
-    pub fn number(&self, connection: u64, at: usize) -> Option<usize>
-        ensures { result ≡ number_of_placed self.now.messages (slice_get (get_or self.now.lanes.orders connection []) at) }
-    {
-        let placed = self.lanes.order(connection).get(at)?;
-        number_of(&self.messages, *placed)
-    }
-
-    /// The puts, takes and looks of a connection, in their order, each with the number of its message, as `number` tells it.
+    /// The puts, takes and looks of a connection, in their order. Each has the number of the message that it puts or takes, which is the
+    /// last one that was sent in its slot by its moment. None for a look, for a take that found nothing, for a message that isn't kept,
+    /// and for an entry from before the lanes were handed in.
+    /// Example: `lanes.order(0).get(3)`
     pub fn order(&self, connection: u64) -> Order<'_>
         ensures { result ≡ map (with_number self.now.messages) (get_or self.now.lanes.orders connection []) }
     {
@@ -340,7 +333,7 @@ impl Lanes {
     }
 
     /// The lanes alone; the messages are gone.
-    pub fn into_lanes(self) -> LaneMachine
+    pub fn into_machine(self) -> LaneMachine
         ensures { result ≡ self.lanes }
     {
         let Lanes { lanes, .. } = self;

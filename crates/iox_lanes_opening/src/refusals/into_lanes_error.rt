@@ -21,7 +21,7 @@ pub enum IntoLanesError {
     Retrying,
     /// A loan or a sample is out, a connection whose publisher left still stands, or a port that left isn't gone.
     Lingering,
-    /// The messages are slices, or some publisher has room for another number of values than one.
+    /// Some publisher has room for another number of values than one, or a message of it has another.
     HasSlices,
     /// The ports are such as no calls leave: one is listed at another place than its own, or a publisher isn't made for what is agreed,
     /// or its messages don't keep to that, or two connections of a subscriber come from one publisher.

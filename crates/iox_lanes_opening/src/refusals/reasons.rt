@@ -20,8 +20,8 @@ use iox_domain_values::AllocationStrategy;
 /// others as it is, a listed publisher and a listed subscriber share no connection, or a listed publisher has one for a place that lists
 /// nobody. `NotStatic`: the room of some publisher may grow. `HasHandlers`: an object that the caller made decides for some port.
 /// `Retrying`: a full mailbox doesn't drop its oldest message, and a send of some publisher would wait there. `Lingering`: a loan or a
-/// sample is out, a connection whose publisher left still stands, or a port that left isn't gone. `HasSlices`: the messages are slices, or
-/// some publisher deals in another number of values than one.
+/// sample is out, a connection whose publisher left still stands, or a port that left isn't gone. `HasSlices`: some publisher
+/// deals in another number of values than one.
 /// `Unsound`: the ports are such as no calls leave. `SequenceTooLarge`: the last number that some publisher gave a message is 2^63 or more.
 /// `OutOfMemory` is not told here.
 pub fn refusal<T: Copy, U: Copy>(domain: &Domain<T, U>) -> Option<IntoLanesError>

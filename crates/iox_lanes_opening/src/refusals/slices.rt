@@ -3,30 +3,19 @@ ghost use Rattle.std.specs.Prelude.{◌≡◌, ◌<◌, true, length, slice_get}
 ghost use Rattle.std.specs.List.{list_any};
 ghost use Rattle.iox_domain.specs.DomainSlots.Uses.{is_there};
 ghost use Rattle.iox_domain.specs.DomainPorts.Ports.{connection_of};
-ghost use Rattle.iox_lanes_opening.specs.Slices.{is_dynamic, is_slice, is_slice_in, slice_waits, keeps_slice, deals_in_slices, has_slices};
+ghost use Rattle.iox_lanes_opening.specs.Slices.{is_slice, is_slice_in, slice_waits, keeps_slice, deals_in_slices, has_slices};
 
 use crate::refusals::each_asked::{Question, has_such};
-use iox_describe_base::TypeVariant;
 use iox_domain::Domain;
 use iox_domain_ports::PublisherPort;
 use iox_domain_ports::reading::waiting_at;
 
-/// Whether the messages of a domain are slices, or some publisher deals in slices: an element of it has another number of values than one,
-/// its slots have room for another, or a message that waits or is kept has another.
+/// Whether some publisher deals in slices: an element of it has another number of values than one, its slots have room for another, or a
+/// message that waits or is kept has another.
 pub fn has_slices<T: Copy, U: Copy>(domain: &Domain<T, U>) -> bool
     ensures { result ≡ has_slices domain.now }
 {
-    is_dynamic(domain.agreed.types.payload.variant())
-        || has_such(&domain.state.ports, Question::Slices)
-}
-
-fn is_dynamic(variant: TypeVariant) -> bool
-    ensures { result ≡ is_dynamic variant }
-{
-    match variant {
-        TypeVariant::Dynamic => true,
-        TypeVariant::FixedSize => false,
-    }
+    has_such(&domain.state.ports, Question::Slices)
 }
 
 /// Whether a publisher deals in slices.

@@ -19,7 +19,7 @@ returns-clause-sized g c =
     let publishers : length c.in_ok-publishers.publishers.items ≡ c.len.result = search rules in
     let subscribers : length c.in_ok-subscribers.subscribers.items ≡ c.len-2.result = search rules in
     rw (publishers, subscribers) (built _ _ _ _ _ c.sizes_of.result _ c.into_lanes.result c.sizes_of.ensures.agreed
-    c.into_lanes.ensures.found (search rules))
+    c.into_lanes.ensures.found.was (search rules))
 
 pub returns-clause-exact : goal.returns-clause-exact
 returns-clause-exact g c =
@@ -66,7 +66,7 @@ returns-clause-built g c =
     (subst (λ n. AreAgreed c.args.domain.now.state.ports.sizes c.len.result n g.T.Words.WORDS
     (middle_count c.args.domain.now.state.ports.sizes.sequence_numbers g.U.Words.WORDS) c.sizes_of.result)
     subscriber_count c.sizes_of.ensures.agreed))
-    c.into_lanes.ensures.found (search rules)
+    c.into_lanes.ensures.found.was (search rules)
     (subst (λ p. HaveSlots c.args.domain.now.state.ports.publishers p c.sizes_of.result.slots) counted c.sizes_of.ensures.room)
     c.in_ok-lanes.ensures.small
     (subst (λ s. KeepAlone c.args.domain.now.state.ports c.in_ok-publishers.publishers.items s) subscribers

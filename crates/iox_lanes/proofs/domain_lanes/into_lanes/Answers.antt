@@ -4,7 +4,7 @@ use Rattle.iox_lanes_laws.specs.Recorded.{AreAsHeld, ArePast}
 use Rattle.iox_lanes_opening.specs.Middles.{middle_count}
 use Rattle.iox_lanes.specs.Exact.{sizes_for}
 use Rattle.iox_lanes.specs.Failing.{FailAsAsked}
-use Rattle.iox_lanes.specs.Finding.{WasFound}
+use Rattle.iox_lanes.specs.Finding.{NothingCameBack}
 use Rattle.iox_lanes.specs.Holding.{LanesHold}
 use Rattle.iox_lanes.specs.Joined.{IsJoined}
 use Rattle.iox_lanes.specs.Spelling.{spelling_of}
@@ -23,8 +23,8 @@ returns-in-Ok-clause-fails g c
 
 pub returns-in-Ok-clause-exact : goal.returns-in-Ok-clause-exact
 returns-in-Ok-clause-exact g c =
-    subst (λ made. WasFound (sizes_for g.T.Words.WORDS (middle_count c.args.domain.state.ports.sizes.sequence_numbers g.U.Words.WORDS)
-    c.args.domain.state.ports made.publishers.items
+    subst (λ made. NothingCameBack (sizes_for g.T.Words.WORDS
+    (middle_count c.args.domain.state.ports.sizes.sequence_numbers g.U.Words.WORDS) c.args.domain.state.ports made.publishers.items
     (length made.subscribers.items)) made.lanes.lanes) (sym c.with.ensures) c.in-Ok.ensures.exact
 
 pub returns-in-Ok-clause-few : goal.returns-in-Ok-clause-few

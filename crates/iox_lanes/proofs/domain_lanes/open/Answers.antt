@@ -5,7 +5,7 @@ use Rattle.iox_lanes_machine.specs.WholeReads.{CameTo}
 use Rattle.iox_lanes_opening.specs.Middles.{middle_count}
 use Rattle.iox_lanes.specs.Exact.{sizes_for}
 use Rattle.iox_lanes.specs.Failing.{FailAsAsked}
-use Rattle.iox_lanes.specs.Finding.{WasFound}
+use Rattle.iox_lanes.specs.Finding.{NothingCameBack}
 use Rattle.iox_lanes.specs.Holding.{LanesHold}
 use Rattle.iox_lanes.specs.Joined.{IsJoined}
 use Rattle.iox_lanes.specs.Sized.{AreSized}
@@ -63,7 +63,7 @@ returns-clause-sized g c =
 
 pub returns-clause-exact : goal.returns-clause-exact
 returns-clause-exact g c =
-    subst (λ made. WasFound (sizes_for g.T.Words.WORDS (middle_count c.args.domain.now.state.ports.sizes.sequence_numbers
+    subst (λ made. NothingCameBack (sizes_for g.T.Words.WORDS (middle_count c.args.domain.now.state.ports.sizes.sequence_numbers
     g.U.Words.WORDS) c.args.domain.now.state.ports made.publishers.items
     (length made.subscribers.items)) made.lanes.lanes) (sym c.in_ok-kept.ensures.made) c.in_ok-opened.ensures.exact
 
