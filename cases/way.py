@@ -37,6 +37,21 @@ NOT_PASSED = {
     "UniqueIndexSet::settle": "self.borrowed_indices",
     "append_reply": "append_sample append_read append_refusal",
 }
+# Each call on the way that looks a thing up by its number, id or place: the number of the publisher, the domain, who decides for the port,
+# the port, and by their places the others that it is tied to and the connection.
+LOOK_UPS = {
+    "Made::lender": ["self.publishers.get"],
+    "calls::put": ["home.domain_mut"],
+    "Services::domain_mut": ["self.presences.domain_mut"],
+    "Presences::domain_mut": ["self.get_mut", "presence.domain_mut"],
+    "Presences::get_mut": ["self.entries.get_mut"],
+    "DomainState::put": ["self.publisher_handlers.get"],
+    "Kept::get": ["self.values.get"],
+    "ServicePorts::put": ["self.publishers.get_mut"],
+    "Publishers::get_mut": ["self.ports.get_mut"],
+    "PublisherPort::meet": ["self.ties.get"],
+    "SlotUses::link": ["self.links.get"],
+}
 # Calls of these names on the way are the standard library's, though a function of ours has the name, too.
 OF_OTHERS = ".as_bytes .as_ref .first .is_empty .is_some .kind .push_reserved .reserve .truncate".split()
 
@@ -144,6 +159,15 @@ def no_function_of_ours_is_left_out_of_the_way_of_a_line():
         left = {as_written(it) for it in made if any(may_call(name, it, *other) for other in of_ours().items())}
         expect((name, sorted(left - {*OF_OTHERS})), (name, sorted(NOT_PASSED.get(name, "").split())))
     expect(sorted({*NOT_PASSED} - {*files}), [])
+
+
+@case
+def a_line_looks_its_number_its_domain_and_its_port_up_once():
+    made = {}
+    for name, _, file, _ in rows():
+        body = re.sub(r"\s*\n\s*", "", body_of(name, file))
+        made[name] = [it[1] for it in re.finditer(r"([\w.:?]+\.(?:domain|domain_mut|get|get_mut))\(", body)]
+    expect({name: looked for name, looked in made.items() if looked}, LOOK_UPS)
 
 
 @case
