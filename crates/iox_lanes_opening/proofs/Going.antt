@@ -1,6 +1,6 @@
 -- Whether something is so of some of a list, item by item.
 use Rattle.std.proofs.Common.{rules, arith, ℕ, zero, suc, ◌≡◌, ◌+◌, ◌<◌, ◌≤◌, ◌||◌, ◌∷◌, [], Bool, true, false, nat_lt, List, length}
-use Rattle.std.proofs.Common.{get_or, Option, None, Some, option_map, slice_get, map, refl, ap, sym, ◌∙◌}
+use Rattle.std.proofs.Common.{get_or, Option, None, Some, slice_get, refl, ap, sym, ◌∙◌}
 use Rattle.std.specs.List.{list_any}
 
 pub or_true : (b : Bool) → (b || true) ≡ true

@@ -1,6 +1,6 @@
 -- What holds of each port that a list lists, place by place.
 use Rattle.std.proofs.Common.{rules, arith, ℕ, zero, suc, ◌≡◌, ◌+◌, ◌-◌, ◌<◌, ◌≤◌, ◌&&◌, ◌++◌, ◌∷◌, [], Bool, true, false, nat_lt, List}
-use Rattle.std.proofs.Common.{length, get_or, replicate, Option, None, Some, refl, ap, sym, ◌∙◌}
+use Rattle.std.proofs.Common.{length, get_or, replicate, Option, None, refl, ap, sym, ◌∙◌}
 use Rattle.iox_domain.specs.Container.CountedPlaces.{padded}
 use Rattle.iox_domain.specs.Container.declared.container.Member.{Member}
 use Rattle.iox_lanes_opening.specs.Listed.{holds_at, of_each_listed}

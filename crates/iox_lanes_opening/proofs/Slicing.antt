@@ -1,5 +1,5 @@
 -- The number of values of a message, found by its slot.
-use Rattle.std.proofs.Common.{rules, arith, ℕ, ◌≡◌, ◌+◌, ◌==◌, Bool, true, false, not, List, length, Option, None, Some, option_map}
+use Rattle.std.proofs.Common.{ℕ, ◌≡◌, ◌+◌, ◌==◌, Bool, true, false, not, List, length, Option, None, Some, option_map}
 use Rattle.std.proofs.Common.{slice_get, map, refl, ap, sym, ◌∙◌}
 use Rattle.std.specs.List.{list_any}
 use Rattle.std.proofs.lemmas.Option.{slice_get-map}

@@ -1,5 +1,5 @@
 -- What holds of each port that a list lists.
-use Rattle.std.specs.Prelude.{ℕ, ◌+◌, ◌==◌, ◌&&◌, Bool, true, false, List, [], ◌∷◌, get_or, Option, None, Some}
+use Rattle.std.specs.Prelude.{ℕ, ◌+◌, ◌==◌, ◌&&◌, Bool, true, false, List, [], ◌∷◌, Option, None, Some}
 use Rattle.iox_domain.specs.Container.declared.container.Member.{Member}
 
 -- whether it holds of a place and of who is listed there; of a place that lists nobody everything does

@@ -1,5 +1,5 @@
 -- What isn't one value.
-use Rattle.std.specs.Prelude.{◌==◌, ◌||◌, Bool, true, false, not, length, Option, None, Some}
+use Rattle.std.specs.Prelude.{◌==◌, ◌||◌, Bool, false, not, length, Option, None, Some}
 use Rattle.std.specs.List.{list_any}
 use Rattle.iox_domain.specs.DomainPorts.Messages.{Message}
 use Rattle.iox_domain.specs.DomainSlots.Uses.{Connection}

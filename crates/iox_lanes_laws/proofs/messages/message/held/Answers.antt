@@ -1,4 +1,4 @@
-use Rattle.std.proofs.Common.{ℕ, ◌≡◌, ◌∙◌, ap, arith}
+use Rattle.std.proofs.Common.{◌≡◌, ◌∙◌, ap, arith}
 use Rattle.iox_lanes_machine.specs.LanesBase.Subscribing.{word_at}
 use Rattle.iox_lanes_machine.specs.LanesBase.Table.{TableWords, held_by}
 use Rattle.iox_lanes_machine.specs.LanesBase.declared.words.sizes.TableSizes.{TableSizes}

@@ -1,4 +1,4 @@
-use Rattle.std.proofs.Common.{sym, ap, ◌∙◌}
+use Rattle.std.proofs.Common.{sym, ◌∙◌}
 use Rattle.iox_lanes_opening.specs.Deciding.{retries}
 use Rattle.iox_lanes_opening.proofs.Going.{any_here, any_later, any_over}
 use Rattle.iox_lanes_opening.proofs.refusals.deciding.has_retrying.Goals as goal

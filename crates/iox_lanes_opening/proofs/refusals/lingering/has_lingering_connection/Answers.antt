@@ -1,7 +1,7 @@
 use Rattle.std.proofs.Common.{refl, arith, sym, ◌∙◌}
 use Rattle.iox_domain.specs.DomainSlots.Uses.{nobody}
 use Rattle.iox_lanes_opening.specs.Lingering.{connection_lingers}
-use Rattle.iox_lanes_opening.proofs.Going.{some_is, none_is, none_more, none_reached}
+use Rattle.iox_lanes_opening.proofs.Going.{some_is, none_is, none_more}
 use Rattle.iox_lanes_opening.proofs.refusals.lingering.has_lingering_connection.Goals as goal
 
 pub returns-then-connection_lingers : goal.returns-then-connection_lingers

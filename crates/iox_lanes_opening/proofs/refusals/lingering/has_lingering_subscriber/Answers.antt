@@ -1,4 +1,4 @@
-use Rattle.std.proofs.Common.{sym, ap, ◌∙◌}
+use Rattle.std.proofs.Common.{sym, ◌∙◌}
 use Rattle.iox_lanes_opening.specs.Lingering.{subscriber_lingers}
 use Rattle.iox_lanes_opening.proofs.Going.{any_here, any_later, any_over}
 use Rattle.iox_lanes_opening.proofs.refusals.lingering.has_lingering_subscriber.Goals as goal

@@ -1,7 +1,7 @@
 use Rattle.std.proofs.Common.{refl, arith, sym, ◌∙◌}
 use Rattle.std.proofs.Common.{None}
 use Rattle.iox_lanes_opening.specs.Lingering.{leads_nowhere}
-use Rattle.iox_lanes_opening.proofs.Going.{some_is, none_is, none_more, none_reached}
+use Rattle.iox_lanes_opening.proofs.Going.{some_is, none_more, none_reached}
 use Rattle.iox_lanes_opening.proofs.refusals.lingering.leads_nowhere.Goals as goal
 
 pub returns-then-leads_nowhere_by : goal.returns-then-leads_nowhere_by

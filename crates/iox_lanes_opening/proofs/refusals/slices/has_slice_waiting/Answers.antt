@@ -1,7 +1,7 @@
 use Rattle.std.proofs.Common.{refl, arith, sym, ◌∙◌}
 use Rattle.iox_domain.specs.DomainSlots.Uses.{nobody}
 use Rattle.iox_lanes_opening.specs.Slices.{slice_waits}
-use Rattle.iox_lanes_opening.proofs.Going.{some_is, none_is, none_more, none_reached}
+use Rattle.iox_lanes_opening.proofs.Going.{some_is, none_is, none_more}
 use Rattle.iox_lanes_opening.proofs.refusals.slices.has_slice_waiting.Goals as goal
 
 pub returns-then-slice_waits_at : goal.returns-then-slice_waits_at

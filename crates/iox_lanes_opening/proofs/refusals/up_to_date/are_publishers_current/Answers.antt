@@ -1,4 +1,4 @@
-use Rattle.std.proofs.Common.{arith, sym, ◌∙◌, length}
+use Rattle.std.proofs.Common.{sym, ◌∙◌, length}
 use Rattle.iox_lanes_opening.specs.UpToDate.{is_current_publisher}
 use Rattle.iox_lanes_opening.proofs.Listing.{not_each, each_of_all, hold_more}
 use Rattle.iox_lanes_opening.proofs.refusals.up_to_date.are_publishers_current.Goals as goal
