@@ -1,4 +1,5 @@
 use Rattle.std.proofs.Common.{ℕ, ◌≡◌, ◌+◌, ◌<◌, refl, subst, arith, ◌∙◌}
+use Rattle.std.proofs.lemmas.Grind.{common_steps}
 use Rattle.iox_lanes_machine.specs.LanesBase.Subscribing.{read_at}
 use Rattle.iox_lanes_machine.specs.LanesBase.declared.calls.subscriber.SubscriberCall.{SubscriberCall}
 use Rattle.iox_lanes_machine.specs.LanesBase.declared.calls.subscriber.SubscriberCall.TheVariants as subscribing
@@ -96,3 +97,9 @@ returns-clause-strode g c =
     (subscriber_after c.access_ahead-value.result
     (subscriber_called (subscribing.Reading c.args.sample.slot last c.args.sample.extent) c.loop-word-2.lane)) c.go_on_from.ensures
     (c.access_ahead-value.ensures.strode tt (port_of c.args.seat.now.me) c.args.lane.now 0 reads)
+
+pub returns-clause-table : goal.returns-clause-table
+returns-clause-table g c = grind (arith, common_steps)
+
+pub returns-clause-call : goal.returns-clause-call
+returns-clause-call g c = grind (arith, common_steps)

@@ -1,5 +1,6 @@
 use Rattle.std.proofs.Common.{arith, sym, ap, ◌∙◌, ◌≡◌, length, Some, None}
 use Rattle.std.proofs.lemmas.List.{length-set}
+use Rattle.std.proofs.lemmas.Grind.{common_steps}
 use Rattle.iox_container.specs.CountedPlaces.{lowest_empty}
 use Rattle.iox_container.proofs.Locked.{count-lowest}
 use Rattle.iox_container.proofs.Padded.{lowest-within, lowest-next, filled-padded, next-padded}
@@ -39,3 +40,12 @@ returns-clause-some g c =
     let at : c.len-index.result ≡ length c.self.inside.cells.items = omega (arith, c.len-index.ensures, c.self.inside.cells.ok.0) in
     rw (← c.self.view_is, at, c.push_reserved.ensures.items)
     (sym (next-padded c.self.inside.count c.self.inside.cells.items c.args.content (omega (arith, c.self.invariant.0))))
+
+pub returns-then-index-self-clause-answer : goal.returns-then-index-self-clause-answer
+returns-then-index-self-clause-answer g c = grind (arith, common_steps)
+
+pub returns-then-index-self-clause-none : goal.returns-then-index-self-clause-none
+returns-then-index-self-clause-none g c = grind (arith, common_steps)
+
+pub invariant_of-self-2 : goal.invariant_of-self-2
+invariant_of-self-2 g c = grind (arith, common_steps)

@@ -1,6 +1,7 @@
 use Rattle.std.proofs.Common.{rules, arith, ap, ◌≡◌, ◌∙◌, ◌+◌, length, [], ◌∷◌, ◌++◌}
 use Rattle.std.proofs.lemmas.List.{length-append}
 use Rattle.std.proofs.lemmas.List.Elements.{All-cons, All-nil, All-same}
+use Rattle.std.proofs.lemmas.Grind.{common_steps}
 use Rattle.iox_container.specs.StringBytes.{IsStringByte, IsStringBytes}
 use Rattle.iox_describe_base.proofs.ArrayNames.{digits_are_text, digits_are_few}
 use Rattle.iox_describe_base.proofs.zero_copy_send.arrays.array_name.Goals as goal
@@ -24,3 +25,6 @@ unwrap-requires-4 c =
       omega (arith, long, ap length digits, digits_are_few c.args.count c.ranges.count.fits, c.requires.1),
       All-same IsStringByte _ _ digits (digits_are_text c.args.count c.ranges.count.fits),
     )
+
+pub returns : goal.returns
+returns c = grind (arith, common_steps)
