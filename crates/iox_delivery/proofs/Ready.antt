@@ -5,7 +5,7 @@ use Rattle.iox_domain.specs.DomainValues.declared.backpressure.BackpressureDecis
 use Rattle.iox_domain.specs.DomainValues.declared.backpressure.BackpressureInfo.{BackpressureInfo}
 use Rattle.iox_domain.specs.DomainValues.declared.degradation.DegradationAction.{DegradationAction}
 use Rattle.iox_domain.specs.DomainValues.declared.degradation.DegradationInfo.{DegradationInfo}
-use Rattle.iox_domain.specs.DomainPorts.Messages.{Loan, Message}
+use Rattle.iox_domain.specs.DomainPorts.Messages.{Message}
 use Rattle.iox_domain.specs.DomainPorts.MessagesSending.{is_written_loan}
 use Rattle.iox_domain.proofs.DomainPorts.Finding.{at_none}
 use Rattle.iox_domain.specs.DomainPorts.Ports.{connection_of}

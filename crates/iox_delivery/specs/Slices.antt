@@ -1,5 +1,5 @@
 -- What the calls of ports of slices do to their home, where they differ from those of single values.
-use Rattle.std.specs.Prelude.{ℕ, ◌+◌, ◌≡◌, length, replicate, List, [], ◌∷◌, Option, None, Some, Result, Ok, Err}
+use Rattle.std.specs.Prelude.{ℕ, ◌+◌, ◌≡◌, length, replicate, List, [], ◌∷◌, Option, Some, Result, Ok, Err}
 use Rattle.iox_domain.specs.DomainValues.declared.backpressure.BackpressureDecision.{BackpressureDecision}
 use Rattle.iox_domain.specs.DomainValues.declared.backpressure.BackpressureInfo.{BackpressureInfo}
 use Rattle.iox_domain.specs.DomainValues.declared.degradation.DegradationAction.{DegradationAction}

@@ -4,7 +4,7 @@ use Rattle.std.proofs.Common.{take, Option, None, Some, Result, Ok, Err, if◌th
 use Rattle.std.proofs.lemmas.List.{length-append}
 use Rattle.std.specs.declared.alloc.AllocError.{AllocError}
 use Rattle.iox_domain.specs.Container.declared.container.Member.{Member}
-use Rattle.iox_domain.specs.PortsPublishing.{is_free, UpdatesOne, SendsOne, RetriesOne, GivesUpOne}
+use Rattle.iox_domain.specs.PortsPublishing.{is_free, UpdatesOne, SendsOne}
 use Rattle.iox_domain.specs.PortsPublishing as publishing
 use Rattle.iox_domain.specs.Rolls.{RollState}
 use Rattle.iox_domain.specs.DomainPorts.Leaving.{parted_at, parted_from, departed}

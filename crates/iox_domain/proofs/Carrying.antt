@@ -34,7 +34,7 @@ use Rattle.iox_domain.specs.DomainPorts.declared.publisher_port.PublisherPort.{P
 use Rattle.iox_domain.specs.DomainPorts.declared.subscriber_entry.SubscriberEntry.{SubscriberEntry}
 use Rattle.iox_domain.specs.Lending.{LoansOne}
 use Rattle.iox_domain.specs.Lending as lending
-use Rattle.iox_domain.specs.PortsPublishing.{is_blocked, is_free, UpdatesOne, SendsOne, RetriesOne, GivesUpOne}
+use Rattle.iox_domain.specs.PortsPublishing.{is_blocked, RetriesOne, GivesUpOne}
 use Rattle.iox_domain.specs.SizeLaws.{made_for}
 use Rattle.iox_domain.specs.PortsPublishing as publishing
 use Rattle.std.proofs.lemmas.List.{length-drop}

@@ -32,7 +32,7 @@ use Rattle.iox_domain.specs.Ports.{AtPublisher, AtSubscriber, with_publisher, wi
 use Rattle.iox_domain.specs.PortsPublishing.{is_free}
 use Rattle.iox_domain.specs.PortsPublishing as publishing
 use Rattle.iox_domain.specs.Subscribers.{subscriber_of, with_subscriber, subscriber_added, subscriber_removed}
-use Rattle.iox_domain.specs.PortsSubscribing.{HasSamplesOne, ReceivesOne, let_go, let_go_at, ReleasesAt, ReleasesOf, Releases}
+use Rattle.iox_domain.specs.PortsSubscribing.{HasSamplesOne, ReceivesOne, let_go_at, ReleasesAt, ReleasesOf}
 use Rattle.iox_domain.specs.PortsSubscribing as subscribing
 use Rattle.iox_domain.specs.declared.ports.making.PublisherConfig.{PublisherConfig}
 use Rattle.iox_domain.specs.declared.ports.service_ports.ServicePorts.{ServicePorts}

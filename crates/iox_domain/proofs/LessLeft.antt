@@ -34,7 +34,7 @@ use Rattle.iox_domain.specs.DomainPorts.Writing.{changed_if, given_up}
 use Rattle.iox_domain.specs.DomainPorts.declared.publisher_port.PublisherPort.{PublisherPort}
 use Rattle.iox_domain.specs.DomainPorts.Arriving.{new_subscriber}
 use Rattle.iox_domain.specs.DomainPorts.Publishers as publishers
-use Rattle.iox_domain.specs.DomainPorts.Publishers.{port_of, with_port, changed, settled, connection_at_port, connection_in}
+use Rattle.iox_domain.specs.DomainPorts.Publishers.{port_of, changed, settled, connection_at_port, connection_in}
 use Rattle.iox_domain.specs.DomainPorts.Reading.{place_of, given_back_at}
 use Rattle.iox_domain.specs.DomainPorts.Receiving.{left_all}
 use Rattle.iox_domain.specs.DomainPorts.declared.attached.Taken.{Taken}

@@ -25,7 +25,7 @@ use Rattle.iox_domain.specs.DomainPorts.declared.publisher_port.PublisherPort.{P
 use Rattle.iox_domain.specs.DomainPorts.declared.subscriber_entry.SubscriberEntry.{SubscriberEntry}
 use Rattle.iox_domain.specs.DomainPorts.Reading.{taken_at}
 use Rattle.iox_domain.specs.Lending.{LoansOne}
-use Rattle.iox_domain.specs.PortsPublishing.{is_blocked, is_free, UpdatesOne, SendsOne, RetriesOne, GivesUpOne}
+use Rattle.iox_domain.specs.PortsPublishing.{is_free, UpdatesOne, SendsOne, RetriesOne, GivesUpOne}
 use Rattle.iox_domain.specs.PortsPublishing as publishing
 use Rattle.iox_domain.specs.Rolls.{RollState}
 use Rattle.std.proofs.lemmas.List.{length-drop}

@@ -25,7 +25,7 @@ use Rattle.iox_domain.specs.DomainPorts.declared.reader.Reader.{Reader}
 use Rattle.iox_domain.specs.DomainPorts.declared.subscriber_entry.SubscriberEntry.{SubscriberEntry}
 use Rattle.iox_domain.specs.DomainPorts.Publishers as publishers
 use Rattle.iox_domain.specs.DomainPorts.Publishers.{port_of, with_port, changed, changed_at_port, is_over_in, removed, ended_if_left}
-use Rattle.iox_domain.specs.DomainPorts.Publishers.{released, AttachesAtPort, AttachesTo}
+use Rattle.iox_domain.specs.DomainPorts.Publishers.{released, AttachesAtPort}
 use Rattle.iox_domain.specs.DomainPorts.Reading.{taken_at, given_back_at}
 use Rattle.iox_domain.specs.PortLawsLaws.{IsListApart, IsTiedWell, IsWellEntry}
 use Rattle.iox_domain.specs.PortsPublishing.{is_free, is_blocked, UpdatesOne, SendsOne}

@@ -1,7 +1,7 @@
 -- How much a service allows to its ports.
 use Rattle.std.specs.Prelude.{ℕ, ◌+◌, ◌*◌, ◌^◌, max, nat_le, nat_lt, Option, None, Some, Result, Ok, Err, if◌then◌else◌}
 use Rattle.iox_domain_values.specs.declared.create_error.SubscriberCreateError.{SubscriberCreateError}
-use Rattle.iox_domain_values.specs.declared.create_error.SubscriberCreateError.TheVariants.{BufferSizeExceedsMaxSupportedBufferSizeOfService}
+use Rattle.iox_domain_values.specs.declared.create_error.SubscriberCreateError.TheVariants as refusal
 use Rattle.iox_domain_values.specs.declared.service_sizes.ServiceSizes.{ServiceSizes}
 
 -- how many messages of a publisher can be in use at once: what each subscriber has waiting and holds, the history, and the loans
@@ -18,4 +18,4 @@ within number = if nat_lt number (2 ^ 32) then Some number else None
 abbrev pub buffer_of : Option ℕ → ServiceSizes → Result ℕ SubscriberCreateError
 buffer_of None sizes = Ok sizes.subscriber_max_buffer_size
 buffer_of (Some named) sizes = if nat_le (max named 1) sizes.subscriber_max_buffer_size then Ok (max named 1) else Err
-    BufferSizeExceedsMaxSupportedBufferSizeOfService
+    refusal.BufferSizeExceedsMaxSupportedBufferSizeOfService

@@ -10,7 +10,8 @@
 //! | `port_owner` | whose port it is, and which one |
 //! | `sequences` | the number before the first, where a service numbers its messages |
 //! | `service_sizes` | how much a service allows to its ports, and how many slots a publisher needs there |
-//! | `connection_failure`, `port_error`, `create_error` | why a connection fails, a call of a port is refused, a port or a domain isn't made |
+//! | `connection_failure` | why a connection fails |
+//! | `port_error`, `create_error` | why a call of a port is refused; why a port or a domain isn't made |
 //! | `laws` | what the definitions come to, in other words |
 //! | `backpressure_handler`, `degradation_handler`, `samples_override` | objects that are handed in, or one fixed answer |
 //! | `handlers` | who decides for a publisher: its strategy and its handlers |

@@ -1,6 +1,5 @@
 -- The laws of the services of a hub.
 use Rattle.std.proofs.Common.{ℕ, ◌≡◌, inl, inr, true, false, None, Some, Result, Ok, Err, refl, sym, ap, subst, ◌∙◌}
-use Rattle.std.specs.Option.{option_map}
 use Rattle.std.specs.Prelude.{is_some}
 use Rattle.iox_domain.specs.DescribeSettings.declared.static_config.Settings.{Settings}
 use Rattle.iox_domain.proofs.Keeping.{kept_is_there}

@@ -15,11 +15,15 @@ use Rattle.iox_lanes_machine.specs.Kept.{IsWithin}
 use Rattle.iox_lanes_machine.specs.Links.{LinkState}
 use Rattle.iox_lanes_machine.specs.World.{World}
 use Rattle.iox_lanes_machine.proofs.Ends.{some_is}
+use Rattle.iox_lanes_machine.proofs.RestingRings.{cells_fit, some_cells}
 
 -- a connection that there is has its words
 pub link_there : (m : World) (connection : ℕ) (link : LinkState) → IsWithin m → slice_get m.links connection ≡ Some link
     → connection < m.table.sizes.connections
 link_there m connection link w found = (w.links connection link found).connection_is
+
+-- where the message of a position lies
+pub ruleset message_words = (cells_fit, some_cells, link_there)
 
 -- a slot that may be found to wait, and where
 pub record MayWait (m : World) (place slot : ℕ) (lane : PublisherLaneState) : Type 0 where

@@ -19,7 +19,7 @@ use iox_queues_steps::Word;
 
 impl State {
     // What the cell of a position of a connection's ring of messages holds.
-    #[tactic(auto, using(crate::proofs::RestingRings::cells_fit, crate::proofs::RestingRings::some_cells, crate::proofs::Findings::link_there))]
+    #[tactic(auto, using(crate::proofs::Findings::message_words))]
     fn message_at(&self, connection: u64, position: u64) -> u64
         requires within { IsWithin (world_of self.now) }
         requires there { connection < length self.now.links.items }

@@ -1,4 +1,4 @@
-use Rattle.std.proofs.Common.{◌≡◌, ◌∙◌, sym, ap, refl}
+use Rattle.std.proofs.Common.{◌∙◌, sym, ap, refl}
 use Rattle.std.specs.Option.{option_copied_mut}
 use Rattle.iox_domain.proofs.Homely.{same_stays}
 use Rattle.iox_delivery.proofs.lending.value_mut.Goals as goal
