@@ -121,7 +121,7 @@ module _ {T U B D : Type 0} where
 
   -- a loan that may not be sent isn't
   pub sends_none : (may_degrade : DegradationInfo → DegradationAction → Type 0) (may : BackpressureInfo → BackpressureDecision → Type 0)
-      (who : PortId) (slot : ℕ) (hub : Hub T U B D) → may_send who slot hub ≡ false
+      (who : PortId) (slot : ℕ) (hub : Hub T U B D) → may_send hub_ports who slot hub ≡ false
       → AtDomain (λ (after : ServicePorts T U). with_hub_ports who.domain after hub) (SendsBy may_degrade may who.number slot)
       (hub_ports who.domain hub) hub None hub
   sends_none may_degrade may who slot hub never = sends_none_at may_degrade may who slot hub (hub_ports who.domain hub) refl never

@@ -160,7 +160,7 @@ SendsOrBack degrades decides sample old answer new =
     MatchResult answer
     (λ sent. SendsSample hub_ports with_hub_ports (publisher_may_degrade degrades) (publisher_may_decide decides) sample.port sample.slot
     old sent new)
-    (λ back. (back ≡ sample) × (new ≡ old) × (may_send sample.port sample.slot old ≡ false))
+    (λ back. (back ≡ sample) × (new ≡ old) × (may_send hub_ports sample.port sample.slot old ≡ false))
 
 module _ {T U : Type 0} (calls : Calls T) (number : Number) where
   pub sends_so : {S : Type 0} (answer : Result (Result (Sent T U) SendError) S)

@@ -6,6 +6,8 @@ use Rattle.iox_delivery.specs.DomainPorts.Messages.{Loan}
 use Rattle.iox_delivery.specs.DomainPorts.MessagesSending.{is_written_loan}
 use Rattle.iox_delivery.specs.DomainPorts.Writing.{values_at}
 use Rattle.iox_delivery.specs.declared.port_id.PortId.{PortId}
+use Rattle.iox_domain.specs.declared.domain_id.DomainId.{DomainId}
+use Rattle.iox_domain.specs.declared.ports.service_ports.ServicePorts.{ServicePorts}
 use Rattle.iox_hub_base.specs.AsHome.{hub_ports}
 use Rattle.std.specs.Global.{Vec}
 use Rattle.std.specs.List.{AllByRecursion}
@@ -136,9 +138,9 @@ abbrev pub is_written_with : {T U : Type 0} → Option (Loan T U) → ℕ → Bo
 is_written_with loan count = is_written_loan loan && (length (unwrap_or (values_at loan) []) == count)
 
 -- whether a loan may be sent: it is written, and no send of its publisher waits
-abbrev pub may_send : {T U B D : Type 0} → PortId → ℕ → Hub T U B D → Bool
-may_send port slot hub = is_written_loan (loan_found port.number slot (hub_ports port.domain hub))
-    && not (publisher_blocked port.number (hub_ports port.domain hub))
+abbrev pub may_send : {T U H : Type 0} → (DomainId → H → Option (ServicePorts T U)) → PortId → ℕ → H → Bool
+may_send ports_of port slot home = is_written_loan (loan_found port.number slot (ports_of port.domain home))
+    && not (publisher_blocked port.number (ports_of port.domain home))
 
 -- The answer to a node that asked for a service: the number of its factory, or why there is none.
 abbrev pub told_opened : {E : Type 0} → (E → Refusal) → ℕ → Result MadeFactory E → Result ℕ Refusal

@@ -7,10 +7,9 @@ ghost use Rattle.iox_delivery.specs.Holding.{publisher_blocked, subscriber_stand
 ghost use Rattle.iox_delivery.specs.Publishing.{FollowsSubscribers, RetriesSend};
 ghost use Rattle.iox_delivery.specs.Slices.{SendsSlice};
 ghost use Rattle.iox_delivery.specs.Subscribing.{FollowsPublishers, ReceivesSample, TellsSamples};
-ghost use Rattle.iox_hub_base.specs.AsHome.{hub_ports, with_hub_ports};
 ghost use Rattle.iox_delivery.specs.Domain.PortSettings.{publisher_defaults};
+ghost use Rattle.iox_domain.specs.Homes as homes;
 ghost use Rattle.iox_hub_commands.specs.Calls.{may_lend};
-ghost use Rattle.iox_hub_commands.specs.CommandSteps.{publisher_may_decide, publisher_may_degrade, subscriber_may_degrade};
 ghost use Rattle.iox_hub_commands.specs.Naming.{publisher_config, subscriber_config};
 ghost use Rattle.iox_hub_commands.specs.DescribeSettings.declared.static_config.Settings.TheVariants as settings;
 ghost use Rattle.iox_hub_commands.specs.DescribeSettings.declared.static_config.publish_subscribe.StaticConfig.{StaticConfig};
@@ -26,9 +25,9 @@ use iox_command::{PublisherOptions, SubscriberOptions};
 use iox_delivery::{BlockedSend, PortId, Sent, UpdateConnections, slices as slice};
 use iox_describe::pattern::PublishSubscribe;
 use iox_describe_base::ZeroCopySend;
-use iox_domain::DomainId;
 use iox_domain::ports::{PublisherConfig, SubscriberConfig};
 use iox_domain::settings::PublisherSettings;
+use iox_domain::{DomainId, Home};
 use iox_domain_values::{
     ConnectionFailure, PortOwner, PublisherCreateError, ReceiveError, SendError,
     SubscriberCreateError,
@@ -39,136 +38,109 @@ use iox_queues_base::Words;
 use std::alloc::Global;
 
 // A publisher lends slots for these values, writes and sends them, if it may lend.
-pub(crate) fn put_if<
-    T: Words + ZeroCopySend + Default,
-    U: Copy + ZeroCopySend + Default,
-    B: PublisherHandlers,
-    D: SubscriberHandler,
->(
-    hub: &mut Hub<T, U, B, D>,
+pub(crate) fn put_if<T: Copy, U: Copy, H: Home<T, U>>(
+    home: &mut H,
     alloc: Global,
     publisher: &slice::Publisher<T, U>,
     values: &[T],
 ) -> Option<Result<Sent<T, U>, SendError>>
-    ensures { IsDoneIf (may_lend hub_ports publisher.now.port hub.old) (SendsSlice hub_ports with_hub_ports
-        (publisher_may_degrade (λ handlers. B.degrades handlers)) (publisher_may_decide (λ handlers. B.decides handlers))
-        publisher.now.port values.now) hub.old result hub.new }
+    ensures { IsDoneIf (may_lend (homes.ports_of H.domain_of) publisher.now.port home.old)
+        (SendsSlice (homes.ports_of H.domain_of) (homes.with_ports H.changed)
+        (homes.publisher_degrades (λ kept. H.ForPublishers.degrades kept) H.domain_of)
+        (homes.publisher_decides (λ kept. H.ForPublishers.decides kept) H.domain_of) publisher.now.port values.now)
+        home.old result home.new }
 {
-    if !publisher.holds(hub) {
+    if !publisher.holds(home) {
         return None;
     }
-    if publisher.is_blocked(hub) {
+    if publisher.is_blocked(home) {
         return None;
     }
-    Some(publisher.send_slice(alloc, hub, values))
+    Some(publisher.send_slice(alloc, home, values))
 }
 
 // A send is tried again if it waits, else handed back.
-pub(crate) fn retry_if<
-    T: Words + ZeroCopySend + Default,
-    U: Copy + ZeroCopySend + Default,
-    B: PublisherHandlers,
-    D: SubscriberHandler,
->(
-    hub: &mut Hub<T, U, B, D>,
+pub(crate) fn retry_if<T: Copy, U: Copy, H: Home<T, U>>(
+    home: &mut H,
     blocked: BlockedSend<T, U>,
     elapsed_ns: u64,
 ) -> Result<Result<Sent<T, U>, SendError>, BlockedSend<T, U>>
-    ensures { IsDoneOrBack (publisher_blocked blocked.port.number (hub_ports blocked.port.domain hub.old)) blocked
-        (RetriesSend hub_ports with_hub_ports (publisher_may_decide (λ handlers. B.decides handlers)) blocked.port elapsed_ns)
-        hub.old result hub.new }
+    ensures { IsDoneOrBack (publisher_blocked blocked.port.number (homes.ports_of H.domain_of blocked.port.domain home.old)) blocked
+        (RetriesSend (homes.ports_of H.domain_of) (homes.with_ports H.changed)
+        (homes.publisher_decides (λ kept. H.ForPublishers.decides kept) H.domain_of) blocked.port elapsed_ns) home.old result home.new }
 {
-    if blocked.holds(hub) {
-        Ok(blocked.retry(hub, elapsed_ns))
+    if blocked.holds(home) {
+        Ok(blocked.retry(home, elapsed_ns))
     } else {
         Err(blocked)
     }
 }
 
 // A publisher follows the list of subscribers, if it may lend.
-pub(crate) fn update_publisher_if<
-    T: Words + ZeroCopySend + Default,
-    U: Copy + ZeroCopySend + Default,
-    B: PublisherHandlers,
-    D: SubscriberHandler,
->(
-    hub: &mut Hub<T, U, B, D>,
+pub(crate) fn update_publisher_if<T: Copy, U: Copy, H: Home<T, U>>(
+    home: &mut H,
     alloc: Global,
     publisher: &slice::Publisher<T, U>,
 ) -> Option<Result<(), ConnectionFailure>>
-    ensures { IsDoneIf (may_lend hub_ports publisher.now.port hub.old) (FollowsSubscribers hub_ports with_hub_ports
-        (publisher_may_degrade (λ handlers. B.degrades handlers)) publisher.now.port) hub.old result hub.new }
+    ensures { IsDoneIf (may_lend (homes.ports_of H.domain_of) publisher.now.port home.old)
+        (FollowsSubscribers (homes.ports_of H.domain_of) (homes.with_ports H.changed)
+        (homes.publisher_degrades (λ kept. H.ForPublishers.degrades kept) H.domain_of) publisher.now.port) home.old result home.new }
 {
-    if !publisher.holds(hub) {
+    if !publisher.holds(home) {
         return None;
     }
-    if publisher.is_blocked(hub) {
+    if publisher.is_blocked(home) {
         return None;
     }
-    Some(publisher.update_connections(alloc, hub))
+    Some(publisher.update_connections(alloc, home))
 }
 
 // A subscriber follows the list of publishers, if it stands.
-pub(crate) fn update_subscriber_if<
-    T: Words + ZeroCopySend + Default,
-    U: Copy + ZeroCopySend + Default,
-    B: PublisherHandlers,
-    D: SubscriberHandler,
->(
-    hub: &mut Hub<T, U, B, D>,
+pub(crate) fn update_subscriber_if<T: Copy, U: Copy, H: Home<T, U>>(
+    home: &mut H,
     alloc: Global,
     subscriber: &slice::Subscriber<T, U>,
 ) -> Option<Result<(), ConnectionFailure>>
-    ensures { IsDoneIf (subscriber_stands subscriber.now.port.number (hub_ports subscriber.now.port.domain hub.old))
-        (FollowsPublishers hub_ports with_hub_ports (subscriber_may_degrade (λ handler. D.degrades handler)) subscriber.now.port)
-        hub.old result hub.new }
+    ensures { IsDoneIf (subscriber_stands subscriber.now.port.number (homes.ports_of H.domain_of subscriber.now.port.domain home.old))
+        (FollowsPublishers (homes.ports_of H.domain_of) (homes.with_ports H.changed)
+        (homes.subscriber_degrades (λ kept. H.ForSubscribers.degrades kept) H.domain_of) subscriber.now.port) home.old result home.new }
 {
-    if subscriber.holds(hub) {
-        Some(subscriber.update_connections(alloc, hub))
+    if subscriber.holds(home) {
+        Some(subscriber.update_connections(alloc, home))
     } else {
         None
     }
 }
 
 // It is told whether messages wait for a subscriber, if it stands.
-pub(crate) fn has_samples_if<
-    T: Words + ZeroCopySend + Default,
-    U: Copy + ZeroCopySend + Default,
-    B: PublisherHandlers,
-    D: SubscriberHandler,
->(
-    hub: &mut Hub<T, U, B, D>,
+pub(crate) fn has_samples_if<T: Copy, U: Copy, H: Home<T, U>>(
+    home: &mut H,
     alloc: Global,
     subscriber: &slice::Subscriber<T, U>,
 ) -> Option<Result<bool, ConnectionFailure>>
-    ensures { IsDoneIf (subscriber_stands subscriber.now.port.number (hub_ports subscriber.now.port.domain hub.old))
-        (TellsSamples hub_ports with_hub_ports (subscriber_may_degrade (λ handler. D.degrades handler)) subscriber.now.port)
-        hub.old result hub.new }
+    ensures { IsDoneIf (subscriber_stands subscriber.now.port.number (homes.ports_of H.domain_of subscriber.now.port.domain home.old))
+        (TellsSamples (homes.ports_of H.domain_of) (homes.with_ports H.changed)
+        (homes.subscriber_degrades (λ kept. H.ForSubscribers.degrades kept) H.domain_of) subscriber.now.port) home.old result home.new }
 {
-    if subscriber.holds(hub) {
-        Some(subscriber.has_samples(alloc, hub))
+    if subscriber.holds(home) {
+        Some(subscriber.has_samples(alloc, home))
     } else {
         None
     }
 }
 
 // A subscriber receives, if it stands.
-pub(crate) fn receive_if<
-    T: Words + ZeroCopySend + Default,
-    U: Copy + ZeroCopySend + Default,
-    B: PublisherHandlers,
-    D: SubscriberHandler,
->(
-    hub: &mut Hub<T, U, B, D>,
+pub(crate) fn receive_if<T: Copy, U: Copy, H: Home<T, U>>(
+    home: &mut H,
     alloc: Global,
     subscriber: &slice::Subscriber<T, U>,
 ) -> Option<Result<Option<slice::Sample<T, U>>, ReceiveError>>
-    ensures { IsDoneIf (subscriber_stands subscriber.now.port.number (hub_ports subscriber.now.port.domain hub.old))
-        (ReceivesSample hub_ports with_hub_ports (subscriber_may_degrade (λ handler. D.degrades handler)) subscriber.now.port)
-        hub.old result hub.new }
+    ensures { IsDoneIf (subscriber_stands subscriber.now.port.number (homes.ports_of H.domain_of subscriber.now.port.domain home.old))
+        (ReceivesSample (homes.ports_of H.domain_of) (homes.with_ports H.changed)
+        (homes.subscriber_degrades (λ kept. H.ForSubscribers.degrades kept) H.domain_of) subscriber.now.port) home.old result home.new }
 {
-    if subscriber.holds(hub) {
-        Some(subscriber.receive(alloc, hub))
+    if subscriber.holds(home) {
+        Some(subscriber.receive(alloc, home))
     } else {
         None
     }

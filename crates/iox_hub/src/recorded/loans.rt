@@ -9,9 +9,8 @@ ghost use Rattle.iox_delivery.specs.Holding.{loan_found};
 ghost use Rattle.iox_delivery.specs.Publishing.{SendsSample, sample_mut_of};
 ghost use Rattle.iox_delivery.specs.Slices.{LendsDefaults, LendsSlice, WritesAll};
 ghost use Rattle.iox_delivery.specs.declared.sent.Sent.TheVariants as sent;
-ghost use Rattle.iox_hub_base.specs.AsHome.{hub_ports, with_hub_ports};
+ghost use Rattle.iox_domain.specs.Homes as homes;
 ghost use Rattle.iox_hub_commands.specs.Calls.{may_lend};
-ghost use Rattle.iox_hub_commands.specs.CommandSteps.{publisher_may_decide, publisher_may_degrade};
 ghost use Rattle.iox_hub_commands.specs.Replies.{done_reply};
 ghost use Rattle.iox_hub.specs.Recorded.{Calls, asked_too};
 ghost use Rattle.iox_hub.specs.RecordedCalls.{KeepNumbers, answered_as, told_send};
@@ -25,8 +24,8 @@ use iox_delivery::kind::Slice;
 use iox_delivery::loan::{Loan, LoanState};
 use iox_delivery::{Sent, slices as slice};
 use iox_describe_base::ZeroCopySend;
+use iox_domain::Home;
 use iox_domain_values::{LoanError, SendError};
-use iox_hub_base::Hub;
 use iox_hub_commands::{PublisherHandlers, SubscriberHandler};
 use iox_hub_machine::typed::{typed_calls_are_a_run, typed_publisher_calls_are_steps};
 use iox_queues_base::Words;
@@ -173,88 +172,73 @@ impl<
 }
 
 // A publisher lends so many values to be written, if it may lend.
-fn lend_uninit_if<
-    T: Words + ZeroCopySend + Default,
-    U: Copy + ZeroCopySend + Default,
-    B: PublisherHandlers,
-    D: SubscriberHandler,
->(
-    hub: &mut Hub<T, U, B, D>,
+fn lend_uninit_if<T: Copy, U: Copy, H: Home<T, U>>(
+    home: &mut H,
     alloc: Global,
     publisher: &slice::Publisher<T, U>,
     len: usize,
 ) -> Option<Result<slice::SampleMutUninit<T, U>, LoanError>>
-    ensures { IsDoneIf (may_lend hub_ports publisher.now.port hub.old) (LendsSlice hub_ports with_hub_ports publisher.now.port len)
-        hub.old result hub.new }
+    ensures { IsDoneIf (may_lend (homes.ports_of H.domain_of) publisher.now.port home.old)
+        (LendsSlice (homes.ports_of H.domain_of) (homes.with_ports H.changed) publisher.now.port len) home.old result home.new }
 {
-    if !publisher.holds(hub) {
+    if !publisher.holds(home) {
         return None;
     }
-    if publisher.is_blocked(hub) {
+    if publisher.is_blocked(home) {
         return None;
     }
-    Some(publisher.loan_slice_uninit(alloc, hub, len))
+    Some(publisher.loan_slice_uninit(alloc, home, len))
 }
 
 // A publisher lends so many defaults, if it may lend.
-fn lend_if<
-    T: Words + ZeroCopySend + Default,
-    U: Copy + ZeroCopySend + Default,
-    B: PublisherHandlers,
-    D: SubscriberHandler,
->(
-    hub: &mut Hub<T, U, B, D>,
+fn lend_if<T: Copy + Default, U: Copy, H: Home<T, U>>(
+    home: &mut H,
     alloc: Global,
     publisher: &slice::Publisher<T, U>,
     len: usize,
 ) -> Option<Result<slice::SampleMut<T, U>, LoanError>>
-    ensures lends { IsDoneIf (may_lend hub_ports publisher.now.port hub.old)
-        (LendsDefaults hub_ports with_hub_ports T.is_default publisher.now.port len) hub.old result hub.new }
+    ensures lends { IsDoneIf (may_lend (homes.ports_of H.domain_of) publisher.now.port home.old)
+        (LendsDefaults (homes.ports_of H.domain_of) (homes.with_ports H.changed) T.is_default publisher.now.port len)
+        home.old result home.new }
     ensures default { (value : T) × T.is_default value }
 {
     let _value = T::default();
-    if !publisher.holds(hub) {
+    if !publisher.holds(home) {
         return None;
     }
-    if publisher.is_blocked(hub) {
+    if publisher.is_blocked(home) {
         return None;
     }
-    Some(publisher.loan_slice(alloc, hub, len))
+    Some(publisher.loan_slice(alloc, home, len))
 }
 
 // All values of a loan are written, if it has as many; it is told whether it is written so.
-fn write_all<
-    T: Words + ZeroCopySend + Default,
-    U: Copy + ZeroCopySend + Default,
-    B: PublisherHandlers,
-    D: SubscriberHandler,
->(
-    hub: &mut Hub<T, U, B, D>,
+fn write_all<T: Copy, U: Copy, H: Home<T, U>>(
+    home: &mut H,
     loan: slice::SampleMutUninit<T, U>,
     values: &[T],
 ) -> (slice::SampleMut<T, U>, bool)
     requires { length values.now ≡ loan.state.len }
-    ensures writes { WritesAll hub_ports with_hub_ports loan.port loan.slot values.now hub.old hub.new }
+    ensures writes { WritesAll (homes.ports_of H.domain_of) (homes.with_ports H.changed) loan.port loan.slot values.now home.old home.new }
     ensures same { result.0 ≡ sample_mut_of loan.port loan.slot }
-    ensures told { result.1 ≡ is_written_with (loan_found loan.port.number loan.slot (hub_ports loan.port.domain hub.new))
-        (length values.now) }
+    ensures told { result.1 ≡ is_written_with (loan_found loan.port.number loan.slot
+        (homes.ports_of H.domain_of loan.port.domain home.new)) (length values.now) }
 {
-    let sample = loan.write_from_slice(hub, values);
-    let filled = is_written_with(&sample, hub, values.len());
+    let sample = loan.write_from_slice(home, values);
+    let filled = is_written_with(&sample, home, values.len());
     (sample, filled)
 }
 
 // Whether a loan is written, with so many values.
-fn is_written_with<
-    T: Words + ZeroCopySend + Default,
-    U: Copy + ZeroCopySend + Default,
-    B: PublisherHandlers,
-    D: SubscriberHandler,
->(sample: &slice::SampleMut<T, U>, hub: &Hub<T, U, B, D>, count: usize) -> bool
-    ensures { result ≡ is_written_with (loan_found sample.now.port.number sample.now.slot (hub_ports sample.now.port.domain hub.now))
-        count }
+fn is_written_with<T: Copy, U: Copy, H: Home<T, U>>(
+    sample: &slice::SampleMut<T, U>,
+    home: &H,
+    count: usize,
+) -> bool
+    ensures { result ≡ is_written_with (loan_found sample.now.port.number sample.now.slot
+        (homes.ports_of H.domain_of sample.now.port.domain home.now)) count }
 {
-    sample.holds(hub) && sample.payload(hub).len() == count
+    sample.holds(home) && sample.payload(home).len() == count
 }
 
 // The history that its caller says, where a publisher of this number was asked for a loan of so many values.
@@ -286,26 +270,23 @@ fn told_filled<T: Words + ZeroCopySend + Default>(
 }
 
 // A loan is sent if it is written, and no send of its publisher waits; else it is handed back.
-fn send_if<
-    T: Words + ZeroCopySend + Default,
-    U: Copy + ZeroCopySend + Default,
-    B: PublisherHandlers,
-    D: SubscriberHandler,
->(
-    hub: &mut Hub<T, U, B, D>,
+fn send_if<T: Copy, U: Copy, H: Home<T, U>>(
+    home: &mut H,
     alloc: Global,
     sample: slice::SampleMut<T, U>,
 ) -> Result<Result<Sent<T, U>, SendError>, slice::SampleMut<T, U>>
     ensures { MatchResult result
-        (λ answer. SendsSample hub_ports with_hub_ports (publisher_may_degrade (λ handlers. B.degrades handlers))
-        (publisher_may_decide (λ handlers. B.decides handlers)) sample.port sample.slot hub.old answer hub.new)
-        (λ back. (back ≡ sample) × (hub.new ≡ hub.old) × (may_send sample.port sample.slot hub.old ≡ false)) }
+        (λ answer. SendsSample (homes.ports_of H.domain_of) (homes.with_ports H.changed)
+        (homes.publisher_degrades (λ kept. H.ForPublishers.degrades kept) H.domain_of)
+        (homes.publisher_decides (λ kept. H.ForPublishers.decides kept) H.domain_of) sample.port sample.slot home.old answer home.new)
+        (λ back. (back ≡ sample) × (home.new ≡ home.old)
+        × (may_send (homes.ports_of H.domain_of) sample.port sample.slot home.old ≡ false)) }
 {
-    if !sample.holds(hub) {
+    if !sample.holds(home) {
         return Err(sample);
     }
-    if sample.is_blocked(hub) {
+    if sample.is_blocked(home) {
         return Err(sample);
     }
-    Ok(sample.send(alloc, hub))
+    Ok(sample.send(alloc, home))
 }

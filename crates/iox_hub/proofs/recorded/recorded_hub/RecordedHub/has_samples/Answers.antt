@@ -12,7 +12,7 @@ pub invariant_of-self : goal.invariant_of-self
 invariant_of-self g c = rw c.told-self-inside.ensures
     (samples_told _ refl (c.typed_calls_are_a_run.ensures.goes_on Dynamic)
     (c.typed_subscriber_calls_are_steps.ensures Dynamic).has (c.what_is_held_may_be_used.ensures Dynamic)
-    c.self.inside.history.calls c.self.inside.hub c.has_samples_if-answer.new.hub c.args.subscriber.now.number.value
+    c.self.inside.history.calls c.self.inside.hub c.has_samples_if-answer.new.home c.args.subscriber.now.number.value
     c.args.subscriber.now.it.port
     c.has_samples_if-answer.result (rw (← c.self.view_is) at c.requires) c.has_samples_if-answer.ensures c.self.invariant)
 
@@ -23,7 +23,7 @@ returns-clause-told g c = rw (← c.self.view_is, c.told-self-inside.ensures)
 pub returns-clause-stands : goal.returns-clause-stands
 returns-clause-stands g c = λ followed.
     stands_so _ refl (c.what_is_held_may_be_used.ensures Dynamic)
-    c.self.inside.history.calls c.self.inside.hub c.has_samples_if-answer.new.hub c.args.subscriber.now.number.value
+    c.self.inside.history.calls c.self.inside.hub c.has_samples_if-answer.new.home c.args.subscriber.now.number.value
     c.args.subscriber.now.it.port
     (TellsSamples hub_ports with_hub_ports (subscriber_may_degrade (λ handler. g.D.Degrades.degrades handler))
     c.args.subscriber.now.it.port)

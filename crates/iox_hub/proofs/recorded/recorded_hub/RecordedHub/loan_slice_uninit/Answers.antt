@@ -10,7 +10,7 @@ pub invariant_of-self : goal.invariant_of-self
 invariant_of-self g c = rw c.told_lent-self-inside.ensures
     (lent_recorded _ refl (c.typed_calls_are_a_run.ensures.goes_on Dynamic)
     (c.typed_publisher_calls_are_steps.ensures Dynamic).loan_uninit
-    c.self.inside.history.calls c.self.inside.hub c.lend_uninit_if-answer.new.hub c.args.publisher.now.number.value c.args.len
+    c.self.inside.history.calls c.self.inside.hub c.lend_uninit_if-answer.new.home c.args.publisher.now.number.value c.args.len
     c.args.publisher.now.it.port c.lend_uninit_if-answer.result (rw (← c.self.view_is) at c.requires)
     c.lend_uninit_if-answer.ensures c.self.invariant)
 
@@ -26,7 +26,7 @@ returns-clause-number g c = rw (c.with_number.ensures, ← c.self.view_is, c.tol
 
 pub returns-clause-lends : goal.returns-clause-lends
 returns-clause-lends g c = rw c.with_number.ensures
-    (lends_so c.args.publisher.now.it.port c.args.len c.given-number.result c.self.inside.hub c.lend_uninit_if-answer.new.hub
+    (lends_so c.args.publisher.now.it.port c.args.len c.given-number.result c.self.inside.hub c.lend_uninit_if-answer.new.home
     (may_lend hub_ports c.args.publisher.now.it.port c.self.inside.hub) c.lend_uninit_if-answer.result c.lend_uninit_if-answer.ensures)
 
 pub returns-clause-others : goal.returns-clause-others

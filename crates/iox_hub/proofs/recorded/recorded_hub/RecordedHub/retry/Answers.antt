@@ -11,7 +11,7 @@ pub invariant_of-self : goal.invariant_of-self
 invariant_of-self g c = rw (c.told-self-inside.ensures, c.sent_came-came.ensures)
     (retry_recorded _ refl (c.typed_calls_are_a_run.ensures.goes_on Dynamic)
     (c.typed_publisher_calls_are_steps.ensures Dynamic).retry
-    c.self.inside.history.calls c.self.inside.hub c.retry_if-answer.new.hub c.args.publisher.now.number.value c.args.elapsed_ns
+    c.self.inside.history.calls c.self.inside.hub c.retry_if-answer.new.home c.args.publisher.now.number.value c.args.elapsed_ns
     c.args.blocked.port c.args.blocked c.retry_if-answer.result (rw c.requires.waits (rw (← c.self.view_is) at c.requires.made))
     c.retry_if-answer.ensures c.self.invariant)
 
@@ -23,5 +23,5 @@ returns-clause-sent g c = rw (← c.self.view_is, c.told-self-inside.ensures, c.
 pub returns-clause-waits : goal.returns-clause-waits
 returns-clause-waits g c = subst (λ (port : PortId). MatchResult c.retry_if-answer.result (λ it. IfOk it (λ came. WaitsAt port came))
     (λ back. back ≡ c.args.blocked)) c.requires.waits (retry_waits (λ handlers. g.B.Decides.decides handlers)
-    c.args.blocked.port c.args.elapsed_ns c.args.blocked c.self.inside.hub c.retry_if-answer.new.hub _ c.retry_if-answer.result
+    c.args.blocked.port c.args.elapsed_ns c.args.blocked c.self.inside.hub c.retry_if-answer.new.home _ c.retry_if-answer.result
     c.retry_if-answer.ensures)

@@ -7,7 +7,7 @@ pub invariant_of-self : goal.invariant_of-self
 invariant_of-self g c = rw (c.told-self-inside.ensures, c.sent_came-came.ensures, c.has_left-gone.ensures)
     (sent_recorded _ refl (c.typed_calls_are_a_run.ensures.goes_on Dynamic)
     (c.typed_publisher_calls_are_steps.ensures Dynamic).send
-    c.self.inside.history.calls c.self.inside.hub c.send_if-answer.new.hub c.args.sample.number.value c.args.sample.it
+    c.self.inside.history.calls c.self.inside.hub c.send_if-answer.new.home c.args.sample.number.value c.args.sample.it
     c.send_if-answer.result (rw (← c.self.view_is) at c.requires) c.send_if-answer.ensures c.self.invariant)
 
 pub returns-clause-sent : goal.returns-clause-sent
@@ -23,9 +23,9 @@ returns-clause-sent g c = rw (
 pub returns-clause-back : goal.returns-clause-back
 returns-clause-back g c = rw c.back_with_number.ensures
     (sample_back (λ handlers. g.B.Degrades.degrades handlers) (λ handlers. g.B.Decides.decides handlers) c.args.sample
-    c.self.inside.hub c.send_if-answer.new.hub c.send_if-answer.result c.send_if-answer.ensures)
+    c.self.inside.hub c.send_if-answer.new.home c.send_if-answer.result c.send_if-answer.ensures)
 
 pub returns-clause-waits : goal.returns-clause-waits
 returns-clause-waits g c = rw c.back_with_number.ensures
     (sample_waits (λ handlers. g.B.Degrades.degrades handlers) (λ handlers. g.B.Decides.decides handlers) c.args.sample
-    c.self.inside.hub c.send_if-answer.new.hub c.send_if-answer.result c.send_if-answer.ensures)
+    c.self.inside.hub c.send_if-answer.new.home c.send_if-answer.result c.send_if-answer.ensures)

@@ -9,7 +9,7 @@ pub invariant_of-self : goal.invariant_of-self
 invariant_of-self g c = rw c.told_put-self-inside.ensures
     (put_recorded _ refl (c.typed_calls_are_a_run.ensures.goes_on Dynamic)
     (c.typed_publisher_calls_are_steps.ensures Dynamic).send_slice
-    c.self.inside.history.calls c.self.inside.hub c.put_if-answer.new.hub c.args.publisher.now.number.value c.args.publisher.now.it.port
+    c.self.inside.history.calls c.self.inside.hub c.put_if-answer.new.home c.args.publisher.now.number.value c.args.publisher.now.it.port
     c.args.values.now c.put_if-answer.result (rw (← c.self.view_is) at c.requires) c.put_if-answer.ensures c.self.invariant)
 
 pub returns-clause-sent : goal.returns-clause-sent
@@ -18,5 +18,5 @@ returns-clause-sent g c = rw (← c.self.view_is, c.told_put-self-inside.ensures
 
 pub returns-clause-waits : goal.returns-clause-waits
 returns-clause-waits g c = put_waits (λ handlers. g.B.Degrades.degrades handlers) (λ handlers. g.B.Decides.decides handlers)
-    c.args.publisher.now.it.port c.args.values.now c.self.inside.hub c.put_if-answer.new.hub _ c.put_if-answer.result
+    c.args.publisher.now.it.port c.args.values.now c.self.inside.hub c.put_if-answer.new.home _ c.put_if-answer.result
     c.put_if-answer.ensures

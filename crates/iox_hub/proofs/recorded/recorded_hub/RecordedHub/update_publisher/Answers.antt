@@ -10,7 +10,7 @@ pub invariant_of-self : goal.invariant_of-self
 invariant_of-self g c = rw c.told-self-inside.ensures
     (publisher_updated _ refl (c.typed_calls_are_a_run.ensures.goes_on Dynamic)
     (c.typed_publisher_calls_are_steps.ensures Dynamic).update
-    c.self.inside.history.calls c.self.inside.hub c.update_publisher_if-answer.new.hub c.args.publisher.now.number.value
+    c.self.inside.history.calls c.self.inside.hub c.update_publisher_if-answer.new.home c.args.publisher.now.number.value
     c.args.publisher.now.it.port
     c.update_publisher_if-answer.result (rw (← c.self.view_is) at c.requires) c.update_publisher_if-answer.ensures c.self.invariant)
 

@@ -13,7 +13,7 @@ pub invariant_of-self : goal.invariant_of-self
 invariant_of-self g c = rw c.told-self-inside.ensures
     (subscriber_updated _ refl (c.typed_calls_are_a_run.ensures.goes_on Dynamic)
     (c.typed_subscriber_calls_are_steps.ensures Dynamic).update (c.what_is_held_may_be_used.ensures Dynamic)
-    c.self.inside.history.calls c.self.inside.hub c.update_subscriber_if-answer.new.hub c.args.subscriber.now.number.value
+    c.self.inside.history.calls c.self.inside.hub c.update_subscriber_if-answer.new.home c.args.subscriber.now.number.value
     c.args.subscriber.now.it.port
     c.update_subscriber_if-answer.result (rw (← c.self.view_is) at c.requires) c.update_subscriber_if-answer.ensures c.self.invariant)
 
@@ -25,7 +25,7 @@ returns-clause-updated g c = rw (← c.self.view_is, c.told-self-inside.ensures)
 pub returns-clause-stands : goal.returns-clause-stands
 returns-clause-stands g c = λ followed.
     stands_so _ refl (c.what_is_held_may_be_used.ensures Dynamic)
-    c.self.inside.history.calls c.self.inside.hub c.update_subscriber_if-answer.new.hub c.args.subscriber.now.number.value
+    c.self.inside.history.calls c.self.inside.hub c.update_subscriber_if-answer.new.home c.args.subscriber.now.number.value
     c.args.subscriber.now.it.port
     (FollowsPublishers hub_ports with_hub_ports (subscriber_may_degrade (λ handler. g.D.Degrades.degrades handler))
     c.args.subscriber.now.it.port)

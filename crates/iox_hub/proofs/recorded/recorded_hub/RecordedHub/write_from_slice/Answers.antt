@@ -8,7 +8,7 @@ pub invariant_of-self : goal.invariant_of-self
 invariant_of-self g c = rw c.told_filled-self-inside.ensures
     (filled_recorded _ refl (c.typed_calls_are_a_run.ensures.goes_on Dynamic)
     (c.typed_publisher_calls_are_steps.ensures Dynamic).write
-    c.self.inside.history.calls c.self.inside.hub c.write_all-filled.new.hub c.args.loan.number.value
+    c.self.inside.history.calls c.self.inside.hub c.write_all-filled.new.home c.args.loan.number.value
     (record { port = c.args.loan.it.port; slot = c.args.loan.it.slot }) c.args.values.now c.write_all-filled.result.1
     (rw (← c.self.view_is) at c.requires.made) c.write_all-filled.ensures.writes c.write_all-filled.ensures.told c.self.invariant)
 
