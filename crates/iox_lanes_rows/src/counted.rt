@@ -1,5 +1,6 @@
 //! A schedule that lanes run at once: how many of its entries are made.
 use crate::answers::hold;
+use crate::calls::{Asked, call};
 use crate::stepping::new_lanes;
 use iox_lanes::{Call, Entry, LaneMachine, LaneSizes, Lanes, Move, Party, RingKind};
 use std::alloc::{AllocError, Global};
@@ -22,6 +23,18 @@ const PUBLISHER: Party = Party::Publisher(0);
 
 const SUBSCRIBER: Party = Party::Subscriber(0);
 
+// Two messages are sent, of which the second one is refused, and each holds the number of its slot. The first one is received and released.
+const CALLS: [(Party, Asked, u64); 8] = [
+    (PUBLISHER, Asked::Lend, 0),
+    (PUBLISHER, Asked::Write, 0),
+    (PUBLISHER, Asked::Send, 0),
+    (PUBLISHER, Asked::Lend, 1),
+    (PUBLISHER, Asked::Write, 1),
+    (PUBLISHER, Asked::Send, 1),
+    (SUBSCRIBER, Asked::Receive, 0),
+    (SUBSCRIBER, Asked::Release, 0),
+];
+
 // A call and twelve steps behind its begin, which is one more than the longest has. Those behind its last step don't fit.
 fn ask(schedule: &mut Vec<Entry>, party: Party, call: Call) -> Result<(), AllocError> {
     let step = Move::Begin(call);
@@ -35,19 +48,11 @@ fn ask(schedule: &mut Vec<Entry>, party: Party, call: Call) -> Result<(), AllocE
     Ok(())
 }
 
-// A loan, which gets this slot, the write of its number into it, and its send.
-fn ask_send(alloc: Global, schedule: &mut Vec<Entry>, loan: u64) -> Result<(), AllocError> {
-    ask(schedule, PUBLISHER, Call::LoanUninit)?;
-    ask(schedule, PUBLISHER, Call::write(alloc, loan, &loan, &())?)?;
-    ask(schedule, PUBLISHER, Call::Send { loan })
-}
-
-// Two messages are sent, of which the second one is refused. The first one is received and released.
 fn ask_all(alloc: Global, schedule: &mut Vec<Entry>) -> Result<(), AllocError> {
-    ask_send(alloc, schedule, 0)?;
-    ask_send(alloc, schedule, 1)?;
-    ask(schedule, SUBSCRIBER, Call::Receive)?;
-    ask(schedule, SUBSCRIBER, Call::Release { sample: 0 })
+    for (party, asked, slot) in &CALLS {
+        ask(schedule, *party, call(alloc, *asked, *slot, *slot)?)?;
+    }
+    Ok(())
 }
 
 // A loan has 4 steps, a write 3, a send 12 where there is room, and 10 where there is none, a receive 6 and a release 6.

@@ -1,23 +1,27 @@
-//! A domain of numbers, and the calls of its ports, which go by their places in its lists.
+//! A domain of numbers, and the calls of its ports. Ports go by their numbers: from 1 on, in the order in which they come.
 ghost use Rattle.std.specs.Prelude.{⊤};
 
 use crate::answers::in_memory;
-use crate::worlds::{Step, Told};
 use iox_describe_base::{AttributeSpecifier, Header, MessageTypeDetails, ServiceName, TypeVariant};
 use iox_describe_settings::publish_subscribe::StaticConfig;
 use iox_describe_settings::{Description, Settings};
 use iox_domain::ports::{PublisherConfig, SubscriberConfig};
-use iox_domain::{Domain, DomainId};
+use iox_domain::{Domain, DomainId, DomainState, ServicePorts};
 use iox_domain_ports::{Member, PublisherEntry, Sent, Taken, Ties};
 use iox_domain_values::{
     AllocationStrategy, BackpressureAction, BackpressureFn, BackpressureHandler, BackpressureInfo,
-    BackpressureStrategy, ConnectionFailure, DegradationAction, DegradationHandler, Handlers,
-    PortOwner, PreallocatedSamplesOverride, SendError,
+    BackpressureStrategy, DegradationAction, DegradationHandler, Handlers, PortOwner,
+    PreallocatedSamplesOverride, SendError,
 };
 use std::alloc::{AllocError, Global};
 
 /// A domain of numbers of two words, with no user header.
 pub(crate) type Numbers = Domain<u128, ()>;
+
+/// What it lends to the calls of its ports.
+pub(crate) type State = DomainState<u128, ()>;
+
+type Ports = ServicePorts<u128, ()>;
 
 // Above each number of one word.
 const ABOVE: u128 = 1 << 64;
@@ -25,16 +29,6 @@ const ABOVE: u128 = 1 << 64;
 /// A number in both words of a value.
 pub(crate) fn in_both_words(number: u64) -> u128 {
     u128::from(number).saturating_mul(ABOVE + 1)
-}
-
-/// The number in both words of a value, or the largest one where they differ.
-pub(crate) fn number_in(value: u128) -> u64 {
-    let number = (value % ABOVE) as u64;
-    if in_both_words(number) == value {
-        number
-    } else {
-        u64::MAX
-    }
 }
 
 /// What is agreed.
@@ -51,25 +45,120 @@ pub(crate) struct Service {
     pub(crate) ports: u64,
 }
 
-/// How a publisher is made. It lends one value at a time, if no more is said.
+// Who answers at a full mailbox.
 #[derive(Clone, Copy)]
-pub(crate) enum Plan {
-    /// It discards at a full mailbox.
-    Plain,
-    /// Its sends fail there.
-    Failing,
-    /// They wait there.
-    Waiting,
-    /// Its room grows as far as is needed.
-    Growing,
-    /// An object decides for it.
-    Asking,
-    /// Its last number before any send is 2^63.
-    Far,
-    /// Its slots have room for two values.
-    Pairs,
-    /// It lends so many values.
-    Lending(u64),
+enum Answering {
+    Nobody,
+    Fails,
+    Object,
+}
+
+/// How a publisher is made.
+#[derive(Clone, Copy)]
+pub(crate) struct Plan {
+    pub(crate) config: PublisherConfig,
+    strategy: BackpressureStrategy,
+    answering: Answering,
+}
+
+const OWNER: PortOwner = PortOwner {
+    number: 3,
+    node_id: 8,
+};
+
+const CONFIG: PublisherConfig = PublisherConfig {
+    owner: OWNER,
+    max_loaned_samples: 1,
+    values: 1,
+    unit: 1,
+    allocation: AllocationStrategy::Static,
+    first_sequence: 1,
+};
+
+/// It lends one value at a time, and discards at a full mailbox.
+pub(crate) const PLAIN: Plan = Plan {
+    config: CONFIG,
+    strategy: BackpressureStrategy::DiscardData,
+    answering: Answering::Nobody,
+};
+
+/// Its sends fail there.
+pub(crate) const FAILING: Plan = Plan {
+    answering: Answering::Fails,
+    ..PLAIN
+};
+
+/// They wait there.
+pub(crate) const WAITING: Plan = Plan {
+    strategy: BackpressureStrategy::RetryUntilDelivered,
+    ..PLAIN
+};
+
+/// An object decides there.
+pub(crate) const ASKING: Plan = Plan {
+    answering: Answering::Object,
+    ..PLAIN
+};
+
+/// Its room grows as far as is needed.
+pub(crate) const GROWING: Plan = Plan {
+    config: PublisherConfig {
+        allocation: AllocationStrategy::BestFit,
+        ..CONFIG
+    },
+    ..PLAIN
+};
+
+/// Its last number before any send is 2^63.
+pub(crate) const FAR: Plan = Plan {
+    config: PublisherConfig {
+        first_sequence: (1 << 63) + 1,
+        ..CONFIG
+    },
+    ..PLAIN
+};
+
+/// Its slots have room for two values.
+pub(crate) const PAIRS: Plan = Plan {
+    config: PublisherConfig {
+        values: 2,
+        ..CONFIG
+    },
+    ..PLAIN
+};
+
+/// What is done in a domain, and what comes of it. Ports go by their numbers.
+#[derive(Clone, Copy)]
+pub(crate) enum InDomain {
+    /// A publisher sends a value.
+    Sends(u64, u64, Result<Sent, SendError>),
+    /// A subscriber receives the message of this number and this value, and gives it back.
+    Gets(u64, u64, u64),
+    /// A subscriber receives nothing.
+    Nothing(u64),
+    /// A subscriber leaves.
+    Departs(u64),
+    /// A publisher is listed once more, as no call lists it.
+    Relists(u64),
+    /// A subscriber receives this value, and the sample is kept.
+    Holds(u64, u64),
+    /// That sample is given back.
+    Frees,
+}
+
+/// What comes to a domain, and goes wherever memory is found for it.
+#[derive(Clone, Copy)]
+pub(crate) enum Arrival {
+    /// A publisher comes.
+    Publisher(Plan),
+    /// A subscriber comes, for which so many messages may wait if that is named.
+    Subscriber(Option<usize>),
+    /// So many subscribers come, and as many publishers; all follow the others.
+    Crowd(u64),
+    /// All ports follow the others.
+    Meeting,
+    /// A publisher sends so many values, from 0 on, which nobody takes.
+    Fill(u64, u64),
 }
 
 // An object that decides as little as it can.
@@ -101,105 +190,33 @@ fn described(service: &Service) -> Option<Description> {
 }
 
 // A domain of what is described.
-fn new_domain(alloc: Global, description: &Description) -> Result<Numbers, AllocError> {
+fn new_domain(alloc: Global, description: &Description) -> Option<Numbers> {
     if !Numbers::fits(description) {
-        return Err(AllocError);
+        return None;
     }
     let id = DomainId { hub: 7, service: 9 };
-    match Domain::new(alloc, id, description, 5) {
-        Ok(domain) => Ok(domain),
-        Err(_) => Err(AllocError),
-    }
+    Domain::new(alloc, id, description, 5).ok()
 }
 
 /// A domain of a service, without ports.
-pub(crate) fn make(alloc: Global, service: &Service) -> Result<Numbers, AllocError> {
+pub(crate) fn make(alloc: Global, service: &Service) -> Option<Numbers> {
     match described(service) {
         Some(description) => new_domain(alloc, &description),
-        None => Err(AllocError),
+        None => None,
     }
 }
 
-const OWNER: PortOwner = PortOwner {
-    number: 3,
-    node_id: 8,
-};
-
-// The first number of a publisher whose last one is 2^63 before any send.
-const FAR: u64 = (1 << 63) + 1;
-
-fn config(plan: Plan) -> PublisherConfig {
-    PublisherConfig {
-        owner: OWNER,
-        max_loaned_samples: match plan {
-            Plan::Lending(count) => count as usize,
-            _ => 1,
-        },
-        values: match plan {
-            Plan::Pairs => 2,
-            _ => 1,
-        },
-        unit: 1,
-        allocation: match plan {
-            Plan::Growing => AllocationStrategy::BestFit,
-            _ => AllocationStrategy::Static,
-        },
-        first_sequence: match plan {
-            Plan::Far => FAR,
-            _ => 1,
-        },
-    }
-}
-
-// Who answers at a full mailbox.
-fn backpressure(alloc: Global, plan: Plan) -> Result<Option<BackpressureHandler>, AllocError> {
-    Ok(match plan {
-        Plan::Failing => Some(BackpressureHandler::Fixed(BackpressureAction::DiscardDataAndFail)),
-        Plan::Asking => Some(BackpressureHandler::boxed(Box::new(alloc, Quiet)?)),
-        _ => None,
-    })
-}
-
-// Who decides for a publisher.
-fn handlers(alloc: Global, plan: Plan) -> Result<Handlers, AllocError> {
-    Ok(Handlers {
-        strategy: match plan {
-            Plan::Waiting => BackpressureStrategy::RetryUntilDelivered,
-            _ => BackpressureStrategy::DiscardData,
-        },
-        backpressure: backpressure(alloc, plan)?,
-        degradation: DegradationHandler::Fixed(DegradationAction::DegradeAndFail),
-    })
-}
-
-// The number of a publisher that comes.
-fn publisher(alloc: Global, domain: &mut Numbers, plan: Plan) -> Result<u64, AllocError> {
-    let by = handlers(alloc, plan)?;
-    let slots = PreallocatedSamplesOverride::WorstCase;
-    match domain
-        .state
-        .create_publisher(alloc, config(plan), (), &slots, by)
-    {
-        Ok(number) => Ok(number),
-        Err(_) => Err(AllocError),
-    }
-}
-
-// The number of a subscriber that comes.
-fn subscriber(
+fn backpressure(
     alloc: Global,
-    domain: &mut Numbers,
-    buffer_size: Option<usize>,
-) -> Result<u64, AllocError> {
-    let by = DegradationHandler::Fixed(DegradationAction::DegradeAndFail);
-    let config = SubscriberConfig {
-        owner: OWNER,
-        buffer_size,
-    };
-    match domain.state.create_subscriber(alloc, config, by) {
-        Ok(number) => Ok(number),
-        Err(_) => Err(AllocError),
-    }
+    answering: Answering,
+) -> Result<Option<BackpressureHandler>, AllocError> {
+    Ok(match answering {
+        Answering::Nobody => None,
+        Answering::Fails => Some(BackpressureHandler::Fixed(
+            BackpressureAction::DiscardDataAndFail,
+        )),
+        Answering::Object => Some(BackpressureHandler::boxed(Box::new(alloc, Quiet)?)),
+    })
 }
 
 // Whether each place that lists somebody is tied to a connection: a port that comes where memory for one was refused has none there.
@@ -212,223 +229,209 @@ fn ties_all<V>(ties: &Ties, listed: &[Option<Member<V>>]) -> bool {
     true
 }
 
-fn publisher_ties_all(domain: &Numbers, number: u64) -> bool {
-    match domain.state.ports.publishers.get(number) {
-        Some(port) => ties_all(&port.ties, domain.state.ports.subscriber_list.listed()),
+fn publisher_ties_all(ports: &Ports, number: u64) -> bool {
+    match ports.publishers.get(number) {
+        Some(port) => ties_all(&port.ties, ports.subscriber_list.listed()),
         None => false,
     }
 }
 
-fn subscriber_ties_all(domain: &Numbers, number: u64) -> bool {
-    match domain.state.ports.subscribers.get(number) {
-        Some(port) => ties_all(&port.places, domain.state.ports.publisher_list.listed()),
+fn subscriber_ties_all(ports: &Ports, number: u64) -> bool {
+    match ports.subscribers.get(number) {
+        Some(port) => ties_all(&port.places, ports.publisher_list.listed()),
         None => false,
     }
 }
 
-// A publisher comes, with all its connections.
-fn publish(alloc: Global, domain: &mut Numbers, plan: Plan) -> Result<bool, AllocError> {
-    let number = publisher(alloc, domain, plan)?;
-    in_memory(publisher_ties_all(domain, number))
-}
-
-// So does a subscriber.
-fn subscribe(
-    alloc: Global,
-    domain: &mut Numbers,
-    buffer_size: Option<usize>,
-) -> Result<bool, AllocError> {
-    let number = subscriber(alloc, domain, buffer_size)?;
-    in_memory(subscriber_ties_all(domain, number))
-}
-
-// The number of the publisher at a place.
-fn publisher_at(domain: &Numbers, place: usize) -> Option<u64> {
-    let listed = domain.state.ports.publisher_list.listed();
-    Some(listed.get(place)?.as_ref()?.value.publisher)
-}
-
-// That of the subscriber at a place.
-fn subscriber_at(domain: &Numbers, place: usize) -> Option<u64> {
-    let listed = domain.state.ports.subscriber_list.listed();
-    Some(listed.get(place)?.as_ref()?.value.subscriber)
-}
-
-fn follows(answer: Option<Result<(), ConnectionFailure>>) -> Result<(), AllocError> {
-    match answer {
-        Some(Ok(())) => Ok(()),
-        _ => Err(AllocError),
+// Whether a publisher comes, with all its connections.
+fn publish(alloc: Global, state: &mut State, plan: &Plan) -> bool {
+    let Ok(backpressure) = backpressure(alloc, plan.answering) else {
+        return false;
+    };
+    let by = Handlers {
+        strategy: plan.strategy,
+        backpressure,
+        degradation: DegradationHandler::Fixed(DegradationAction::DegradeAndFail),
+    };
+    let slots = PreallocatedSamplesOverride::WorstCase;
+    match state.create_publisher(alloc, plan.config, (), &slots, by) {
+        Ok(number) => publisher_ties_all(&state.ports, number),
+        Err(_) => false,
     }
 }
 
-// The ports at a place, if there are any, follow the others.
-fn meet_at(alloc: Global, domain: &mut Numbers, place: usize) -> Result<(), AllocError> {
-    if let Some(number) = publisher_at(domain, place) {
-        follows(domain.state.update_publisher(alloc, number))?;
+// Whether a subscriber comes, with all its connections.
+fn subscribe(alloc: Global, state: &mut State, buffer_size: Option<usize>) -> bool {
+    let by = DegradationHandler::Fixed(DegradationAction::DegradeAndFail);
+    let config = SubscriberConfig {
+        owner: OWNER,
+        buffer_size,
+    };
+    match state.create_subscriber(alloc, config, by) {
+        Ok(number) => subscriber_ties_all(&state.ports, number),
+        Err(_) => false,
     }
-    if let Some(number) = subscriber_at(domain, place) {
-        follows(domain.state.update_subscriber(alloc, number))?;
-    }
-    Ok(())
 }
 
-// All do.
-fn meet(alloc: Global, domain: &mut Numbers) -> Result<bool, AllocError> {
-    let publishers = domain.state.ports.publisher_list.listed().len();
-    let subscribers = domain.state.ports.subscriber_list.listed().len();
-    for place in 0..publishers.max(subscribers) {
-        meet_at(alloc, domain, place)?;
-    }
-    Ok(true)
-}
-
-// So many subscribers come, then as many publishers, and all follow the others.
-fn crowd(alloc: Global, domain: &mut Numbers, count: u64) -> Result<bool, AllocError> {
-    for place in 0..count.saturating_mul(2) {
-        if place < count {
-            subscribe(alloc, domain, None)?;
-        } else {
-            publish(alloc, domain, Plan::Plain)?;
+// Whether all ports follow the others.
+fn meet(alloc: Global, state: &mut State) -> bool {
+    for number in 1..state.ports.next_port {
+        let answers = [
+            state.update_publisher(alloc, number),
+            state.update_subscriber(alloc, number),
+        ];
+        if !answers.contains(&Some(Ok(()))) {
+            return false;
         }
     }
-    meet(alloc, domain)
+    true
 }
 
-// The slot that a publisher lends.
-fn lent(alloc: Global, domain: &mut Numbers, number: u64) -> Result<usize, AllocError> {
-    match domain.state.loan(alloc, number, 1, 1) {
-        Some(Ok(slot)) => Ok(slot),
-        _ => Err(AllocError),
+// Whether so many subscribers come, then as many publishers, and all follow the others.
+fn crowd(alloc: Global, state: &mut State, count: u64) -> bool {
+    for place in 0..count.saturating_mul(2) {
+        let came = if place < count {
+            subscribe(alloc, state, None)
+        } else {
+            publish(alloc, state, &PLAIN)
+        };
+        if !came {
+            return false;
+        }
     }
+    meet(alloc, state)
 }
 
-fn told(answer: Option<Result<Sent, SendError>>) -> Result<Told, AllocError> {
-    match answer {
-        Some(Ok(Sent::Delivered(count))) => Ok(Told::To(count as u64)),
-        Some(Ok(Sent::Blocked)) => Ok(Told::Waits),
-        Some(Err(SendError::UnableToDeliver)) => Ok(Told::Fails),
-        Some(Err(SendError::ConnectionError(_))) => Err(AllocError),
-        _ => Ok(Told::Otherwise),
-    }
-}
-
-/// What comes of a value that the publisher at a place sends.
-pub(crate) fn send(
+// What comes of a value that a publisher sends.
+fn send(
     alloc: Global,
-    domain: &mut Numbers,
-    place: usize,
+    state: &mut State,
+    number: u64,
     value: u64,
-) -> Result<Told, AllocError> {
-    let Some(number) = publisher_at(domain, place) else {
-        return Ok(Told::Otherwise);
+) -> Option<Result<Sent, SendError>> {
+    let Some(Ok(slot)) = state.loan(alloc, number, 1, 1) else {
+        return None;
     };
-    let slot = lent(alloc, domain, number)?;
-    domain
-        .state
+    state
         .ports
         .write_payload(number, slot, in_both_words(value));
-    told(domain.state.send(alloc, number, slot))
+    state.send(alloc, number, slot)
 }
 
 // Whether nobody takes any of so many values that it sends, from 0 on.
-fn fill(alloc: Global, domain: &mut Numbers, place: usize, count: u64) -> Result<bool, AllocError> {
+fn fill(alloc: Global, state: &mut State, number: u64, count: u64) -> Result<bool, AllocError> {
     for value in 0..count {
-        if send(alloc, domain, place, value)? != Told::To(0) {
-            return Ok(false);
+        match send(alloc, state, number, value) {
+            Some(Ok(Sent::Delivered(0))) => {}
+            Some(Ok(_)) => return Ok(false),
+            _ => return Err(AllocError),
         }
     }
     Ok(true)
 }
 
-// What the subscriber at a place receives.
-fn received(
-    alloc: Global,
-    domain: &mut Numbers,
-    place: usize,
-) -> Result<Option<Taken>, AllocError> {
-    let Some(number) = subscriber_at(domain, place) else {
-        return Err(AllocError);
+// What a subscriber receives.
+fn received(alloc: Global, state: &mut State, number: u64) -> Option<Taken> {
+    match state.receive(alloc, number) {
+        Some(Ok(taken)) => taken,
+        _ => None,
+    }
+}
+
+// Whether it receives nothing.
+fn gets_nothing(alloc: Global, state: &mut State, number: u64) -> bool {
+    matches!(state.receive(alloc, number), Some(Ok(None)))
+}
+
+// Whether a sample has this value.
+fn has_value(ports: &Ports, sample: Taken, value: u64) -> bool {
+    ports.payload(sample) == Some(&[in_both_words(value)])
+}
+
+// Whether its message has this number.
+fn has_sequence(ports: &Ports, sample: Taken, sequence: u64) -> bool {
+    match ports.header(sample) {
+        Some(header) => header.sequence() == Some(sequence),
+        None => false,
+    }
+}
+
+// Whether a subscriber receives this message, and gives it back.
+fn gets(alloc: Global, state: &mut State, number: u64, sequence: u64, value: u64) -> bool {
+    let Some(sample) = received(alloc, state, number) else {
+        return false;
     };
-    match domain.state.receive(alloc, number) {
-        Some(Ok(taken)) => Ok(taken),
-        _ => Err(AllocError),
-    }
+    has_sequence(&state.ports, sample, sequence)
+        && has_value(&state.ports, sample, value)
+        && state.ports.release(number, sample)
 }
 
-/// Gives a sample back, if it is its subscriber's.
-pub(crate) fn release(domain: &mut Numbers, sample: Taken) -> bool {
-    domain.state.ports.release(sample.subscriber, sample)
-}
-
-// The value of a sample.
-fn value_of(domain: &Numbers, sample: Taken) -> Option<u64> {
-    let value = *domain.state.ports.payload(sample)?.first()?;
-    Some(number_in(value))
-}
-
-// The number of a sample's message, and its value.
-fn message_of(domain: &Numbers, sample: Taken) -> Option<(u64, u64)> {
-    let sequence = domain.state.ports.header(sample)?.sequence()?;
-    Some((sequence, value_of(domain, sample)?))
-}
-
-/// The sample of this value that the subscriber at a place receives, and holds.
-pub(crate) fn hold(
+// Whether it receives this value; the sample is kept.
+fn holds(
     alloc: Global,
-    domain: &mut Numbers,
-    place: usize,
+    state: &mut State,
+    kept: &mut Option<Taken>,
+    number: u64,
     value: u64,
-) -> Result<Option<Taken>, AllocError> {
-    match received(alloc, domain, place)? {
-        Some(sample) if value_of(domain, sample) == Some(value) => Ok(Some(sample)),
-        _ => Ok(None),
+) -> bool {
+    *kept = received(alloc, state, number);
+    match *kept {
+        Some(sample) => has_value(&state.ports, sample, value),
+        None => false,
     }
 }
 
-/// Whether the subscriber at a place receives this message and gives it back, or else nothing.
-pub(crate) fn gets(
+// Whether the sample that is kept is given back.
+fn frees(ports: &mut Ports, kept: &Option<Taken>) -> bool {
+    match *kept {
+        Some(sample) => ports.release(sample.subscriber, sample),
+        None => false,
+    }
+}
+
+// Whether a publisher is listed once more.
+fn relists(ports: &mut Ports, publisher: u64) -> bool {
+    let entry = PublisherEntry { publisher };
+    ports.publisher_list.enter(entry).is_some()
+}
+
+/// Whether it comes.
+pub(crate) fn comes(
     alloc: Global,
-    domain: &mut Numbers,
-    place: usize,
-    wanted: Option<(u64, u64)>,
+    domain: &mut Option<Numbers>,
+    step: &Arrival,
 ) -> Result<bool, AllocError> {
-    match received(alloc, domain, place)? {
-        Some(sample) => {
-            Ok(wanted.is_some() && message_of(domain, sample) == wanted && release(domain, sample))
-        }
-        None => Ok(wanted.is_none()),
-    }
+    let Some(domain) = domain else {
+        return Ok(false);
+    };
+    let state = &mut domain.state;
+    in_memory(match step {
+        Arrival::Publisher(plan) => publish(alloc, state, plan),
+        Arrival::Subscriber(buffer_size) => subscribe(alloc, state, *buffer_size),
+        Arrival::Crowd(count) => crowd(alloc, state, *count),
+        Arrival::Meeting => meet(alloc, state),
+        Arrival::Fill(number, count) => return fill(alloc, state, *number, *count),
+    })
 }
 
-// Whether the subscriber at a place leaves.
-fn depart(domain: &mut Numbers, place: usize) -> bool {
-    match subscriber_at(domain, place) {
-        Some(number) => domain.state.leave_subscriber(number),
-        None => false,
-    }
-}
-
-// Whether the publisher at a place is listed once more, as no call lists it.
-fn relist(domain: &mut Numbers, place: usize) -> bool {
-    match publisher_at(domain, place) {
-        Some(publisher) => {
-            let entry = PublisherEntry { publisher };
-            domain.state.ports.publisher_list.enter(entry).is_some()
-        }
-        None => false,
-    }
-}
-
-/// Whether a step goes so of those that a domain alone makes.
-pub(crate) fn goes(alloc: Global, domain: &mut Numbers, step: &Step) -> Result<bool, AllocError> {
+/// Whether a step goes so.
+pub(crate) fn goes(
+    alloc: Global,
+    domain: &mut Option<Numbers>,
+    kept: &mut Option<Taken>,
+    step: &InDomain,
+) -> bool {
+    let Some(domain) = domain else {
+        return false;
+    };
+    let state = &mut domain.state;
     match *step {
-        Step::Publish(plan) => publish(alloc, domain, plan),
-        Step::Subscribe(buffer_size) => subscribe(alloc, domain, buffer_size),
-        Step::Crowd(count) => crowd(alloc, domain, count),
-        Step::Meet => meet(alloc, domain),
-        Step::Fills(place, count) => fill(alloc, domain, place, count),
-        Step::Departs(place) => Ok(depart(domain, place)),
-        Step::Relists(place) => Ok(relist(domain, place)),
-        _ => Ok(false),
+        InDomain::Sends(number, value, answer) => send(alloc, state, number, value) == Some(answer),
+        InDomain::Gets(number, sequence, value) => gets(alloc, state, number, sequence, value),
+        InDomain::Nothing(number) => gets_nothing(alloc, state, number),
+        InDomain::Departs(number) => state.leave_subscriber(number),
+        InDomain::Relists(number) => relists(&mut state.ports, number),
+        InDomain::Holds(number, value) => holds(alloc, state, kept, number, value),
+        InDomain::Frees => frees(&mut state.ports, kept),
     }
 }

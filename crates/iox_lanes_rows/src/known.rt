@@ -1,8 +1,8 @@
 //! What is known of the ports of lanes beside them: what was written and sent, and a plain mailbox for each connection.
 use crate::stepping::{last_call, order, words_read};
 use iox_lanes::{
-    Act, Answer, Call, CallName, FinishedCall, Lanes, Link, LoanAnswer, Move, Party, Placed,
-    PopAnswer, PushAnswer, Receipt, RingKind,
+    Act, Answer, Call, CallName, FinishedCall, Lanes, LoanAnswer, Move, Party, Placed, PopAnswer,
+    PushAnswer, Receipt,
 };
 use std::alloc::{AllocError, Global};
 
@@ -107,11 +107,11 @@ fn oldest(waits: &mut Vec<u64>) -> Option<u64> {
     }
 }
 
-// How many messages may wait in a plain mailbox, and whether it refuses one more.
+/// How many messages may wait in a plain mailbox, and whether it refuses one more.
 #[derive(Clone, Copy)]
-struct Room {
-    limit: u64,
-    refuses: bool,
+pub(crate) struct Room {
+    pub(crate) limit: u64,
+    pub(crate) refuses: bool,
 }
 
 // What a plain mailbox answers to one more.
@@ -153,18 +153,11 @@ fn is_mailbox(waits: &mut Vec<u64>, room: Room, order: &[Placed]) -> Result<bool
     Ok(!order.is_empty())
 }
 
-fn room_of(link: &Link) -> Room {
-    Room {
-        limit: link.limit(),
-        refuses: link.kind() == RingKind::Refusing,
-    }
-}
-
 /// Whether all are.
-pub(crate) fn are_mailboxes(alloc: Global, lanes: &Lanes) -> Result<bool, AllocError> {
-    for (connection, link) in lanes.lanes().links().iter().enumerate() {
+pub(crate) fn are_mailboxes(alloc: Global, lanes: &Lanes, room: Room) -> Result<bool, AllocError> {
+    for connection in 0..lanes.lanes().links().len() {
         let order = order(lanes, connection as u64);
-        if !is_mailbox(&mut Vec::new(alloc), room_of(link), order)? {
+        if !is_mailbox(&mut Vec::new(alloc), room, order)? {
             return Ok(false);
         }
     }

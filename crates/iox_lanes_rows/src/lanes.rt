@@ -1,11 +1,76 @@
-//! What the ports of lanes send and receive, by whole calls. Messages have numbers.
-use crate::domain::{in_both_words, number_in};
-use crate::stepping::{step, whole, whole_counted};
-use crate::worlds::{Pace, Told};
+//! What the ports of lanes send and receive, by whole calls. Messages have numbers, and ports go by their places.
+use crate::changes::NumberLanes;
+use crate::domain::in_both_words;
+use crate::stepping::{MOST_STEPS, step, whole};
 use iox_lanes::{
-    Answer, Call, Lanes, LoanAnswer, Move, Party, Receipt, SendAnswer, Stepped, WithSequence,
+    Answer, Call, Delivery, Lanes, LoanAnswer, Move, Party, Receipt, SendAnswer, Stepped,
+    WithSequence,
 };
 use std::alloc::{AllocError, Global};
+
+/// How many steps a loan may have, and a send.
+#[derive(Clone, Copy)]
+pub(crate) struct Pace {
+    pub(crate) loan: u64,
+    pub(crate) send: u64,
+}
+
+/// That of any loan and any send.
+pub(crate) const ANY: Pace = Pace {
+    loan: MOST_STEPS,
+    send: MOST_STEPS,
+};
+
+/// What is done by lanes, and what comes of it.
+#[derive(Clone, Copy)]
+pub(crate) enum InLanes {
+    /// A publisher sends a value. Its loan gets a slot at this pace, and its send has no more steps.
+    Sends(usize, u64, SendAnswer, Pace),
+    /// A subscriber receives the message of this number and this value, and gives it back.
+    Gets(usize, u64, u64),
+    /// A subscriber receives nothing.
+    Nothing(usize),
+    /// A publisher lends a slot, and keeps it.
+    Lends(usize),
+    /// A subscriber receives a message, and keeps the sample.
+    Borrows(usize),
+    /// A message is kept under this number, of this sequence number and this value.
+    Knows(usize, u64, u64),
+    /// The order of a connection has at a place the message of this number, or none.
+    Orders(u64, usize, Option<usize>),
+    /// A subscriber begins to receive, and doesn't go on.
+    Begins(usize),
+}
+
+/// No connection takes a message, as there is none.
+pub(crate) const TO_NONE: SendAnswer = SendAnswer::Delivered(Delivery {
+    taken: 0,
+    refused: 0,
+});
+
+/// The only one takes it.
+pub(crate) const TO_ONE: SendAnswer = SendAnswer::Delivered(Delivery {
+    taken: 1,
+    refused: 0,
+});
+
+/// Both take it.
+pub(crate) const TO_TWO: SendAnswer = SendAnswer::Delivered(Delivery {
+    taken: 2,
+    refused: 0,
+});
+
+/// The only one is full, and is passed over.
+pub(crate) const TO_FULL: SendAnswer = SendAnswer::Delivered(Delivery {
+    taken: 0,
+    refused: 1,
+});
+
+/// The only one is full, and the send fails.
+pub(crate) const FULL: SendAnswer = SendAnswer::UnableToDeliver(Delivery {
+    taken: 0,
+    refused: 1,
+});
 
 /// The user header of what is sent: the send sets the number.
 pub(crate) const USER_HEADER: WithSequence<()> = WithSequence {
@@ -13,83 +78,72 @@ pub(crate) const USER_HEADER: WithSequence<()> = WithSequence {
     user_header: (),
 };
 
-/// A message, by its number and its value.
-pub(crate) fn numbered(values: (WithSequence<()>, u128)) -> (u64, u64) {
-    (values.0.sequence, number_in(values.1))
-}
-
-/// What a send comes to that answered so.
-pub(crate) fn told(answer: SendAnswer) -> Told {
-    match answer {
-        SendAnswer::Delivered(delivery) => Told::To(delivery.taken),
-        SendAnswer::UnableToDeliver(_) => Told::Fails,
+/// Whether these are the values of this message.
+pub(crate) fn are_values(
+    values: Option<(WithSequence<()>, u128)>,
+    sequence: u64,
+    value: u64,
+) -> bool {
+    match values {
+        Some((header, came)) => header.sequence == sequence && came == in_both_words(value),
+        None => false,
     }
 }
 
-// What comes of a loan that is written so and sent.
-fn send_loan(lanes: &mut Lanes, party: Party, loan: u64, write: Call) -> Told {
-    if whole(lanes, party, write) != Some(Answer::Written) {
-        return Told::Otherwise;
-    }
-    match whole(lanes, party, Call::Send { loan }) {
-        Some(Answer::Sent(answer)) => told(answer),
-        _ => Told::Otherwise,
+// The slot that a publisher lends, within so many steps.
+fn lent(lanes: &mut Lanes, party: Party, most: u64) -> Option<u64> {
+    match whole(lanes, party, Call::LoanUninit, most) {
+        Some(Answer::Lent(LoanAnswer::Slot(loan))) => Some(loan),
+        _ => None,
     }
 }
 
-/// What comes of a value that the publisher at a place sends.
-pub(crate) fn send(
+// What a loan's send answers that is written so, within so many steps.
+fn send_loan(lanes: &mut Lanes, party: Party, loan: u64, write: Call, most: u64) -> Option<Answer> {
+    if whole(lanes, party, write, MOST_STEPS) == Some(Answer::Written) {
+        whole(lanes, party, Call::Send { loan }, most)
+    } else {
+        None
+    }
+}
+
+// Whether a value that the publisher at a place sends at this pace is answered so.
+fn sends(
     alloc: Global,
     lanes: &mut Lanes,
     place: usize,
     value: u64,
-) -> Result<Told, AllocError> {
-    let party = Party::Publisher(place);
-    let Some(Answer::Lent(LoanAnswer::Slot(loan))) = whole(lanes, party, Call::LoanUninit) else {
-        return Ok(Told::Otherwise);
-    };
-    let write = Call::write(alloc, loan, &in_both_words(value), &USER_HEADER)?;
-    Ok(send_loan(lanes, party, loan, write))
-}
-
-// The answer of a call that has no more than so many steps.
-fn within(lanes: &mut Lanes, party: Party, call: Call, most: u64) -> Option<Answer> {
-    let (answer, steps) = whole_counted(lanes, party, call)?;
-    if steps <= most { Some(answer) } else { None }
-}
-
-/// Whether a value that the publisher at a place sends gets a slot and goes out, each within so many steps.
-pub(crate) fn paces(
-    alloc: Global,
-    lanes: &mut Lanes,
-    place: usize,
-    value: u64,
+    answer: SendAnswer,
     pace: Pace,
 ) -> Result<bool, AllocError> {
     let party = Party::Publisher(place);
-    let lent = within(lanes, party, Call::LoanUninit, pace.loan);
-    let Some(Answer::Lent(LoanAnswer::Slot(loan))) = lent else {
+    let Some(loan) = lent(lanes, party, pace.loan) else {
         return Ok(false);
     };
     let write = Call::write(alloc, loan, &in_both_words(value), &USER_HEADER)?;
-    let written = whole(lanes, party, write).is_some();
-    Ok(written && within(lanes, party, Call::Send { loan }, pace.send).is_some())
+    Ok(send_loan(lanes, party, loan, write, pace.send) == Some(Answer::Sent(answer)))
 }
 
-/// Whether the subscriber at a place receives a message, and keeps it.
-pub(crate) fn borrows(lanes: &mut Lanes, place: usize) -> bool {
-    let received = whole(lanes, Party::Subscriber(place), Call::Receive);
-    matches!(received, Some(Answer::Received(Receipt::Taken { .. })))
+// The slot of the message that the subscriber at a place receives.
+fn received(lanes: &mut Lanes, place: usize) -> Option<u64> {
+    match whole(lanes, Party::Subscriber(place), Call::Receive, MOST_STEPS) {
+        Some(Answer::Received(Receipt::Taken { slot, .. })) => Some(slot),
+        _ => None,
+    }
 }
 
-// The message that is kept under a number.
-fn kept(lanes: &Lanes, number: usize) -> Option<(u64, u64)> {
-    Some(numbered(lanes.message(number)?.values()?))
+// Whether it receives nothing.
+fn gets_nothing(lanes: &mut Lanes, place: usize) -> bool {
+    let received = whole(lanes, Party::Subscriber(place), Call::Receive, MOST_STEPS);
+    received == Some(Answer::Received(Receipt::Nothing))
 }
 
-/// Whether this message is kept under a number.
-pub(crate) fn knows(lanes: &Lanes, number: usize, wanted: (u64, u64)) -> bool {
-    kept(lanes, number) == Some(wanted)
+// Whether a message is kept under a number.
+fn knows(lanes: &Lanes, number: usize, sequence: u64, value: u64) -> bool {
+    match lanes.message(number) {
+        Some(message) => are_values(message.values(), sequence, value),
+        None => false,
+    }
 }
 
 /// Whether an entry of a connection's order puts or takes the message of this number, or else none.
@@ -100,38 +154,50 @@ pub(crate) fn orders(lanes: &Lanes, connection: u64, at: usize, wanted: Option<u
     }
 }
 
-/// Whether the publisher at a place lends a slot.
-pub(crate) fn lends(lanes: &mut Lanes, place: usize) -> bool {
-    whole(lanes, Party::Publisher(place), Call::LoanUninit).is_some()
-}
-
-/// Whether the subscriber at a place begins to receive.
-pub(crate) fn begins(lanes: &mut Lanes, place: usize) -> bool {
+// Whether the subscriber at a place begins to receive.
+fn begins(lanes: &mut Lanes, place: usize) -> bool {
     let begin = Move::Begin(Call::Receive);
     step(lanes, Party::Subscriber(place), &begin) == Stepped::Went
 }
 
-// The message that a read gave from there on.
-fn message(lanes: &Lanes, from: usize) -> Option<(u64, u64)> {
-    Some(numbered(lanes.values(from)?))
-}
-
-// Whether a sample is read as this message, and given back.
-fn takes(lanes: &mut Lanes, party: Party, sample: u64, wanted: Option<(u64, u64)>) -> bool {
-    let Some(Answer::Read { from }) = whole(lanes, party, Call::Read { sample }) else {
-        return false;
-    };
-    wanted.is_some()
-        && message(lanes, from) == wanted
-        && whole(lanes, party, Call::Release { sample }) == Some(Answer::Released(true))
-}
-
-/// Whether the subscriber at a place receives this message and gives it back, or else nothing.
-pub(crate) fn gets(lanes: &mut Lanes, place: usize, wanted: Option<(u64, u64)>) -> bool {
-    let party = Party::Subscriber(place);
-    match whole(lanes, party, Call::Receive) {
-        Some(Answer::Received(Receipt::Taken { slot, .. })) => takes(lanes, party, slot, wanted),
-        Some(Answer::Received(Receipt::Nothing)) => wanted.is_none(),
+// Whether a sample is read as this message.
+fn reads(lanes: &mut Lanes, party: Party, sample: u64, sequence: u64, value: u64) -> bool {
+    match whole(lanes, party, Call::Read { sample }, MOST_STEPS) {
+        Some(Answer::Read { from }) => are_values(lanes.values(from), sequence, value),
         _ => false,
     }
+}
+
+// Whether the subscriber at a place receives this message and gives it back.
+fn gets(lanes: &mut Lanes, place: usize, sequence: u64, value: u64) -> bool {
+    let Some(sample) = received(lanes, place) else {
+        return false;
+    };
+    let party = Party::Subscriber(place);
+    reads(lanes, party, sample, sequence, value)
+        && whole(lanes, party, Call::Release { sample }, MOST_STEPS) == Some(Answer::Released(true))
+}
+
+/// Whether a step goes so.
+pub(crate) fn goes(
+    alloc: Global,
+    opened: &mut Option<NumberLanes>,
+    step: &InLanes,
+) -> Result<bool, AllocError> {
+    let Some(opened) = opened else {
+        return Ok(false);
+    };
+    let lanes = &mut opened.lanes;
+    Ok(match *step {
+        InLanes::Sends(place, value, answer, pace) => {
+            return sends(alloc, lanes, place, value, answer, pace);
+        }
+        InLanes::Gets(place, sequence, value) => gets(lanes, place, sequence, value),
+        InLanes::Nothing(place) => gets_nothing(lanes, place),
+        InLanes::Lends(place) => lent(lanes, Party::Publisher(place), MOST_STEPS).is_some(),
+        InLanes::Borrows(place) => received(lanes, place).is_some(),
+        InLanes::Knows(number, sequence, value) => knows(lanes, number, sequence, value),
+        InLanes::Orders(connection, at, number) => orders(lanes, connection, at, number),
+        InLanes::Begins(place) => begins(lanes, place),
+    })
 }

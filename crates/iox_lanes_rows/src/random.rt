@@ -2,7 +2,8 @@
 ghost use Rattle.std.specs.Prelude.{◌≡◌};
 
 use crate::answers::hold;
-use crate::known::{Known, NOTHING, SLOTS, are_mailboxes, begun, is_answered, kept, last_at};
+use crate::calls::{Asked, call};
+use crate::known::{Known, NOTHING, Room, SLOTS, are_mailboxes, begun, is_answered, kept, last_at};
 use crate::stepping::{new_lanes, step};
 use iox_lanes::{Call, LaneSizes, Lanes, Move, Party, RingKind, Stepped};
 use std::alloc::{AllocError, Global};
@@ -47,34 +48,53 @@ fn drawn(known: &mut Known) -> u64 {
     }
 }
 
-fn party(number: u64) -> Party {
-    match number {
-        0 => Party::Publisher(0),
-        1 => Party::Publisher(1),
-        2 => Party::Subscriber(0),
-        3 => Party::Subscriber(1),
-        _ => Party::Subscriber(2),
-    }
-}
+const PARTIES: [Party; 5] = [
+    Party::Publisher(0),
+    Party::Publisher(1),
+    Party::Subscriber(0),
+    Party::Subscriber(1),
+    Party::Subscriber(2),
+];
 
-// A call of a publisher on a slot, which writes this value if it writes.
-fn sending(alloc: Global, kind: u64, loan: u64, value: u64) -> Result<Call, AllocError> {
-    match kind {
-        0 => Ok(Call::DropLoan { loan }),
-        1..=5 => Ok(Call::LoanUninit),
-        6..=10 => Ok(Call::Send { loan }),
-        _ => Call::write(alloc, loan, &value, &()),
-    }
-}
+// What a publisher asks for, by chance.
+const SENDING: [Asked; 16] = [
+    Asked::GiveUp,
+    Asked::Lend,
+    Asked::Lend,
+    Asked::Lend,
+    Asked::Lend,
+    Asked::Lend,
+    Asked::Send,
+    Asked::Send,
+    Asked::Send,
+    Asked::Send,
+    Asked::Send,
+    Asked::Write,
+    Asked::Write,
+    Asked::Write,
+    Asked::Write,
+    Asked::Write,
+];
 
-// A call of a subscriber on a slot.
-fn receiving(kind: u64, sample: u64) -> Call {
-    match kind {
-        0..=5 => Call::Receive,
-        6..=9 => Call::Read { sample },
-        _ => Call::Release { sample },
-    }
-}
+// What a subscriber asks for.
+const RECEIVING: [Asked; 16] = [
+    Asked::Receive,
+    Asked::Receive,
+    Asked::Receive,
+    Asked::Receive,
+    Asked::Receive,
+    Asked::Receive,
+    Asked::Read,
+    Asked::Read,
+    Asked::Read,
+    Asked::Read,
+    Asked::Release,
+    Asked::Release,
+    Asked::Release,
+    Asked::Release,
+    Asked::Release,
+    Asked::Release,
+];
 
 // A slot by chance, mostly the one that a party got last.
 fn slot(known: &mut Known, party: Party) -> u64 {
@@ -85,14 +105,13 @@ fn slot(known: &mut Known, party: Party) -> u64 {
     }
 }
 
-// A call of a party by chance.
-fn asked(alloc: Global, known: &mut Known, party: Party, value: u64) -> Result<Call, AllocError> {
-    let kind = chance(known, 16);
-    let slot = slot(known, party);
-    match party {
-        Party::Publisher(_) => sending(alloc, kind, slot, value),
-        Party::Subscriber(_) => Ok(receiving(kind, slot)),
-    }
+// What a party asks for, of which there are sixteen.
+fn asked(party: Party, kind: u64) -> Asked {
+    let kinds = match party {
+        Party::Publisher(_) => &SENDING,
+        Party::Subscriber(_) => &RECEIVING,
+    };
+    kinds[(kind % 16) as usize]
 }
 
 // A party begins this call, if it fits.
@@ -105,12 +124,13 @@ fn begin(known: &mut Known, lanes: &mut Lanes, party: Party, call: Call) {
 
 // One entry by chance; whether what it gave is right.
 fn goes(alloc: Global, known: &mut Known, lanes: &mut Lanes) -> Result<bool, AllocError> {
-    let party = party(drawn(known));
+    let party = PARTIES[(drawn(known) % 5) as usize];
     match step(lanes, party, &Move::GoOn) {
         Stepped::Finished => Ok(is_answered(known, lanes)),
         Stepped::Went => Ok(true),
         Stepped::Skipped => {
-            let call = asked(alloc, known, party, lanes.lanes().moments())?;
+            let asked = asked(party, chance(known, 16));
+            let call = call(alloc, asked, slot(known, party), lanes.lanes().moments())?;
             begin(known, lanes, party, call);
             Ok(true)
         }
@@ -131,14 +151,18 @@ fn all_go(alloc: Global, lanes: &mut Lanes) -> Result<bool, AllocError> {
     Ok(known.reads > ENTRIES / 1000)
 }
 
-// Whether lanes on which nothing was done go right.
-fn go_on(alloc: Global, lanes: &mut Lanes) -> Result<bool, AllocError> {
-    Ok(all_go(alloc, lanes)? && are_mailboxes(alloc, lanes)?)
+// Whether lanes of this kind go right, on which nothing was done.
+fn go_on(alloc: Global, lanes: &mut Lanes, kind: RingKind) -> Result<bool, AllocError> {
+    let room = Room {
+        limit: 2,
+        refuses: kind == RingKind::Refusing,
+    };
+    Ok(all_go(alloc, lanes)? && are_mailboxes(alloc, lanes, room)?)
 }
 
 // Whether new lanes of this kind do.
 fn go(alloc: Global, kind: RingKind) -> Result<bool, AllocError> {
-    go_on(alloc, &mut new_lanes(alloc, crowd(kind))?)
+    go_on(alloc, &mut new_lanes(alloc, crowd(kind))?, kind)
 }
 
 #[test]

@@ -1,7 +1,9 @@
 //! Each reason why a domain can't become lanes, and domains to which none applies any more.
-use crate::domain::{Plan, Service};
-use crate::worlds::{Case, Step, Told, go_all};
+use crate::domain::{ASKING, Arrival, FAR, GROWING, InDomain, PAIRS, PLAIN, Service, WAITING};
+use crate::lanes::{ANY, InLanes, TO_ONE};
+use crate::worlds::{Case, Step, go_all};
 use iox_describe_base::TypeVariant;
+use iox_domain_ports::Sent;
 use iox_lanes::IntoLanesError;
 use std::alloc::AllocError;
 
@@ -43,10 +45,10 @@ const CASES: [Case; 10] = [
         name: "a send that waits",
         service: &REFUSING,
         steps: &[
-            Step::Publish(Plan::Waiting),
-            Step::Subscribe(None),
-            Step::Sends(0, 5, Told::To(1)),
-            Step::Sends(0, 6, Told::Waits),
+            Step::Comes(Arrival::Publisher(WAITING)),
+            Step::Comes(Arrival::Subscriber(None)),
+            Step::Domain(InDomain::Sends(1, 5, Ok(Sent::Delivered(1)))),
+            Step::Domain(InDomain::Sends(1, 6, Ok(Sent::Blocked))),
             Step::Opens(Some(IntoLanesError::Blocked)),
         ],
     },
@@ -54,10 +56,10 @@ const CASES: [Case; 10] = [
         name: "connections that are not up to date",
         service: &OVERFLOWING,
         steps: &[
-            Step::Publish(Plan::Plain),
-            Step::Subscribe(None),
+            Step::Comes(Arrival::Publisher(PLAIN)),
+            Step::Comes(Arrival::Subscriber(None)),
             Step::Opens(Some(IntoLanesError::ConnectionsNotUpToDate)),
-            Step::Meet,
+            Step::Comes(Arrival::Meeting),
             Step::Opens(None),
         ],
     },
@@ -65,7 +67,7 @@ const CASES: [Case; 10] = [
         name: "room that may grow",
         service: &REFUSING,
         steps: &[
-            Step::Publish(Plan::Growing),
+            Step::Comes(Arrival::Publisher(GROWING)),
             Step::Opens(Some(IntoLanesError::NotStatic)),
         ],
     },
@@ -73,7 +75,7 @@ const CASES: [Case; 10] = [
         name: "an object that decides",
         service: &REFUSING,
         steps: &[
-            Step::Publish(Plan::Asking),
+            Step::Comes(Arrival::Publisher(ASKING)),
             Step::Opens(Some(IntoLanesError::HasHandlers)),
         ],
     },
@@ -81,7 +83,7 @@ const CASES: [Case; 10] = [
         name: "sends that would wait",
         service: &REFUSING,
         steps: &[
-            Step::Publish(Plan::Waiting),
+            Step::Comes(Arrival::Publisher(WAITING)),
             Step::Opens(Some(IntoLanesError::Retrying)),
         ],
     },
@@ -89,14 +91,14 @@ const CASES: [Case; 10] = [
         name: "a subscriber that left, and holds a sample",
         service: &REFUSING,
         steps: &[
-            Step::Publish(Plan::Plain),
-            Step::Subscribe(None),
-            Step::Sends(0, 7, Told::To(1)),
-            Step::Holds(0, 7),
-            Step::Departs(0),
-            Step::Sends(0, 8, Told::To(0)),
+            Step::Comes(Arrival::Publisher(PLAIN)),
+            Step::Comes(Arrival::Subscriber(None)),
+            Step::Domain(InDomain::Sends(1, 7, Ok(Sent::Delivered(1)))),
+            Step::Domain(InDomain::Holds(2, 7)),
+            Step::Domain(InDomain::Departs(2)),
+            Step::Domain(InDomain::Sends(1, 8, Ok(Sent::Delivered(0)))),
             Step::Opens(Some(IntoLanesError::Lingering)),
-            Step::Frees,
+            Step::Domain(InDomain::Frees),
             Step::Opens(None),
         ],
     },
@@ -104,7 +106,7 @@ const CASES: [Case; 10] = [
         name: "room for two values",
         service: &SLICES,
         steps: &[
-            Step::Publish(Plan::Pairs),
+            Step::Comes(Arrival::Publisher(PAIRS)),
             Step::Opens(Some(IntoLanesError::HasSlices)),
         ],
     },
@@ -112,12 +114,12 @@ const CASES: [Case; 10] = [
         name: "single values of a service of slices",
         service: &SLICES,
         steps: &[
-            Step::Publish(Plan::Plain),
-            Step::Subscribe(None),
-            Step::Meet,
+            Step::Comes(Arrival::Publisher(PLAIN)),
+            Step::Comes(Arrival::Subscriber(None)),
+            Step::Comes(Arrival::Meeting),
             Step::Opens(None),
-            Step::Sends(0, 7, Told::To(1)),
-            Step::Gets(0, 1, 7),
+            Step::Lanes(InLanes::Sends(0, 7, TO_ONE, ANY)),
+            Step::Lanes(InLanes::Gets(0, 1, 7)),
             Step::Returns(None),
         ],
     },
@@ -125,8 +127,8 @@ const CASES: [Case; 10] = [
         name: "a publisher that is listed twice",
         service: &OVERFLOWING,
         steps: &[
-            Step::Publish(Plan::Plain),
-            Step::Relists(0),
+            Step::Comes(Arrival::Publisher(PLAIN)),
+            Step::Domain(InDomain::Relists(1)),
             Step::Opens(Some(IntoLanesError::Unsound)),
         ],
     },
@@ -134,7 +136,7 @@ const CASES: [Case; 10] = [
         name: "a last number of 2^63",
         service: &OVERFLOWING,
         steps: &[
-            Step::Publish(Plan::Far),
+            Step::Comes(Arrival::Publisher(FAR)),
             Step::Opens(Some(IntoLanesError::SequenceTooLarge)),
         ],
     },

@@ -6,6 +6,9 @@ use iox_lanes::{
 };
 use std::alloc::{AllocError, Global};
 
+/// No call of a test has more steps.
+pub(crate) const MOST_STEPS: u64 = 2000;
+
 /// Lanes of these sizes, on which nothing was done yet.
 pub(crate) fn new_lanes(alloc: Global, sizes: LaneSizes) -> Result<Lanes, AllocError>
     requires { 0 < sizes.buffer }
@@ -41,25 +44,20 @@ fn step_again(lanes: &mut Lanes, party: Party, entry: &Move) -> Stepped {
     }
 }
 
-// Goes on inside a call up to its end, and gives its answer and how many steps it has, its begin among them.
-fn rest(lanes: &mut Lanes, party: Party) -> Option<(Answer, u64)> {
-    for steps in 2..2000 {
+// Goes on inside a call up to its end, and gives its answer, if it has so many steps at most, its begin among them.
+fn rest(lanes: &mut Lanes, party: Party, most: u64) -> Option<Answer> {
+    for _ in 1..most {
         if step_again(lanes, party, &Move::GoOn) == Stepped::Finished {
-            return Some((last_call(lanes)?.answer, steps));
+            return Some(last_call(lanes)?.answer);
         }
     }
     None
 }
 
-/// Makes a whole call, and gives its answer and how many steps it has.
-pub(crate) fn whole_counted(lanes: &mut Lanes, party: Party, call: Call) -> Option<(Answer, u64)> {
+/// Makes a whole call, and gives its answer, if it has so many steps at most.
+pub(crate) fn whole(lanes: &mut Lanes, party: Party, call: Call, most: u64) -> Option<Answer> {
     match step_again(lanes, party, &Move::Begin(call)) {
-        Stepped::Went => rest(lanes, party),
+        Stepped::Went => rest(lanes, party, most),
         _ => None,
     }
-}
-
-/// Makes a whole call, and gives its answer.
-pub(crate) fn whole(lanes: &mut Lanes, party: Party, call: Call) -> Option<Answer> {
-    Some(whole_counted(lanes, party, call)?.0)
 }

@@ -1,11 +1,10 @@
 //! Numbers through four threads: two publishers and two subscribers.
 use crate::answers::hold;
-use crate::service::{is_ended, opened, pair, read_eight, sent_eight};
+use crate::service::{Work, goes, read_eight, sent_eight};
 use crate::start::Start;
 use iox_lanes::{LanePublisher, LaneSubscriber, Receipt, RingKind};
-use std::alloc::{AllocError, Global};
+use std::alloc::AllocError;
 use std::sync::Wait;
-use std::sync::atomic::{AtomicU64, Ordering};
 use std::thread;
 use std::thread::Threads;
 
@@ -41,9 +40,9 @@ fn send_last(port: &mut LanePublisher, publisher: u64) -> bool {
 }
 
 // Once all run, sends all; then one publisher more is done.
-fn send_all(port: &mut LanePublisher, publisher: u64, start: &Start, done: &AtomicU64) -> bool {
+fn send_all(port: &mut LanePublisher, publisher: u64, start: &Start) -> bool {
     let well = start.all_begin(4) && send_numbers(port, publisher) && send_last(port, publisher);
-    done.fetch_add(1, Ordering::SeqCst);
+    start.one_is_done();
     well
 }
 
@@ -76,13 +75,13 @@ fn take(port: &mut LaneSubscriber, seen: &mut Seen, slot: u64) -> bool {
 }
 
 // Receives until both publishers are done and nothing waits; whether all that came was well, and the last number of each came.
-fn receive_numbers(rt: &impl Wait, port: &mut LaneSubscriber, done: &AtomicU64) -> bool {
+fn receive_numbers(rt: &impl Wait, port: &mut LaneSubscriber, start: &Start) -> bool {
     let mut seen = Seen {
         first: 0,
         second: 0,
     };
     for _ in 0..TRIES {
-        let ended = done.load(Ordering::SeqCst) == 2;
+        let ended = start.are_done(2);
         match port.receive(rt) {
             Receipt::Taken { slot, .. } => {
                 if !take(port, &mut seen, slot) {
@@ -98,64 +97,38 @@ fn receive_numbers(rt: &impl Wait, port: &mut LaneSubscriber, done: &AtomicU64) 
 }
 
 // Once all run, receives.
-fn receive_all(rt: &impl Wait, port: &mut LaneSubscriber, start: &Start, done: &AtomicU64) -> bool {
-    start.all_begin(4) && receive_numbers(rt, port, done)
+fn receive_all(rt: &impl Wait, port: &mut LaneSubscriber, start: &Start) -> bool {
+    start.all_begin(4) && receive_numbers(rt, port, start)
 }
 
-// All four in threads of their own.
-fn all_run<R: Threads + Wait + Sync>(
+/// A publisher and a subscriber in threads of their own, beside two others.
+pub(crate) fn go<R: Threads + Wait + Sync>(
     rt: &R,
-    publishers: &mut [LanePublisher],
-    subscribers: &mut [LaneSubscriber],
+    place: u64,
+    publisher: &mut LanePublisher,
+    subscriber: &mut LaneSubscriber,
     start: &Start,
 ) -> bool {
-    let Some((first, second)) = pair(publishers) else {
-        return false;
-    };
-    let Some((here, there)) = pair(subscribers) else {
-        return false;
-    };
-    let done = AtomicU64::new(0);
     let (sent, got) = thread::join(
         rt,
-        || thread::join(
-            rt,
-            || send_all(first, 0, start, &done),
-            || send_all(second, 1, start, &done),
-        ),
-        || thread::join(
-            rt,
-            || receive_all(rt, here, start, &done),
-            || receive_all(rt, there, start, &done),
-        ),
+        || send_all(publisher, place, start),
+        || receive_all(rt, subscriber, start),
     );
-    sent.0 && sent.1 && got.0 && got.1
-}
-
-// Opens, runs and ends; whether all went well.
-fn goes<R: Threads + Wait + Sync>(
-    rt: &R,
-    alloc: Global,
-    kind: RingKind,
-) -> Result<bool, AllocError> {
-    let mut threads = opened(alloc, kind, 8)?;
-    let start = Start::new();
-    let well = all_run(
-        rt,
-        &mut threads.publishers,
-        &mut threads.subscribers,
-        &start,
-    );
-    let ended = is_ended(threads);
-    start.judge(well && ended)
+    sent && got
 }
 
 #[test]
 fn numbers_rise_where_the_oldest_are_dropped(rt: HostRuntime) -> Result<(), AllocError> {
-    hold(&rt, goes(&rt, rt.alloc(), RingKind::Overflowing))
+    hold(
+        &rt,
+        goes(&rt, rt.alloc(), RingKind::Overflowing, 8, Work::Streams),
+    )
 }
 
 #[test]
 fn numbers_rise_where_the_newest_are_refused(rt: HostRuntime) -> Result<(), AllocError> {
-    hold(&rt, goes(&rt, rt.alloc(), RingKind::Refusing))
+    hold(
+        &rt,
+        goes(&rt, rt.alloc(), RingKind::Refusing, 8, Work::Streams),
+    )
 }

@@ -1,6 +1,6 @@
 //! Two threads that answer each other, each with a publisher and a subscriber.
 use crate::answers::hold;
-use crate::service::{is_ended, opened, pair, read_eight, sent_eight};
+use crate::service::{Work, goes, read_eight, sent_eight};
 use crate::start::Start;
 use iox_lanes::{LanePublisher, LaneSubscriber, Receipt, RingKind};
 use std::alloc::{AllocError, Global};
@@ -26,70 +26,35 @@ fn comes(rt: &impl Wait, port: &mut LaneSubscriber, value: u64) -> bool {
     false
 }
 
-// Once both run, sends 1, and receives until 2 comes.
-fn asks(
+/// Once both run, the first sends 1 and receives until 2 comes; the other receives until 1 comes, and sends 2.
+pub(crate) fn go(
     rt: &impl Wait,
-    sender: &mut LanePublisher,
-    receiver: &mut LaneSubscriber,
+    place: u64,
+    publisher: &mut LanePublisher,
+    subscriber: &mut LaneSubscriber,
     start: &Start,
 ) -> bool {
-    start.all_begin(2) && sent_eight(sender, 1).is_some() && comes(rt, receiver, 2)
-}
-
-// Once both run, receives until 1 comes, and sends 2.
-fn answers(
-    rt: &impl Wait,
-    sender: &mut LanePublisher,
-    receiver: &mut LaneSubscriber,
-    start: &Start,
-) -> bool {
-    start.all_begin(2) && comes(rt, receiver, 1) && sent_eight(sender, 2).is_some()
-}
-
-fn both_run<R: Threads + Wait + Sync>(
-    rt: &R,
-    publishers: &mut [LanePublisher],
-    subscribers: &mut [LaneSubscriber],
-    start: &Start,
-) -> bool {
-    let Some((first, second)) = pair(publishers) else {
+    if !start.all_begin(2) {
         return false;
-    };
-    let Some((here, there)) = pair(subscribers) else {
-        return false;
-    };
-    let (asked, answered) = thread::join(
-        rt,
-        || asks(rt, first, here, start),
-        || answers(rt, second, there, start),
-    );
-    asked && answered
+    }
+    if place == 0 {
+        sent_eight(publisher, 1).is_some() && comes(rt, subscriber, 2)
+    } else {
+        comes(rt, subscriber, 1) && sent_eight(publisher, 2).is_some()
+    }
 }
 
-// Opens, runs and ends; whether both threads ended well.
-fn goes<R: Threads + Wait + Sync>(
-    rt: &R,
-    alloc: Global,
-    kind: RingKind,
-) -> Result<bool, AllocError> {
-    let mut threads = opened(alloc, kind, 2)?;
-    let start = Start::new();
-    let well = both_run(
-        rt,
-        &mut threads.publishers,
-        &mut threads.subscribers,
-        &start,
-    );
-    let ended = is_ended(threads);
-    start.judge(well && ended)
+// Whether it goes well, be the oldest dropped at a full ring or the newest refused.
+fn both_go<R: Threads + Wait + Sync>(rt: &R, alloc: Global) -> Result<bool, AllocError> {
+    for kind in &[RingKind::Overflowing, RingKind::Refusing] {
+        if !goes(rt, alloc, *kind, 2, Work::Turns)? {
+            return Ok(false);
+        }
+    }
+    Ok(true)
 }
 
 #[test]
-fn threads_answer_where_the_oldest_are_dropped(rt: HostRuntime) -> Result<(), AllocError> {
-    hold(&rt, goes(&rt, rt.alloc(), RingKind::Overflowing))
-}
-
-#[test]
-fn threads_answer_where_the_newest_are_refused(rt: HostRuntime) -> Result<(), AllocError> {
-    hold(&rt, goes(&rt, rt.alloc(), RingKind::Refusing))
+fn threads_answer_each_other(rt: HostRuntime) -> Result<(), AllocError> {
+    hold(&rt, both_go(&rt, rt.alloc()))
 }
