@@ -3,15 +3,21 @@ use std::alloc::{AllocError, Global};
 use std::fmt::Debug;
 use std::process::Abort;
 
-/// Each answer must be true.
-pub(crate) fn hold(
-    rt: &impl Abort,
-    answers: &[Result<bool, AllocError>],
-) -> Result<(), AllocError> {
+/// Each answer must be true. What is said of another one tells a wrong answer from a want of memory.
+pub(crate) fn hold(rt: &impl Abort, answers: &[Result<bool, AllocError>]) {
     for (place, answer) in answers.iter().enumerate() {
-        assert!(rt; (*answer)?, "answer {place}");
+        assert!(rt; *answer == Ok(true), "answer {place}: {answer:?}");
     }
-    Ok(())
+}
+
+/// Whether each answer is true.
+pub(crate) fn all(answers: &[Result<bool, AllocError>]) -> Result<bool, AllocError> {
+    for answer in answers {
+        if *answer != Ok(true) {
+            return *answer;
+        }
+    }
+    Ok(true)
 }
 
 /// What a call found no memory for; None where it found all.

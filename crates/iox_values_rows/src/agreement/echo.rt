@@ -29,10 +29,3 @@ impl AnswersLines for Echo {
         out.extend_from_slice(line)
     }
 }
-
-/// Somebody who says more lines again than anyone asks for.
-pub(crate) fn full_echo() -> Echo {
-    Echo {
-        answered: usize::MAX,
-    }
-}

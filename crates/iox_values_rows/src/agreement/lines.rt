@@ -1,53 +1,36 @@
-//! The two lines of a service, and texts that are nearly one. The lines come from functions, since a constant's text stands in the proof of
+//! The lines of services, and texts that are nearly one. They come from a function, since a constant's text stands in the proof of
 //! each function that names it.
 use crate::answers::hold;
 use iox_describe::{DescriptionError, MessagingPattern, ServiceName, decode, service_hash};
 use std::alloc::{AllocError, Global};
 use std::process::Abort;
 
-/// Service `23` over slices of `u64` with a `u64` user header, at default settings. This line and those of other patterns are of
-/// version 2.
-pub(crate) fn publish_subscribe_line() -> &'static str {
-    "{\"attributes\":[],\"name\":\"23\",\"pattern\":\"publish_subscribe\",\"service_hash\":\"40bd001563085fc35165329ea1ff5c5ecbdbbeef\",\"settings\":{\"enable_safe_overflow\":true,\"history_size\":0,\"max_nodes\":20,\"max_publishers\":2,\"max_subscribers\":8,\"sequence_numbers\":false,\"subscriber_max_borrowed_samples\":2,\"subscriber_max_buffer_size\":2,\"types\":{\"header\":{\"alignment\":8,\"name\":\"Header\",\"size\":24,\"variant\":\"FixedSize\"},\"payload\":{\"alignment\":8,\"name\":\"u64\",\"size\":8,\"variant\":\"Dynamic\"},\"user_header\":{\"alignment\":8,\"name\":\"u64\",\"size\":8,\"variant\":\"FixedSize\"}}},\"version\":2}"
-}
-
-/// The line of version 1 of the same service.
-pub(crate) fn first_publish_subscribe_line() -> &'static str {
-    "{\"attributes\":[],\"name\":\"23\",\"pattern\":\"publish_subscribe\",\"service_hash\":\"40bd001563085fc35165329ea1ff5c5ecbdbbeef\",\"settings\":{\"enable_safe_overflow\":true,\"history_size\":0,\"max_nodes\":20,\"max_publishers\":2,\"max_subscribers\":8,\"subscriber_max_borrowed_samples\":2,\"subscriber_max_buffer_size\":2,\"types\":{\"header\":{\"alignment\":8,\"name\":\"Header\",\"size\":24,\"variant\":\"FixedSize\"},\"payload\":{\"alignment\":8,\"name\":\"u64\",\"size\":8,\"variant\":\"Dynamic\"},\"user_header\":{\"alignment\":8,\"name\":\"u64\",\"size\":8,\"variant\":\"FixedSize\"}}},\"version\":1}"
-}
-
-/// Event service `23` at default settings.
-pub(crate) fn event_line() -> &'static str {
-    "{\"attributes\":[],\"name\":\"23\",\"pattern\":\"event\",\"service_hash\":\"af06318c33c8e41c70083ee23dbe19426f1f9c5b\",\"settings\":{\"deadline\":null,\"event_id_max_value\":4294967295,\"max_listeners\":16,\"max_nodes\":36,\"max_notifiers\":16,\"notifier_created_event\":null,\"notifier_dead_event\":null,\"notifier_dropped_event\":null},\"version\":2}"
-}
-
-/// Request-response service `23` over slices of `u64` with `u64` user headers, at default settings.
-pub(crate) fn request_response_line() -> &'static str {
-    "{\"attributes\":[],\"name\":\"23\",\"pattern\":\"request_response\",\"service_hash\":\"1bb85661d74e2a15ba3b959218f3c3f93c7ddb88\",\"settings\":{\"enable_fire_and_forget_requests\":true,\"enable_safe_overflow_for_requests\":true,\"enable_safe_overflow_for_responses\":true,\"max_active_requests_per_client\":4,\"max_borrowed_responses_per_pending_response\":2,\"max_clients\":8,\"max_loaned_requests\":2,\"max_nodes\":20,\"max_response_buffer_size\":2,\"max_servers\":2,\"request_types\":{\"header\":{\"alignment\":8,\"name\":\"Header\",\"size\":24,\"variant\":\"FixedSize\"},\"payload\":{\"alignment\":8,\"name\":\"u64\",\"size\":8,\"variant\":\"Dynamic\"},\"user_header\":{\"alignment\":8,\"name\":\"u64\",\"size\":8,\"variant\":\"FixedSize\"}},\"response_types\":{\"header\":{\"alignment\":8,\"name\":\"Header\",\"size\":24,\"variant\":\"FixedSize\"},\"payload\":{\"alignment\":8,\"name\":\"u64\",\"size\":8,\"variant\":\"Dynamic\"},\"user_header\":{\"alignment\":8,\"name\":\"u64\",\"size\":8,\"variant\":\"FixedSize\"}}},\"version\":2}"
-}
-
-/// An event service with a deadline, three nodes, one notifier, and an event for dead notifiers.
-pub(crate) fn named_event_line() -> &'static str {
-    "{\"attributes\":[],\"name\":\"E\",\"pattern\":\"event\",\"service_hash\":\"7151c7f46996d49977f91fc77e07abbc2c588465\",\"settings\":{\"deadline\":7,\"event_id_max_value\":4294967295,\"max_listeners\":16,\"max_nodes\":3,\"max_notifiers\":1,\"notifier_created_event\":null,\"notifier_dead_event\":9,\"notifier_dropped_event\":null},\"version\":2}"
-}
-
-/// A request-response service with two attributes of one key, over three `u32` as one value and slices of `i64`.
-pub(crate) fn named_request_response_line() -> &'static str {
-    "{\"attributes\":[[\"k\",\"v\"],[\"k\",\"\"]],\"name\":\"R\",\"pattern\":\"request_response\",\"service_hash\":\"41dc32c132eeadb87457313fbdd46352c02196d1\",\"settings\":{\"enable_fire_and_forget_requests\":true,\"enable_safe_overflow_for_requests\":true,\"enable_safe_overflow_for_responses\":true,\"max_active_requests_per_client\":4,\"max_borrowed_responses_per_pending_response\":2,\"max_clients\":8,\"max_loaned_requests\":2,\"max_nodes\":20,\"max_response_buffer_size\":2,\"max_servers\":2,\"request_types\":{\"header\":{\"alignment\":8,\"name\":\"Header\",\"size\":24,\"variant\":\"FixedSize\"},\"payload\":{\"alignment\":4,\"name\":\"[u32; 3]\",\"size\":12,\"variant\":\"FixedSize\"},\"user_header\":{\"alignment\":4,\"name\":\"u32\",\"size\":4,\"variant\":\"FixedSize\"}},\"response_types\":{\"header\":{\"alignment\":8,\"name\":\"Header\",\"size\":24,\"variant\":\"FixedSize\"},\"payload\":{\"alignment\":32,\"name\":\"i64\",\"size\":8,\"variant\":\"Dynamic\"},\"user_header\":{\"alignment\":1,\"name\":\"()\",\"size\":0,\"variant\":\"FixedSize\"}}},\"version\":2}"
-}
-
-/// Whether a description was read, where memory was found.
-fn was_read(error: Option<DescriptionError>) -> Result<bool, AllocError> {
-    match error {
-        None => Ok(true),
-        Some(DescriptionError::OutOfMemory) => Err(AllocError),
-        Some(DescriptionError::Invalid | DescriptionError::NotInVersion1) => Ok(false),
-    }
+/// The lines of version 2, but for the second.
+pub(crate) fn lines() -> [&'static str; 6] {
+    [
+        // Service `23` over slices of `u64` with a `u64` user header, at default settings. This line and those of other patterns are of
+        // version 2.
+        "{\"attributes\":[],\"name\":\"23\",\"pattern\":\"publish_subscribe\",\"service_hash\":\"40bd001563085fc35165329ea1ff5c5ecbdbbeef\",\"settings\":{\"enable_safe_overflow\":true,\"history_size\":0,\"max_nodes\":20,\"max_publishers\":2,\"max_subscribers\":8,\"sequence_numbers\":false,\"subscriber_max_borrowed_samples\":2,\"subscriber_max_buffer_size\":2,\"types\":{\"header\":{\"alignment\":8,\"name\":\"Header\",\"size\":24,\"variant\":\"FixedSize\"},\"payload\":{\"alignment\":8,\"name\":\"u64\",\"size\":8,\"variant\":\"Dynamic\"},\"user_header\":{\"alignment\":8,\"name\":\"u64\",\"size\":8,\"variant\":\"FixedSize\"}}},\"version\":2}",
+        // The line of version 1 of the same service.
+        "{\"attributes\":[],\"name\":\"23\",\"pattern\":\"publish_subscribe\",\"service_hash\":\"40bd001563085fc35165329ea1ff5c5ecbdbbeef\",\"settings\":{\"enable_safe_overflow\":true,\"history_size\":0,\"max_nodes\":20,\"max_publishers\":2,\"max_subscribers\":8,\"subscriber_max_borrowed_samples\":2,\"subscriber_max_buffer_size\":2,\"types\":{\"header\":{\"alignment\":8,\"name\":\"Header\",\"size\":24,\"variant\":\"FixedSize\"},\"payload\":{\"alignment\":8,\"name\":\"u64\",\"size\":8,\"variant\":\"Dynamic\"},\"user_header\":{\"alignment\":8,\"name\":\"u64\",\"size\":8,\"variant\":\"FixedSize\"}}},\"version\":1}",
+        // Event service `23` at default settings.
+        "{\"attributes\":[],\"name\":\"23\",\"pattern\":\"event\",\"service_hash\":\"af06318c33c8e41c70083ee23dbe19426f1f9c5b\",\"settings\":{\"deadline\":null,\"event_id_max_value\":4294967295,\"max_listeners\":16,\"max_nodes\":36,\"max_notifiers\":16,\"notifier_created_event\":null,\"notifier_dead_event\":null,\"notifier_dropped_event\":null},\"version\":2}",
+        // Request-response service `23` over slices of `u64` with `u64` user headers, at default settings.
+        "{\"attributes\":[],\"name\":\"23\",\"pattern\":\"request_response\",\"service_hash\":\"1bb85661d74e2a15ba3b959218f3c3f93c7ddb88\",\"settings\":{\"enable_fire_and_forget_requests\":true,\"enable_safe_overflow_for_requests\":true,\"enable_safe_overflow_for_responses\":true,\"max_active_requests_per_client\":4,\"max_borrowed_responses_per_pending_response\":2,\"max_clients\":8,\"max_loaned_requests\":2,\"max_nodes\":20,\"max_response_buffer_size\":2,\"max_servers\":2,\"request_types\":{\"header\":{\"alignment\":8,\"name\":\"Header\",\"size\":24,\"variant\":\"FixedSize\"},\"payload\":{\"alignment\":8,\"name\":\"u64\",\"size\":8,\"variant\":\"Dynamic\"},\"user_header\":{\"alignment\":8,\"name\":\"u64\",\"size\":8,\"variant\":\"FixedSize\"}},\"response_types\":{\"header\":{\"alignment\":8,\"name\":\"Header\",\"size\":24,\"variant\":\"FixedSize\"},\"payload\":{\"alignment\":8,\"name\":\"u64\",\"size\":8,\"variant\":\"Dynamic\"},\"user_header\":{\"alignment\":8,\"name\":\"u64\",\"size\":8,\"variant\":\"FixedSize\"}}},\"version\":2}",
+        // An event service with a deadline, three nodes, one notifier, and an event for dead notifiers.
+        "{\"attributes\":[],\"name\":\"E\",\"pattern\":\"event\",\"service_hash\":\"7151c7f46996d49977f91fc77e07abbc2c588465\",\"settings\":{\"deadline\":7,\"event_id_max_value\":4294967295,\"max_listeners\":16,\"max_nodes\":3,\"max_notifiers\":1,\"notifier_created_event\":null,\"notifier_dead_event\":9,\"notifier_dropped_event\":null},\"version\":2}",
+        // A request-response service with two attributes of one key, over three `u32` as one value and slices of `i64`.
+        "{\"attributes\":[[\"k\",\"v\"],[\"k\",\"\"]],\"name\":\"R\",\"pattern\":\"request_response\",\"service_hash\":\"41dc32c132eeadb87457313fbdd46352c02196d1\",\"settings\":{\"enable_fire_and_forget_requests\":true,\"enable_safe_overflow_for_requests\":true,\"enable_safe_overflow_for_responses\":true,\"max_active_requests_per_client\":4,\"max_borrowed_responses_per_pending_response\":2,\"max_clients\":8,\"max_loaned_requests\":2,\"max_nodes\":20,\"max_response_buffer_size\":2,\"max_servers\":2,\"request_types\":{\"header\":{\"alignment\":8,\"name\":\"Header\",\"size\":24,\"variant\":\"FixedSize\"},\"payload\":{\"alignment\":4,\"name\":\"[u32; 3]\",\"size\":12,\"variant\":\"FixedSize\"},\"user_header\":{\"alignment\":4,\"name\":\"u32\",\"size\":4,\"variant\":\"FixedSize\"}},\"response_types\":{\"header\":{\"alignment\":8,\"name\":\"Header\",\"size\":24,\"variant\":\"FixedSize\"},\"payload\":{\"alignment\":32,\"name\":\"i64\",\"size\":8,\"variant\":\"Dynamic\"},\"user_header\":{\"alignment\":1,\"name\":\"()\",\"size\":0,\"variant\":\"FixedSize\"}}},\"version\":2}",
+    ]
 }
 
 /// Whether the bytes are read as a description.
 pub(crate) fn is_read(alloc: Global, bytes: &[u8]) -> Result<bool, AllocError> {
-    was_read(decode(alloc, bytes).err())
+    match decode(alloc, bytes).err() {
+        None => Ok(true),
+        Some(DescriptionError::OutOfMemory) => Err(AllocError),
+        Some(DescriptionError::Invalid | DescriptionError::NotInVersion1) => Ok(false),
+    }
 }
 
 /// Whether the line is read with a text in the place of the first such text. Nothing is asked of a row that isn't one.
@@ -56,28 +39,6 @@ fn is_spelled(alloc: Global, line: &str, row: &str) -> Result<bool, AllocError> 
         Some((from, to)) => is_read(alloc, line.replacen(alloc, from, to, 1)?.as_bytes()),
         None => Err(AllocError),
     }
-}
-
-/// Whether the line is read, and that of version 1 of the same service.
-fn are_both_read(alloc: Global, line: &str) -> [Result<bool, AllocError>; 2] {
-    [
-        is_read(alloc, line.as_bytes()),
-        is_spelled(alloc, line, "\"version\":2} => \"version\":1}"),
-    ]
-}
-
-#[test]
-fn each_line_is_read(rt: HostRuntime) -> Result<(), AllocError> {
-    let alloc: Global = rt.alloc();
-    let answers = [
-        is_read(alloc, publish_subscribe_line().as_bytes()),
-        is_read(alloc, first_publish_subscribe_line().as_bytes()),
-        is_read(alloc, event_line().as_bytes()),
-        is_read(alloc, request_response_line().as_bytes()),
-    ];
-    hold(&rt, &answers)?;
-    hold(&rt, &are_both_read(alloc, named_event_line()))?;
-    hold(&rt, &are_both_read(alloc, named_request_response_line()))
 }
 
 /// What stands in the line of publish-subscribe, and what is put in its place and refused.
@@ -140,7 +101,8 @@ const FIRST_REFUSED: [&str; 7] = [
 ];
 
 /// What may stand there.
-const READ: [&str; 5] = [
+const READ: [&str; 6] = [
+    "version => version",
     "\"sequence_numbers\":false => \"sequence_numbers\":true",
     "\"max_nodes\":20 => \"max_nodes\":16777215",
     "\"history_size\":0 => \"history_size\":4294967295",
@@ -148,26 +110,24 @@ const READ: [&str; 5] = [
     "\"name\":\"23\" => \"name\":\"\\u0001\\u001f\\b\\t\\n\\f\\r\\\"\\\\/\"",
 ];
 
-/// Each row must be read, or none.
+/// What leaves a line as it is.
+const ITSELF: [&str; 1] = ["version => version"];
+
+/// The same, and what makes a line of version 1 of one of version 2 without numbers.
+const BOTH: [&str; 2] = ["version => version", "\"version\":2} => \"version\":1}"];
+
+/// Whether each row is read, or none.
 fn are_spelled(
     rt: &impl Abort,
     alloc: Global,
     line: &str,
     rows: &[&str],
     read: bool,
-) -> Result<(), AllocError> {
+) -> Result<bool, AllocError> {
     for row in rows {
         assert!(rt; is_spelled(alloc, line, *row)? == read, "{row}");
     }
-    Ok(())
-}
-
-#[test]
-fn other_spellings_are_refused(rt: HostRuntime) -> Result<(), AllocError> {
-    let (second, first) = (publish_subscribe_line(), first_publish_subscribe_line());
-    are_spelled(&rt, rt.alloc(), second, &REFUSED, false)?;
-    are_spelled(&rt, rt.alloc(), first, &FIRST_REFUSED, false)?;
-    are_spelled(&rt, rt.alloc(), second, &READ, true)
+    Ok(true)
 }
 
 /// Whether the hash of publish-subscribe has these digits.
@@ -182,11 +142,28 @@ fn has_digits(name: &str, digits: &str) -> bool {
 }
 
 #[test]
-fn hashes_are_those_of_sha1(rt: HostRuntime) {
+fn lines_are_read_as_they_are_spelled(rt: HostRuntime) {
+    let alloc: Global = rt.alloc();
+    let [
+        second,
+        first,
+        event,
+        request_response,
+        named_event,
+        named_request_response,
+    ] = lines();
     let answers = [
-        has_digits("23", "40bd001563085fc35165329ea1ff5c5ecbdbbeef"),
-        has_digits("234", "7110eda4d09e062aa5e4a390b0a572ac0d2c0220"),
-        has_digits("23456", "7c4a8d09ca3762af61e59520943dc26494f8941b"),
+        are_spelled(&rt, alloc, second, &REFUSED, false),
+        are_spelled(&rt, alloc, second, &READ, true),
+        are_spelled(&rt, alloc, first, &FIRST_REFUSED, false),
+        are_spelled(&rt, alloc, first, &ITSELF, true),
+        are_spelled(&rt, alloc, event, &ITSELF, true),
+        are_spelled(&rt, alloc, request_response, &ITSELF, true),
+        are_spelled(&rt, alloc, named_event, &BOTH, true),
+        are_spelled(&rt, alloc, named_request_response, &BOTH, true),
+        Ok(has_digits("23", "40bd001563085fc35165329ea1ff5c5ecbdbbeef")),
+        Ok(has_digits("234", "7110eda4d09e062aa5e4a390b0a572ac0d2c0220")),
+        Ok(has_digits("23456", "7c4a8d09ca3762af61e59520943dc26494f8941b")),
     ];
-    assert!(rt; answers == [true; 3], "{answers:?}");
+    hold(&rt, &answers);
 }

@@ -1,5 +1,6 @@
 //! Descriptions, attributes and their copies of all sizes, with ample memory.
 use crate::agreement::lines::is_read;
+use crate::answers::all;
 use iox_describe::{
     AttributeError, AttributeSpecifier, AttributeVerifier, Description, Header, LimitError,
     MessageTypeDetails, ServiceName, Settings, TypeVariant, decode, encode, encode_v1,
@@ -27,17 +28,7 @@ pub(crate) fn attributes(
     Ok(attributes)
 }
 
-/// Requires one pair more and one key, which those attributes have.
-fn require(
-    alloc: Global,
-    verifier: &mut AttributeVerifier,
-    value: usize,
-) -> Result<(), AttributeError> {
-    verifier.require(alloc, &KEY, &VALUE[..value.min(256)])?;
-    verifier.require_key(alloc, &KEY)
-}
-
-/// So many required pairs and keys.
+/// So many required pairs and keys, which those attributes have.
 pub(crate) fn requirements(
     alloc: Global,
     count: usize,
@@ -45,7 +36,8 @@ pub(crate) fn requirements(
 ) -> Result<AttributeVerifier, AttributeError> {
     let mut verifier = AttributeVerifier::new();
     for _ in 0..count {
-        require(alloc, &mut verifier, value)?;
+        verifier.require(alloc, &KEY, &VALUE[..value.min(256)])?;
+        verifier.require_key(alloc, &KEY)?;
     }
     Ok(verifier)
 }
@@ -81,18 +73,13 @@ fn described(alloc: Global, (name, count, value, _): Row) -> Result<Description,
     Ok(Description::new(name, settings, attributes))
 }
 
-/// How long the line is, from which the description is read.
-fn length_read_back(alloc: Global, description: &Description) -> Result<usize, Fail> {
-    let line = encode(alloc, description)?;
-    let _ = decode(alloc, line.as_slice())?;
-    Ok(line.len())
-}
-
-/// The same of one that is copied, and has a line of version 1.
+/// How long the line is, from which the description is read. It is copied, and has a line of version 1, too.
 fn length(alloc: Global, description: &Description) -> Result<usize, Fail> {
     let _ = description.try_clone(alloc)?;
     let _ = encode_v1(alloc, description)?;
-    length_read_back(alloc, description)
+    let line = encode(alloc, description)?;
+    let _ = decode(alloc, line.as_slice())?;
+    Ok(line.len())
 }
 
 /// The same of a row.
@@ -100,25 +87,34 @@ fn length_of(alloc: Global, row: Row) -> Result<usize, Fail> {
     length(alloc, &described(alloc, row)?)
 }
 
+/// Whether so many spaces are refused.
+fn is_blank(alloc: Global, length: usize) -> Result<bool, AllocError> {
+    let bytes = vec![in alloc; b' '; length]?;
+    Ok(!is_read(alloc, bytes.as_slice())?)
+}
+
+/// The same of each length.
+fn are_blank(alloc: Global) -> Result<bool, AllocError> {
+    all(&[
+        is_blank(alloc, 0),
+        is_blank(alloc, 1),
+        is_blank(alloc, 2),
+        is_blank(alloc, 7),
+        is_blank(alloc, 64),
+        is_blank(alloc, 1_000),
+        is_blank(alloc, 12_000),
+        is_blank(alloc, 32_768),
+        is_blank(alloc, 32_769),
+        is_blank(alloc, 100_000),
+    ])
+}
+
 #[test]
 fn descriptions_of_all_sizes_are_read_back(rt: HostRuntime) -> Result<(), Fail> {
+    assert!(rt; are_blank(rt.alloc())?);
     for row in &ROWS {
         let length = length_of(rt.alloc(), *row)?;
         assert!(rt; length == row.3, "{row:?} {length}");
-    }
-    Ok(())
-}
-
-/// Whether so many spaces are read.
-fn are_spaces_read(alloc: Global, length: usize) -> Result<bool, AllocError> {
-    let bytes = vec![in alloc; b' '; length]?;
-    is_read(alloc, bytes.as_slice())
-}
-
-#[test]
-fn texts_of_no_description_are_refused(rt: HostRuntime) -> Result<(), Fail> {
-    for length in &[0, 1, 2, 7, 64, 1_000, 12_000, 32_768, 32_769, 100_000] {
-        assert!(rt; !are_spaces_read(rt.alloc(), *length)?, "{length}");
     }
     Ok(())
 }

@@ -1,7 +1,8 @@
 //! Readers and writers that give or take little at a time, or fail.
 ghost use Rattle.std.specs.Prelude.{◌+◌, ◌<◌, ◌^◌};
 
-use crate::agreement::echo::{Echo, full_echo};
+use crate::agreement::echo::Echo;
+use crate::answers::hold;
 use iox_conversation::{Input, Output, READ_CALLS, ServeError, serve};
 use std::alloc::{AllocError, Global};
 use std::io;
@@ -15,43 +16,40 @@ x
 receive s1
 ";
 
-/// How many calls signals interrupt before one is let through, and how many of these are still to come.
+/// Which calls fail: signals interrupt so many before each that is let through. After so many of these one fails, in a way that a
+/// number decides, and none behind it.
 #[derive(Clone, Copy)]
-struct Signals {
-    each: usize,
+struct Faults {
+    signals: usize,
     left: usize,
+    good_calls: usize,
 }
 
-impl Signals {
-    fn new(each: usize) -> Self {
-        Signals { each, left: each }
-    }
-
-    /// Whether this call is interrupted.
-    fn interrupt(&mut self) -> bool {
-        if self.left == 0 {
-            self.left = self.each;
-            return false;
+impl Faults {
+    /// How this call fails, if it does. No call that isn't interrupted is made again.
+    fn next(&mut self, number: usize) -> Option<ErrorKind> {
+        if self.left > 0 {
+            self.left -= 1;
+            return Some(ErrorKind::Interrupted);
         }
-        self.left -= 1;
-        true
+        self.left = self.signals;
+        if self.good_calls > 0 {
+            self.good_calls -= 1;
+            return None;
+        }
+        self.good_calls = usize::MAX;
+        Some(match number % 6 {
+            0 => ErrorKind::WouldBlock,
+            1 => ErrorKind::TimedOut,
+            2 => ErrorKind::UnexpectedEof,
+            3 => ErrorKind::ConnectionReset,
+            4 => ErrorKind::BrokenPipe,
+            _ => ErrorKind::Other,
+        })
     }
 }
 
-/// An error of one kind or another, by a number. No call that fails so is made again.
-fn failure(number: usize) -> io::Error {
-    io::Error::from(match number % 6 {
-        0 => ErrorKind::WouldBlock,
-        1 => ErrorKind::TimedOut,
-        2 => ErrorKind::UnexpectedEof,
-        3 => ErrorKind::ConnectionReset,
-        4 => ErrorKind::BrokenPipe,
-        _ => ErrorKind::Other,
-    })
-}
-
-/// Gives its text by pieces, so often: the first piece of one size, the others of another. After so many calls one fails, in a way
-/// that the bytes left decide, and none behind it.
+/// Gives its text by pieces, so often: the first piece of one size, the others of another. The bytes left decide how a call fails.
 #[derive(Drop)]
 struct Pieces {
     text: &'static [u8],
@@ -59,8 +57,7 @@ struct Pieces {
     laps: u64,
     first: usize,
     others: usize,
-    good_calls: usize,
-    signals: Signals,
+    faults: Faults,
 }
 
 impl Pieces {
@@ -75,14 +72,9 @@ impl Pieces {
 
 impl io::Read for Pieces {
     fn read(&mut self, buffer: &mut [u8]) -> io::Result<usize> {
-        if self.signals.interrupt() {
-            return Err(io::Error::from(ErrorKind::Interrupted));
+        if let Some(kind) = self.faults.next(self.rest.len()) {
+            return Err(io::Error::from(kind));
         }
-        if self.good_calls == 0 {
-            self.good_calls = usize::MAX;
-            return Err(failure(self.rest.len()));
-        }
-        self.good_calls -= 1;
         self.begin_again();
         let count = buffer.len().min(self.rest.len()).min(self.first);
         buffer[..count].copy_from_slice(&self.rest[..count]);
@@ -92,26 +84,19 @@ impl io::Read for Pieces {
     }
 }
 
-/// Takes so many bytes a call at most, and keeps them. After so many calls one fails, in a way that the bytes taken decide, and
-/// none behind it.
+/// Takes so many bytes a call at most, and keeps them. The bytes taken decide how a call fails.
 #[derive(Drop)]
 struct Sips {
     taken: Vec<u8>,
     most: usize,
-    good_calls: usize,
-    signals: Signals,
+    faults: Faults,
 }
 
 impl io::Write for Sips {
     fn write(&mut self, bytes: &[u8]) -> io::Result<usize> {
-        if self.signals.interrupt() {
-            return Err(io::Error::from(ErrorKind::Interrupted));
+        if let Some(kind) = self.faults.next(self.taken.len()) {
+            return Err(io::Error::from(kind));
         }
-        if self.good_calls == 0 {
-            self.good_calls = usize::MAX;
-            return Err(failure(self.taken.len()));
-        }
-        self.good_calls -= 1;
         let count = bytes.len().min(self.most);
         if self.taken.extend_from_slice(&bytes[..count]).is_err() {
             return Err(io::Error::from(ErrorKind::OutOfMemory));
@@ -190,30 +175,26 @@ const TALKS: [Talk; 42] = [
     ([ALL, ALL, ALL, ALL, ALL, 0, 0, 5], WANT, 33),
 ];
 
-fn new_pieces(first: usize, others: usize, good_calls: usize, signals: usize) -> Pieces {
+/// A text by pieces, so many laps of it behind the first.
+fn new_pieces(text: &'static [u8], laps: u64, sizes: [usize; 2], faults: [usize; 2]) -> Pieces {
+    let [first, others] = sizes;
+    let [good_calls, signals] = faults;
     Pieces {
-        text: LINES,
-        rest: LINES,
-        laps: 0,
+        text,
+        rest: text,
+        laps,
         first,
         others,
-        good_calls,
-        signals: Signals::new(signals),
-    }
-}
-
-fn new_sips(alloc: Global, most: usize, good_calls: usize, signals: usize) -> Sips {
-    Sips {
-        taken: Vec::new(alloc),
-        most,
-        good_calls,
-        signals: Signals::new(signals),
+        faults: Faults {
+            signals,
+            left: signals,
+            good_calls,
+        },
     }
 }
 
 /// How many bytes of the lines were taken; all there can be where others were.
-fn taken_of_lines(writer: &Sips) -> usize {
-    let taken = writer.taken.as_slice();
+fn taken_of_lines(taken: &[u8]) -> usize {
     if LINES.starts_with(taken) {
         taken.len()
     } else {
@@ -228,15 +209,24 @@ fn told(alloc: Global, numbers: &[usize; 8]) -> (Result<(), ServeError>, bool, b
         others,
         reads,
         most,
-        writes,
+        good_calls,
         read_signals,
-        write_signals,
+        signals,
         answered,
     ] = *numbers;
-    let mut input = Input::new(new_pieces(first, others, reads, read_signals));
-    let mut output = Output::new(new_sips(alloc, most, writes, write_signals));
+    let reader = new_pieces(LINES, 0, [first, others], [reads, read_signals]);
+    let mut input = Input::new(reader);
+    let mut output = Output::new(Sips {
+        taken: Vec::new(alloc),
+        most,
+        faults: Faults {
+            signals,
+            left: signals,
+            good_calls,
+        },
+    });
     let result = serve(alloc, Echo { answered }, &mut input, &mut output);
-    let written = taken_of_lines(output.writer());
+    let written = taken_of_lines(output.writer().taken.as_slice());
     (result, input.has_failed(), output.has_failed(), written)
 }
 
@@ -251,119 +241,76 @@ fn wrong_talk(alloc: Global) -> Option<usize> {
     None
 }
 
-#[test]
-fn conversations_go_as_is_told(rt: HostRuntime) {
-    let wrong = wrong_talk(rt.alloc());
-    assert!(rt; wrong == None, "{wrong:?}");
-}
-
-/// Gives a newline a call, as many as a conversation reads.
-fn endless() -> Pieces {
-    Pieces {
-        text: b"\n",
-        rest: b"",
-        laps: READ_CALLS,
-        first: 1,
-        others: 1,
-        good_calls: ALL,
-        signals: Signals::new(0),
-    }
-}
-
 /// What a conversation comes to, whether a read has failed, and how many bytes are written.
-fn told_of(alloc: Global, input: &mut Input<Pieces>) -> (Result<(), ServeError>, bool, usize)
+type Told = (Result<(), ServeError>, bool, usize);
+
+/// The same of a reader all of whose lines are said again.
+fn told_of<R: io::Read>(alloc: Global, input: &mut Input<R>) -> Told
     requires { input.old.calls + 2 ^ 20 < 2 ^ 64 }
 {
     let mut output = Output::new(Vec::new(alloc));
-    let result = serve(alloc, full_echo(), input, &mut output);
+    let result = serve(alloc, Echo { answered: ALL }, input, &mut output);
     (result, input.has_failed(), output.writer().len())
 }
 
-/// Whether such a reader is left after the most calls, each newline with its answer, and is asked again in a second conversation,
-/// where it has ended.
-fn is_left(alloc: Global) -> bool {
-    let mut input = Input::new(endless());
+/// Whether a reader is left after the most calls, where so many bytes are written; one that ends there is asked again in a second
+/// conversation.
+fn is_left(alloc: Global, reader: Pieces, written: usize, ends: bool) -> bool {
+    let mut input = Input::new(reader);
     let left = told_of(alloc, &mut input);
-    if input.calls() != READ_CALLS {
+    if input.calls() != READ_CALLS || left != (READ, false, written) {
         return false;
     }
-    left == (READ, false, 1_048_576)
-        && told_of(alloc, &mut input) == (WELL, false, 0)
-        && input.calls() == READ_CALLS + 1
-}
-
-/// Whether a reader is left whose calls are all interrupted.
-fn is_left_interrupted(alloc: Global) -> bool {
-    let mut input = Input::new(new_pieces(1, 1, ALL, ALL));
-    told_of(alloc, &mut input) == (READ, false, 0) && input.calls() == READ_CALLS
+    !ends || told_of(alloc, &mut input) == (WELL, false, 0) && input.calls() == READ_CALLS + 1
 }
 
 #[test]
 fn an_endless_reader_is_left(rt: HostRuntime) {
-    assert!(rt; is_left(rt.alloc()) && is_left_interrupted(rt.alloc()));
+    // A newline a call, as many as a conversation reads; and calls that are all interrupted.
+    let endless = new_pieces(b"\n", READ_CALLS - 1, [1, 1], [ALL, 0]);
+    assert!(rt; is_left(rt.alloc(), endless, 1_048_576, true));
+    let interrupted = new_pieces(LINES, 0, [1, 1], [ALL, ALL]);
+    assert!(rt; is_left(rt.alloc(), interrupted, 0, false));
 }
 
-/// So many newlines, so many letters, and so many newlines again.
-type Text = [usize; 3];
-
-/// Adds its bytes.
-fn fill(bytes: &mut Vec<u8>, [before, letters, behind]: Text) -> Result<(), AllocError> {
-    bytes.resize(before, b'\n')?;
-    bytes.resize(before.saturating_add(letters), b'x')?;
-    bytes.resize(bytes.len().saturating_add(behind), b'\n')
-}
-
-/// How many bytes are said again of these, if all goes well.
-fn heard(alloc: Global, bytes: &[u8]) -> Option<usize> {
-    let mut output = Output::new(Vec::new(alloc));
-    match serve(alloc, full_echo(), &mut Input::new(bytes), &mut output) {
-        Ok(()) => Some(output.writer().len()),
-        Err(_) => None,
+/// Whether so many bytes are said again of so many newlines, so many letters, and so many newlines again.
+fn is_heard(
+    alloc: Global,
+    [before, letters, behind]: [usize; 3],
+    length: usize,
+) -> Result<bool, AllocError> {
+    let end = before.saturating_add(letters);
+    let mut bytes = vec![in alloc; b'\n'; end.saturating_add(behind)]?;
+    if let Some(part) = bytes.as_mut_slice().get_mut(before..end) {
+        part.fill(b'x');
     }
-}
-
-/// How many bytes are said again of the text, if all goes well.
-fn heard_of(alloc: Global, text: Text) -> Option<usize> {
-    let mut bytes = Vec::new(alloc);
-    match fill(&mut bytes, text) {
-        Ok(()) => heard(alloc, bytes.as_slice()),
-        Err(_) => None,
-    }
-}
-
-/// Texts, and how many bytes are said again: of a line the first 1,025 and a newline.
-const HEARD: [(Text, usize); 16] = [
-    ([0, 0, 0], 0),
-    ([1, 0, 0], 1),
-    ([2, 0, 0], 2),
-    ([7, 0, 0], 7),
-    ([64, 0, 0], 64),
-    ([1_000, 0, 0], 1_000),
-    ([70_000, 0, 0], 70_000),
-    ([0, 1, 0], 2),
-    ([0, 2, 1], 3),
-    ([0, 7, 0], 8),
-    ([0, 64, 1], 65),
-    ([0, 1_000, 0], 1_001),
-    ([0, 1_024, 0], 1_025),
-    ([0, 1_025, 0], 1_026),
-    ([0, 70_000, 0], 1_026),
-    // The second read ends a line that the first began, so its answers have more bytes than a read.
-    ([64_536, 1_000, 65_536], 131_072),
-];
-
-/// The first text of which something else is said again.
-fn wrong_text(alloc: Global) -> Option<usize> {
-    for (place, (text, length)) in HEARD.iter().enumerate() {
-        if heard_of(alloc, *text) != Some(*length) {
-            return Some(place);
-        }
-    }
-    None
+    Ok(told_of(alloc, &mut Input::new(bytes.as_slice())) == (WELL, false, length))
 }
 
 #[test]
-fn texts_of_all_sizes_are_heard(rt: HostRuntime) {
-    let wrong = wrong_text(rt.alloc());
+fn conversations_go_as_is_told(rt: HostRuntime) {
+    let alloc: Global = rt.alloc();
+    let wrong = wrong_talk(alloc);
     assert!(rt; wrong == None, "{wrong:?}");
+    let answers = [
+        is_heard(alloc, [0, 0, 0], 0),
+        is_heard(alloc, [1, 0, 0], 1),
+        is_heard(alloc, [2, 0, 0], 2),
+        is_heard(alloc, [7, 0, 0], 7),
+        is_heard(alloc, [64, 0, 0], 64),
+        is_heard(alloc, [1_000, 0, 0], 1_000),
+        is_heard(alloc, [70_000, 0, 0], 70_000),
+        // Of a line the first 1,025 bytes and a newline are said again.
+        is_heard(alloc, [0, 1, 0], 2),
+        is_heard(alloc, [0, 2, 1], 3),
+        is_heard(alloc, [0, 7, 0], 8),
+        is_heard(alloc, [0, 64, 1], 65),
+        is_heard(alloc, [0, 1_000, 0], 1_001),
+        is_heard(alloc, [0, 1_024, 0], 1_025),
+        is_heard(alloc, [0, 1_025, 0], 1_026),
+        is_heard(alloc, [0, 70_000, 0], 1_026),
+        // The second read ends a line that the first began, so its answers have more bytes than a read.
+        is_heard(alloc, [64_536, 1_000, 65_536], 131_072),
+    ];
+    hold(&rt, &answers);
 }

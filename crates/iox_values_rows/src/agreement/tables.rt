@@ -1,19 +1,12 @@
 //! Tables with texts of all sizes, and any number of foreign steps, with ample memory.
+use crate::answers::hold;
 use iox_describe::ServiceHash;
 use iox_negotiate_base::{LockAnswer, LookAnswer, MakeSegmentAnswer, PublishAnswer, Storage};
 use iox_negotiate_table::{ForeignStep, StepList, Stepped, Table};
 use std::alloc::{AllocError, Global};
-use std::process::Abort;
 
 /// The hash of a service.
 const HASH: ServiceHash = ServiceHash { digest: [5; 20] };
-
-/// Whether a node makes the first service with room for itself, and publishes this text.
-fn is_made(table: &mut Table, text: &[u8]) -> bool {
-    table.lock(&HASH, 0) == LockAnswer::Taken(1)
-        && table.make_segment(&HASH, 1, 0, 1) == MakeSegmentAnswer::Made
-        && table.publish(&HASH, 1, text) == PublishAnswer::Published
-}
 
 /// Whether the table shows this text.
 pub(crate) fn is_shown(table: &mut Table, hash: &ServiceHash, text: &[u8]) -> bool {
@@ -24,60 +17,35 @@ pub(crate) fn is_shown(table: &mut Table, hash: &ServiceHash, text: &[u8]) -> bo
     }
 }
 
-/// Whether the service is made with this text, and shows it.
-fn is_made_and_shown(table: &mut Table, text: &[u8]) -> bool {
-    is_made(table, text) && is_shown(table, &HASH, text)
+/// Whether a node makes the first service with room for itself, and publishes this text, which the table shows.
+fn is_made(table: &mut Table, text: &[u8]) -> bool {
+    table.lock(&HASH, 0) == LockAnswer::Taken(1)
+        && table.make_segment(&HASH, 1, 0, 1) == MakeSegmentAnswer::Made
+        && table.publish(&HASH, 1, text) == PublishAnswer::Published
+        && is_shown(table, &HASH, text)
 }
 
 /// The same in a new table, with a text of so many bytes.
 fn is_published(alloc: Global, length: usize) -> Result<bool, AllocError> {
     let text = vec![in alloc; b'x'; length]?;
-    Ok(is_made_and_shown(&mut Table::new(alloc, 1), text.as_slice()))
+    Ok(is_made(&mut Table::new(alloc, 1), text.as_slice()))
 }
 
-fn all_are_published(rt: &impl Abort, alloc: Global) -> Result<(), AllocError> {
-    for length in &[0, 1, 2, 7, 64, 1_000, 12_000, 32_769] {
-        assert!(rt; is_published(alloc, *length)?, "{length}");
-    }
-    Ok(())
-}
-
-#[test]
-fn texts_of_all_sizes_are_published(rt: HostRuntime) -> Result<(), AllocError> {
-    all_are_published(&rt, rt.alloc())
-}
-
-/// Adds so many locks that foreign node 1 takes and gives up.
-fn add_locks(steps: &mut Vec<ForeignStep>, count: usize) -> Result<(), AllocError> {
+/// A list of so many locks that foreign node 1 takes and gives up.
+fn locks_of_another(alloc: Global, count: usize) -> Result<StepList, AllocError> {
+    let mut steps = Vec::new(alloc);
     for _ in 0..count {
         steps.push(ForeignStep::Lock { node: 1 })?;
         steps.push(ForeignStep::GiveUp { node: 1 })?;
     }
-    Ok(())
-}
-
-/// A list of so many locks.
-fn locks_of_another(alloc: Global, count: usize) -> Result<StepList, AllocError> {
-    let mut steps = Vec::new(alloc);
-    add_locks(&mut steps, count)?;
     Ok(StepList::new(steps))
-}
-
-fn add_list(
-    lists: &mut Vec<StepList>,
-    list: Result<StepList, AllocError>,
-) -> Result<(), AllocError> {
-    match list {
-        Ok(list) => Ok(lists.push(list)?),
-        Err(error) => Err(error),
-    }
 }
 
 /// So many lists, of so many locks each.
 fn lists_of(alloc: Global, count: usize, locks: usize) -> Result<Vec<StepList>, AllocError> {
     let mut lists = Vec::new(alloc);
     for _ in 0..count {
-        add_list(&mut lists, locks_of_another(alloc, locks))?;
+        lists.push(locks_of_another(alloc, locks)?)?;
     }
     Ok(lists)
 }
@@ -95,7 +63,9 @@ fn are_done(stepped: &mut Stepped, lists: usize, next: u64) -> bool {
 /// The same of lists of so many locks each: the number comes after all of those.
 fn lists_are_done(
     alloc: Global,
-    (lists, locks, next): (usize, usize, u64),
+    lists: usize,
+    locks: usize,
+    next: u64,
 ) -> Result<bool, AllocError> {
     match lists_of(alloc, lists, locks) {
         Ok(all) => Ok(are_done(&mut Stepped::new(Table::new(alloc, 1), all), lists, next)),
@@ -103,25 +73,26 @@ fn lists_are_done(
     }
 }
 
-const LISTS: [(usize, usize, u64); 8] = [
-    (0, 0, 1),
-    (1, 0, 1),
-    (1, 1, 2),
-    (2, 2, 5),
-    (7, 1, 8),
-    (64, 1, 65),
-    (1_000, 1, 1_001),
-    (1, 500, 501),
-];
-
-fn all_lists_are_done(rt: &impl Abort, alloc: Global) -> Result<(), AllocError> {
-    for row in &LISTS {
-        assert!(rt; lists_are_done(alloc, *row)?, "{row:?}");
-    }
-    Ok(())
-}
-
 #[test]
-fn any_number_of_lists_and_of_steps_is_done(rt: HostRuntime) -> Result<(), AllocError> {
-    all_lists_are_done(&rt, rt.alloc())
+fn texts_of_all_sizes_are_published_and_all_steps_done(rt: HostRuntime) {
+    let alloc: Global = rt.alloc();
+    let answers = [
+        is_published(alloc, 0),
+        is_published(alloc, 1),
+        is_published(alloc, 2),
+        is_published(alloc, 7),
+        is_published(alloc, 64),
+        is_published(alloc, 1_000),
+        is_published(alloc, 12_000),
+        is_published(alloc, 32_769),
+        lists_are_done(alloc, 0, 0, 1),
+        lists_are_done(alloc, 1, 0, 1),
+        lists_are_done(alloc, 1, 1, 2),
+        lists_are_done(alloc, 2, 2, 5),
+        lists_are_done(alloc, 7, 1, 8),
+        lists_are_done(alloc, 64, 1, 65),
+        lists_are_done(alloc, 1_000, 1, 1_001),
+        lists_are_done(alloc, 1, 500, 501),
+    ];
+    hold(&rt, &answers);
 }

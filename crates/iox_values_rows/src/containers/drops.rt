@@ -15,22 +15,16 @@ impl Drop for Noted<'_> {
     }
 }
 
-/// Whether 4 and then 3 were noted, once the vector of 1 to 4 is cut to two items, which are then let go.
-fn cuts_the_last_first(alloc: Global, notes: &Cell<u64>) -> Result<bool, AllocError> {
+/// Whether 4 and then 3 are noted as a vector of 1 to 4 is cut to two items, and then 2 and 1, which are let go with it.
+fn goes_the_last_first(alloc: Global, notes: &Cell<u64>) -> Result<bool, AllocError> {
     let mut vec = StaticVec::<Noted<'_>, 4>::new(alloc)?;
     for digit in 1..5 {
         let _ = vec.push(Noted(digit, notes));
     }
     vec.truncate(2);
-    Ok(notes.get() == 43)
-}
-
-/// Whether 2 and then 1 were noted behind them.
-fn goes_the_last_first(alloc: Global, notes: &Cell<u64>) -> Result<bool, AllocError> {
-    match cuts_the_last_first(alloc, notes) {
-        Ok(cut) => Ok(cut && notes.get() == 4_321),
-        Err(error) => Err(error),
-    }
+    let cut = notes.get();
+    drop(vec);
+    Ok([cut, notes.get()] == [43, 4_321])
 }
 
 /// Whether a queue of three items is cleared in their order.
@@ -43,12 +37,12 @@ fn is_cleared(alloc: Global, notes: &Cell<u64>) -> Result<bool, AllocError> {
     Ok(notes.get() % 1_000 == 789)
 }
 
-/// The answers for a vector that is cut and let go, and a queue that is cleared.
-fn orders(alloc: Global, notes: &Cell<u64>) -> [Result<bool, AllocError>; 2] {
-    [goes_the_last_first(alloc, notes), is_cleared(alloc, notes)]
-}
-
 #[test]
-fn vectors_drop_the_last_first_and_queues_the_oldest(rt: HostRuntime) -> Result<(), AllocError> {
-    hold(&rt, &orders(rt.alloc(), &Cell::new(0)))
+fn vectors_drop_the_last_first_and_queues_the_oldest(rt: HostRuntime) {
+    let notes = Cell::new(0);
+    let answers = [
+        goes_the_last_first(rt.alloc(), &notes),
+        is_cleared(rt.alloc(), &notes),
+    ];
+    hold(&rt, &answers);
 }

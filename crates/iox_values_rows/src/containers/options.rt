@@ -11,13 +11,8 @@ fn written(byte: &mut u8) -> bool {
     false
 }
 
-/// Whether just that is left in place of a byte.
-fn is_left() -> bool {
-    let mut byte = 7;
-    written(&mut byte) && byte == 9
-}
-
 #[test]
 fn a_write_through_an_option_stays(rt: HostRuntime) {
-    assert!(rt; is_left());
+    let mut byte = 7;
+    assert!(rt; written(&mut byte) && byte == 9);
 }

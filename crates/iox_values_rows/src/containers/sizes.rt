@@ -9,6 +9,7 @@ use iox_container::{
     FixedSizeFlatMap, FixedSizeQueue, FixedSizeSlotMap, FlatMap, PolymorphicVec, SlotMap, StaticVec,
 };
 use std::alloc::{AllocError, Global};
+use std::convert::identity;
 
 /// More than anyone fills.
 const MANY: usize = 1_000_003;
@@ -65,10 +66,6 @@ fn vector(alloc: Global, capacity: usize, len: usize) -> Want {
     }
 }
 
-fn itself(place: usize) -> usize {
-    place
-}
-
 /// The want of as many answers as there are steps.
 fn answers(alloc: Global, count: usize) -> Want {
     match vec![in alloc; ByteStep::Store(1, 5); count] {
@@ -77,32 +74,28 @@ fn answers(alloc: Global, count: usize) -> Want {
     }
 }
 
-/// Puts so many values into a table, if there is room for them.
-fn fill(table: &mut Numbered<u64>, len: usize) {
-    for _ in 0..len {
+/// The want of room in a table for so many values, which had room for half as many, and was full.
+fn table(alloc: Global, room: usize) -> Want {
+    let mut table = Numbered::<u64>::new(alloc);
+    if let Err(error) = table.reserve(room / 2) {
+        return Some(error);
+    }
+    for _ in 0..room / 2 {
         if table.len() < table.room() && table.next_number() < u64::MAX {
             let _ = table.insert_next(7);
         }
     }
+    table.reserve(room).err()
 }
 
-/// The want of room in a table for so many values, which had room for half as many, and was full.
-fn table(alloc: Global, room: usize) -> Want {
-    let mut table = Numbered::<u64>::new(alloc);
-    match table.reserve(room / 2) {
-        Ok(()) => {
-            fill(&mut table, room / 2);
-            table.reserve(room).err()
-        }
-        Err(error) => Some(error),
-    }
-}
-
-/// The wants of all that is made with so much room, vectors filled so far.
-fn made(alloc: Global, capacity: usize, len: usize) -> [Want; 7] {
+/// The wants of all that is made with so much room, strings and vectors filled so far.
+fn made(alloc: Global, capacity: usize, len: usize) -> [Want; 9] {
+    let [string, escapes] = texts(alloc, capacity, len);
     [
+        string,
+        escapes,
         vector(alloc, capacity, len),
-        PolymorphicVec::from_fn(alloc, capacity, &mut itself).err(),
+        PolymorphicVec::from_fn(alloc, capacity, &mut identity::<usize>).err(),
         Queue::<u64>::new(alloc, capacity).err(),
         SlotMap::<u64>::new(alloc, capacity).err(),
         FlatMap::<u8, u64>::new(alloc, capacity).err(),
@@ -114,7 +107,6 @@ fn made(alloc: Global, capacity: usize, len: usize) -> [Want; 7] {
 #[test]
 fn ample_memory_is_enough_at_each_size(rt: HostRuntime) -> Result<(), AllocError> {
     for (capacity, len) in &SIZES {
-        find_memory(&texts(rt.alloc(), *capacity, *len))?;
         find_memory(&made(rt.alloc(), *capacity, *len))?;
     }
     Ok(())
@@ -142,9 +134,10 @@ fn fixed<const SIZE: usize>(alloc: Global) -> [Want; 5] {
     ]
 }
 
-/// The same at each size, and at many places.
-fn all_fixed(alloc: Global) -> [[Want; 5]; 8] {
-    [
+#[test]
+fn ample_memory_is_enough_at_each_fixed_size(rt: HostRuntime) -> Result<(), AllocError> {
+    let alloc: Global = rt.alloc();
+    let wants = [
         fixed::<0>(alloc),
         fixed::<1>(alloc),
         fixed::<2>(alloc),
@@ -153,15 +146,8 @@ fn all_fixed(alloc: Global) -> [[Want; 5]; 8] {
         fixed::<64>(alloc),
         fixed::<1_000>(alloc),
         fixed::<MANY>(alloc),
-    ]
-}
-
-#[test]
-fn ample_memory_is_enough_at_each_fixed_size(rt: HostRuntime) -> Result<(), AllocError> {
-    for wants in &all_fixed(rt.alloc()) {
-        find_memory(wants)?;
-    }
-    Ok(())
+    ];
+    find_memory(wants.as_flattened())
 }
 
 /// The wants of what nothing has room for.
@@ -175,7 +161,7 @@ fn too_much(alloc: Global) -> [Want; 3] {
 
 #[test]
 fn takes_no_more_room_than_there_is(rt: HostRuntime) {
-    are_refused(&rt, &made(rt.alloc(), usize::MAX, 0));
+    are_refused(&rt, &made(rt.alloc(), usize::MAX, usize::MAX));
     are_refused(&rt, &fixed::<{ usize::MAX }>(rt.alloc()));
     are_refused(&rt, &too_much(rt.alloc()));
 }

@@ -1,6 +1,6 @@
 //! The JSON of strings, vectors and options: what is read of it, from a text and from a tree; and that what is written comes back.
-use crate::answers::hold;
-use iox_container::string::{StaticString, String as Text};
+use crate::answers::{all, hold, is_shown};
+use iox_container::string::{StaticString, String};
 use iox_container::vector::Vector;
 use iox_container::{RelocatableOption, StaticVec};
 use serde::{Deserialize, DeserializeOwned};
@@ -8,30 +8,22 @@ use serde_json::{Error, Value};
 use std::alloc::{AllocError, Global};
 use std::fmt::Debug;
 
-/// What was read, as its literal, or why it was refused.
-fn told<T: Debug + Drop>(alloc: Global, read: Result<T, Error>) -> Result<String, AllocError> {
-    match read {
-        Ok(value) => format!(in alloc; "{value:?}"),
-        Err(error) => format!(in alloc; "refused: {error}"),
-    }
+/// Whether a refusal has these words; where they are `refused`, it is one for another reason than length.
+fn is_refused(alloc: Global, error: &Error, words: &str) -> Result<bool, AllocError> {
+    let told = format!(in alloc; "refused: {error}")?;
+    Ok(told.contains(words) && (words != "refused" || !told.contains("longer than capacity")))
 }
 
-/// Whether just that was told: a value, or words of a refusal, where `refused` is one for another reason than length.
-fn is_so(told: &str, answer: &str) -> bool {
-    if told.starts_with("refused: ") {
-        told.contains(answer) && (answer != "refused" || !told.contains("longer than capacity"))
-    } else {
-        told == answer
-    }
-}
-
-/// The same of what was read.
+/// Whether a value was read that is debugged so, or a refusal has these words.
 fn is_told<T: Debug + Drop>(
     alloc: Global,
     read: Result<T, Error>,
     answer: &str,
 ) -> Result<bool, AllocError> {
-    Ok(is_so(told(alloc, read)?.as_str(), answer))
+    match read {
+        Ok(value) => is_shown(alloc, &value, answer),
+        Err(error) => is_refused(alloc, &error, answer),
+    }
 }
 
 fn from_tree<T: DeserializeOwned>(alloc: Global, json: &str) -> Result<T, Error> {
@@ -44,8 +36,10 @@ fn is_read<'de, T: Deserialize<'de> + DeserializeOwned + Debug>(
     json: &'de str,
     answer: &str,
 ) -> Result<bool, AllocError> {
-    let as_text = is_told(alloc, serde_json::from_str::<T>(alloc, json), answer)?;
-    Ok(as_text && is_told(alloc, from_tree::<T>(alloc, json), answer)?)
+    all(&[
+        is_told(alloc, serde_json::from_str::<T>(alloc, json), answer),
+        is_told(alloc, from_tree::<T>(alloc, json), answer),
+    ])
 }
 
 /// Whether each row goes so: JSON, and how it is answered.
@@ -105,10 +99,30 @@ const LISTS_OF_STRINGS: [(&str, &str); 2] = [
     ("[\"names\"]", "text longer than capacity"),
 ];
 
+/// A list and a text of the same length.
+type Pair = (StaticVec<u8, 1_000>, StaticString<1_000>);
+
+/// Whether a pair is written, and read as it was.
+fn comes_back(alloc: Global, pair: &Pair) -> Result<bool, AllocError> {
+    let literal = format!(in alloc; "{pair:?}")?;
+    match serde_json::to_string(alloc, pair) {
+        Ok(json) => is_read::<Pair>(alloc, json.as_str(), literal.as_str()),
+        Err(_) => Err(AllocError),
+    }
+}
+
+/// Whether so many sevens and so many letters are.
+fn are_of(alloc: Global, len: usize) -> Result<bool, AllocError> {
+    let mut pair = (StaticVec::new(alloc)?, StaticString::new());
+    let _ = pair.0.resize(len, 7);
+    for _ in 0..len {
+        let _ = pair.1.push(b'x');
+    }
+    comes_back(alloc, &pair)
+}
+
 #[test]
-fn strings_vectors_and_options_go_through_their_text_forms(
-    rt: HostRuntime,
-) -> Result<(), AllocError> {
+fn strings_vectors_and_options_go_through_their_text_forms(rt: HostRuntime) {
     let alloc: Global = rt.alloc();
     let answers = [
         are_read::<StaticString<4>>(alloc, &STRINGS),
@@ -116,53 +130,12 @@ fn strings_vectors_and_options_go_through_their_text_forms(
         are_read::<StaticVec<u8, 0>>(alloc, &LISTS_OF_NONE),
         are_read::<RelocatableOption<u8>>(alloc, &OPTIONS),
         are_read::<StaticVec<StaticString<4>, 2>>(alloc, &LISTS_OF_STRINGS),
+        are_of(alloc, 0),
+        are_of(alloc, 1),
+        are_of(alloc, 2),
+        are_of(alloc, 7),
+        are_of(alloc, 64),
+        are_of(alloc, 1_000),
     ];
-    hold(&rt, &answers)
-}
-
-/// Whether a list is written, and read as it was.
-fn list_comes_back(alloc: Global, list: &StaticVec<u8, 1_000>) -> Result<bool, AllocError> {
-    let literal = format!(in alloc; "{list:?}")?;
-    match serde_json::to_string(alloc, list) {
-        Ok(json) => is_read::<StaticVec<u8, 1_000>>(alloc, json.as_str(), literal.as_str()),
-        Err(_) => Err(AllocError),
-    }
-}
-
-/// Whether a list of so many sevens is.
-fn is_list_of(alloc: Global, len: usize) -> Result<bool, AllocError> {
-    let mut list = StaticVec::<u8, 1_000>::new(alloc)?;
-    let _ = list.resize(len, 7);
-    list_comes_back(alloc, &list)
-}
-
-/// Whether a text is.
-fn text_comes_back(alloc: Global, text: &StaticString<1_000>) -> Result<bool, AllocError> {
-    let literal = format!(in alloc; "{text:?}")?;
-    match serde_json::to_string(alloc, text) {
-        Ok(json) => is_read::<StaticString<1_000>>(alloc, json.as_str(), literal.as_str()),
-        Err(_) => Err(AllocError),
-    }
-}
-
-/// Whether a text of so many letters is.
-fn is_text_of(alloc: Global, len: usize) -> Result<bool, AllocError> {
-    let mut text = StaticString::<1_000>::new();
-    for _ in 0..len {
-        let _ = text.push(b'x');
-    }
-    text_comes_back(alloc, &text)
-}
-
-#[test]
-fn lists_and_texts_of_each_size_go_through_their_text_forms(
-    rt: HostRuntime,
-) -> Result<(), AllocError> {
-    for len in &[0usize, 1, 2, 7, 64, 1_000] {
-        hold(
-            &rt,
-            &[is_list_of(rt.alloc(), *len), is_text_of(rt.alloc(), *len)],
-        )?;
-    }
-    Ok(())
+    hold(&rt, &answers);
 }

@@ -11,6 +11,9 @@ pub(crate) trait Numbers: SharedQueue {
     /// Whether a full queue hands its oldest number out, or refuses the new one.
     const OVERFLOWS: bool;
 
+    /// The largest number that a value says; a value without words says 0 of each.
+    const LARGEST: u64;
+
     /// Puts a number behind the rest before the queue is shared.
     fn put_before(&mut self, value: u64);
 
@@ -20,19 +23,17 @@ pub(crate) trait Numbers: SharedQueue {
     fn take_next(consumer: &mut Consumer<'_, Self>) -> Option<u64>;
 }
 
-fn refused(value: u64, is_kept: bool) -> Option<u64> {
-    if is_kept { None } else { Some(value) }
-}
-
 impl Numbers for IndexQueue {
     const OVERFLOWS: bool = false;
+
+    const LARGEST: u64 = u64::MAX;
 
     fn put_before(&mut self, value: u64) {
         let _ = self.push(value);
     }
 
     fn put(producer: &mut Producer<'_, Self>, value: u64) -> Option<u64> {
-        refused(value, producer.push(value))
+        (!producer.push(value)).then_some(value)
     }
 
     fn take_next(consumer: &mut Consumer<'_, Self>) -> Option<u64> {
@@ -43,12 +44,14 @@ impl Numbers for IndexQueue {
 impl<const CAPACITY: usize> Numbers for FixedSizeIndexQueue<CAPACITY> {
     const OVERFLOWS: bool = false;
 
+    const LARGEST: u64 = u64::MAX;
+
     fn put_before(&mut self, value: u64) {
         let _ = self.push(value);
     }
 
     fn put(producer: &mut Producer<'_, Self>, value: u64) -> Option<u64> {
-        refused(value, producer.push(value))
+        (!producer.push(value)).then_some(value)
     }
 
     fn take_next(consumer: &mut Consumer<'_, Self>) -> Option<u64> {
@@ -56,66 +59,45 @@ impl<const CAPACITY: usize> Numbers for FixedSizeIndexQueue<CAPACITY> {
     }
 }
 
-/// A value of several words, of which the first and the last say something of a number.
-pub(crate) trait Wide: Words + PartialEq {
-    /// The value that says this number.
-    fn of(number: u64) -> Self;
-
-    /// The number that its first words say.
-    fn number(&self) -> u64;
-}
-
-impl Wide for u128 {
-    fn of(number: u64) -> u128 {
-        u128::from(number) << 40
-    }
-
-    fn number(&self) -> u64 {
-        u64::try_from(*self >> 40).unwrap_or(u64::MAX)
+/// The value whose first words say this number, and whose last one says it otherwise; None where it has more than sixteen.
+pub(crate) fn wide<T: Words>(number: u64) -> Option<T> {
+    let mut words = [number; 16];
+    words[T::WORDS.saturating_sub(1).min(15)] = number << 40;
+    match words.get(..T::WORDS) {
+        Some(words) => Some(T::of_words(words)),
+        None => None,
     }
 }
 
-impl<const LENGTH: usize> Wide for [u64; LENGTH] {
-    fn of(number: u64) -> [u64; LENGTH] {
-        let mut words = [number; LENGTH];
-        if let Some(last) = words.last_mut() {
-            *last = number << 40;
-        }
-        words
-    }
-
-    fn number(&self) -> u64 {
-        match self.first() {
-            Some(number) => *number,
-            None => u64::MAX,
-        }
-    }
-}
-
-impl<T: Wide, const CAPACITY: usize> Numbers for Queue<T, CAPACITY> {
+impl<T: Words + PartialEq, const CAPACITY: usize> Numbers for Queue<T, CAPACITY> {
     const OVERFLOWS: bool = false;
 
+    const LARGEST: u64 = if T::WORDS == 0 { 0 } else { u64::MAX };
+
     fn put_before(&mut self, value: u64) {
-        let _ = self.push(&T::of(value));
+        if let Some(value) = wide(value) {
+            let _ = self.push(&value);
+        }
     }
 
     fn put(producer: &mut Producer<'_, Self>, value: u64) -> Option<u64> {
-        refused(value, producer.push(&T::of(value)))
+        match wide::<T>(value) {
+            Some(wide) if producer.push(&wide) => None,
+            _ => Some(value),
+        }
     }
 
     fn take_next(consumer: &mut Consumer<'_, Self>) -> Option<u64> {
         let value = consumer.pop()?;
-        let number = value.number();
-        if value == T::of(number) {
-            Some(number)
-        } else {
-            None
-        }
+        let number = value.word(0);
+        (wide(number) == Some(value)).then_some(number)
     }
 }
 
 impl Numbers for SafelyOverflowingIndexQueue {
     const OVERFLOWS: bool = true;
+
+    const LARGEST: u64 = u64::MAX;
 
     fn put_before(&mut self, value: u64) {
         let _ = self.push(value);
@@ -132,6 +114,8 @@ impl Numbers for SafelyOverflowingIndexQueue {
 
 impl<const CAPACITY: usize> Numbers for FixedSizeSafelyOverflowingIndexQueue<CAPACITY> {
     const OVERFLOWS: bool = true;
+
+    const LARGEST: u64 = u64::MAX;
 
     fn put_before(&mut self, value: u64) {
         let _ = self.push(value);
@@ -163,5 +147,5 @@ pub(crate) fn shared<Q: Numbers>(
 pub(crate) fn ends<Q: SharedQueue>(
     shared: &Shared<Q>,
 ) -> Option<(Producer<'_, Q>, Consumer<'_, Q>)> {
-    Some((shared.acquire_producer()?, shared.acquire_consumer()?))
+    shared.acquire_producer().zip(shared.acquire_consumer())
 }

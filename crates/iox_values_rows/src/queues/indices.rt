@@ -1,25 +1,31 @@
 //! Sets of indices that threads share: each answer that they give, and guards in two threads.
-use crate::answers::hold;
+use crate::answers::{all, hold};
 use iox_index::{
     HeadDetails, ReleaseMode, SharedIndexSet, UniqueIndex, UniqueIndexSet,
     UniqueIndexSetAcquireFailure,
 };
 use std::alloc::{AllocError, Global};
-use std::sync::atomic::{AtomicBool, AtomicUsize, Ordering};
+use std::sync::atomic::{AtomicU64, AtomicUsize, Ordering};
 use std::thread;
 use std::thread::Threads;
 
 const NONE_LEFT: UniqueIndexSetAcquireFailure = UniqueIndexSetAcquireFailure::OutOfIndices;
 
-/// A set of so many indices, shared, of which the first ones are held.
+/// A set of so many indices, shared, of which the first ones are held but for these, which were released in this order.
 pub(crate) fn shared(
     alloc: Global,
     capacity: usize,
     held: usize,
+    released: &[usize],
 ) -> Result<SharedIndexSet, AllocError> {
     let mut set = UniqueIndexSet::new(alloc, capacity)?;
     for _ in 0..held {
         let _ = set.acquire_raw_index();
+    }
+    for index in released {
+        if set.is_held(*index) {
+            let _ = set.release_raw_index(*index, ReleaseMode::Default);
+        }
     }
     set.share(alloc).ok().ok_or(AllocError)
 }
@@ -34,7 +40,7 @@ fn next(set: &SharedIndexSet) -> Result<usize, UniqueIndexSetAcquireFailure> {
 
 /// Whether a set hands out the index behind those that are held, if there is one, twice over.
 fn hands_out(alloc: Global, capacity: usize, held: usize) -> Result<bool, AllocError> {
-    let set = shared(alloc, capacity, held)?;
+    let set = shared(alloc, capacity, held, &[])?;
     let wanted = if held < capacity {
         Ok(held)
     } else {
@@ -44,20 +50,12 @@ fn hands_out(alloc: Global, capacity: usize, held: usize) -> Result<bool, AllocE
 }
 
 /// Whether sets of a size do of which none, half and all are held.
-fn all_hand_out(alloc: Global, size: usize) -> [Result<bool, AllocError>; 3] {
-    [
+fn all_hand_out(alloc: Global, size: usize) -> Result<bool, AllocError> {
+    all(&[
         hands_out(alloc, size, 0),
         hands_out(alloc, size, size / 2),
         hands_out(alloc, size, size),
-    ]
-}
-
-#[test]
-fn a_shared_set_goes_on_where_the_plain_one_was(rt: HostRuntime) -> Result<(), AllocError> {
-    for size in &[0usize, 1, 2, 7, 64, 1_000] {
-        hold(&rt, &all_hand_out(rt.alloc(), *size))?;
-    }
-    Ok(())
+    ])
 }
 
 /// Whether so many indices are held, after so many changes, and this one comes next.
@@ -100,7 +98,7 @@ fn counts_what_comes_back(
 /// last index released.
 fn counts_its_changes(set: &SharedIndexSet) -> bool {
     let before = is_at(set, 1, 0, 2);
-    let (Ok(first), Ok(second)) = (set.acquire(), set.acquire()) else {
+    let Some((first, second)) = set.acquire().ok().zip(set.acquire().ok()) else {
         return false;
     };
     let values = [first.value(), second.value()];
@@ -108,33 +106,8 @@ fn counts_its_changes(set: &SharedIndexSet) -> bool {
     counts_what_comes_back(set, first, second) && before && counted && values == [2, 1]
 }
 
-fn release(set: &mut UniqueIndexSet, index: usize) {
-    if set.is_held(index) {
-        let _ = set.release_raw_index(index, ReleaseMode::Default);
-    }
-}
-
-/// A set of three indices, of which 0 is held, and 1, then 2 were released.
-fn released(alloc: Global) -> Result<UniqueIndexSet, AllocError> {
-    let mut set = UniqueIndexSet::new(alloc, 3)?;
-    for _ in 0..3 {
-        let _ = set.acquire_raw_index();
-    }
-    release(&mut set, 1);
-    release(&mut set, 2);
-    Ok(set)
-}
-
 fn changes(alloc: Global) -> Result<bool, AllocError> {
-    match released(alloc)?.share(alloc) {
-        Ok(shared) => Ok(counts_its_changes(&shared)),
-        Err(_) => Err(AllocError),
-    }
-}
-
-#[test]
-fn a_shared_set_gives_each_answer(rt: HostRuntime) -> Result<(), AllocError> {
-    hold(&rt, &[changes(rt.alloc())])
+    Ok(counts_its_changes(&shared(alloc, 3, 3, &[1, 2])?))
 }
 
 /// How often a thread takes two indices.
@@ -143,48 +116,22 @@ const ROUNDS: usize = 1_000;
 /// How often a thread looks whether the other one is as far, before it gives up.
 const LOOKS: u32 = 1 << 30;
 
-/// Which of four indices are held.
-#[derive(Drop)]
-struct Marks {
-    first: AtomicBool,
-    second: AtomicBool,
-    third: AtomicBool,
-    fourth: AtomicBool,
-}
-
-impl Marks {
-    fn new() -> Self {
-        Marks {
-            first: AtomicBool::new(false),
-            second: AtomicBool::new(false),
-            third: AtomicBool::new(false),
-            fourth: AtomicBool::new(false),
-        }
-    }
-
-    fn get(&self, index: u32) -> Option<&AtomicBool> {
-        match index {
-            0 => Some(&self.first),
-            1 => Some(&self.second),
-            2 => Some(&self.third),
-            3 => Some(&self.fourth),
-            _ => None,
-        }
+/// The mark of an index in a word that says which of four are held; 0 where it is none of them.
+fn mark(index: &UniqueIndex<'_>) -> u64 {
+    match index.value() {
+        0 => 1,
+        1 => 2,
+        2 => 4,
+        3 => 8,
+        _ => 0,
     }
 }
 
-/// Whether an index was held, or is none of the four. It is marked as held from now on.
-fn is_marked(held: &Marks, index: u32) -> bool {
-    match held.get(index) {
-        Some(mark) => mark.swap(true, Ordering::SeqCst),
-        None => true,
-    }
-}
-
-/// An index that nobody held, which is marked as held from now on.
-fn take<'a>(set: &'a SharedIndexSet, held: &Marks) -> Option<UniqueIndex<'a>> {
+/// One of the four indices, which nobody held. It is marked as held from now on.
+fn take<'a>(set: &'a SharedIndexSet, held: &AtomicU64) -> Option<UniqueIndex<'a>> {
     let index = set.acquire().ok()?;
-    if is_marked(held, index.value()) {
+    let mark = mark(&index);
+    if mark == 0 || held.fetch_or(mark, Ordering::SeqCst) & mark != 0 {
         None
     } else {
         Some(index)
@@ -192,10 +139,8 @@ fn take<'a>(set: &'a SharedIndexSet, held: &Marks) -> Option<UniqueIndex<'a>> {
 }
 
 /// Gives an index back, which isn't marked any longer.
-fn give(index: UniqueIndex<'_>, held: &Marks) {
-    if let Some(mark) = held.get(index.value()) {
-        mark.store(false, Ordering::SeqCst);
-    }
+fn give(index: UniqueIndex<'_>, held: &AtomicU64) {
+    held.fetch_and(!mark(&index), Ordering::SeqCst);
     drop(index);
 }
 
@@ -211,9 +156,14 @@ fn meets(other: &AtomicUsize, round: usize) -> bool {
 
 /// Takes two of four indices again and again, and holds them until the other thread holds its two as well; whether none came that is
 /// held, or that the set doesn't have.
-fn holds_two(set: &SharedIndexSet, held: &Marks, mine: &AtomicUsize, others: &AtomicUsize) -> bool {
+fn holds_two(
+    set: &SharedIndexSet,
+    held: &AtomicU64,
+    mine: &AtomicUsize,
+    others: &AtomicUsize,
+) -> bool {
     for round in 1..ROUNDS + 1 {
-        let (Some(first), Some(second)) = (take(set, held), take(set, held)) else {
+        let Some((first, second)) = take(set, held).zip(take(set, held)) else {
             return false;
         };
         mine.store(round, Ordering::SeqCst);
@@ -228,7 +178,7 @@ fn holds_two(set: &SharedIndexSet, held: &Marks, mine: &AtomicUsize, others: &At
 
 /// Whether two threads hold two indices each at one time, all of them different, and give back what they take.
 fn all_come_back(rt: &impl Threads, set: &SharedIndexSet) -> bool {
-    let held = Marks::new();
+    let held = AtomicU64::new(0);
     let first = AtomicUsize::new(0);
     let second = AtomicUsize::new(0);
     let (here, there) = thread::join(
@@ -240,10 +190,21 @@ fn all_come_back(rt: &impl Threads, set: &SharedIndexSet) -> bool {
 }
 
 fn come_back(rt: &impl Threads, alloc: Global) -> Result<bool, AllocError> {
-    Ok(all_come_back(rt, &shared(alloc, 4, 0)?))
+    Ok(all_come_back(rt, &shared(alloc, 4, 0, &[])?))
 }
 
 #[test]
-fn guards_in_two_threads_hold_each_index_alone(rt: HostRuntime) -> Result<(), AllocError> {
-    hold(&rt, &[come_back(&rt, rt.alloc())])
+fn a_shared_set_gives_each_answer(rt: HostRuntime) {
+    let alloc: Global = rt.alloc();
+    let answers = [
+        all_hand_out(alloc, 0),
+        all_hand_out(alloc, 1),
+        all_hand_out(alloc, 2),
+        all_hand_out(alloc, 7),
+        all_hand_out(alloc, 64),
+        all_hand_out(alloc, 1_000),
+        changes(alloc),
+        come_back(&rt, alloc),
+    ];
+    hold(&rt, &answers);
 }

@@ -15,8 +15,6 @@ use iox_queues::{
 };
 use std::alloc::{AllocError, Global};
 
-const SIZES: [usize; 6] = [0, 1, 2, 7, 64, 1_000];
-
 /// More places than anyone fills: the most that a set has that threads share.
 const MANY: usize = (1 << 24) - 1;
 
@@ -57,22 +55,18 @@ const POP: [Move; 6] = [
     Move::GoOn(Party::Consumer),
 ];
 
-/// Whether so many pops end on a ring.
-fn are_popped(machine: &mut RingMachine, size: usize) -> bool {
+/// The want of so many pops on a ring that is made.
+fn ring(made: Result<RingMachine, AllocError>, size: usize) -> Want {
+    let mut machine = match made {
+        Ok(machine) => machine,
+        Err(error) => return Some(error),
+    };
     for _ in 0..size {
         if machine.moments() < 1 << 40 {
             let _ = machine.run(&POP);
         }
     }
-    machine.pops().len() == size
-}
-
-/// The want of as many pops on a ring that is made.
-fn ring(made: Result<RingMachine, AllocError>, size: usize) -> Want {
-    match made {
-        Ok(mut machine) => want_unless(are_popped(&mut machine, size)),
-        Err(error) => Some(error),
-    }
+    want_unless(machine.pops().len() == size)
 }
 
 /// The wants of rings in which as many numbers wait as there is room for.
@@ -98,60 +92,36 @@ fn rings_of(alloc: Global, size: usize) -> [Want; 2] {
     }
 }
 
-/// Whether the calls end of so many parties in a set of as many places, each of which sets its own.
-fn are_set(machine: &mut SetMachine, size: usize) -> bool {
+/// The want of the calls of so many parties in a set of as many bits, each of which sets its own.
+fn bits(alloc: Global, size: usize) -> Want {
+    let mut machine = match SetMachine::new(alloc, 1, size, size) {
+        Ok(machine) => machine,
+        Err(error) => return Some(error),
+    };
     for party in 0..size {
         let go_on = sets::Move::GoOn(party);
         let set = sets::Move::Begin(party, sets::Call::Set(party as u64));
         let _ = machine.run(&[set, go_on, go_on, go_on]);
     }
-    machine.finished().len() == size
+    want_unless(machine.finished().len() == size)
 }
 
-/// The want of as many calls on a set of bits.
-fn bits(alloc: Global, size: usize) -> Want {
-    match SetMachine::new(alloc, 1, size, size) {
-        Ok(mut machine) => want_unless(are_set(&mut machine, size)),
-        Err(error) => Some(error),
+/// The want of the calls of so many parties in a set of as many indices, each of which takes the first one in its turn, and gives it back.
+fn turns(alloc: Global, size: usize) -> Want {
+    if size > MANY {
+        return Some(AllocError);
     }
-}
-
-/// Whether so many parties, each in its turn, take the first index and give it back.
-fn is_taken_in_turn(machine: &mut IndexSetMachine, size: usize) -> bool {
+    let mut machine = match IndexSetMachine::new(alloc, size, size) {
+        Ok(machine) => machine,
+        Err(error) => return Some(error),
+    };
     for party in 0..size {
         let take = IndexSetMove::Begin(party, IndexSetCall::Acquire);
         let give = IndexSetMove::Begin(party, IndexSetCall::Release(0, ReleaseMode::Default));
         let on = IndexSetMove::GoOn(party);
         let _ = machine.run(&[take, on, on, on, on, give, on, on, on, on]);
     }
-    machine.finished().len() / 2 == size
-}
-
-/// The want of such turns in a set of as many indices.
-fn turns(alloc: Global, size: usize) -> Want {
-    if size > MANY {
-        return Some(AllocError);
-    }
-    match IndexSetMachine::new(alloc, size, size) {
-        Ok(mut machine) => want_unless(is_taken_in_turn(&mut machine, size)),
-        Err(error) => Some(error),
-    }
-}
-
-/// Makes a call on a single value of so many words, up to its end.
-fn make(machine: &mut AtomicMachine, call: atomic::Call, size: usize) {
-    let _ = machine.step(atomic::Move::Begin(0, call));
-    for _ in 0..size {
-        let _ = machine.step(atomic::Move::GoOn(0));
-    }
-    let _ = machine.run(&[atomic::Move::GoOn(0); 3]);
-}
-
-/// Whether a store and a load end.
-fn are_stored_and_loaded(machine: &mut AtomicMachine, size: usize) -> bool {
-    make(machine, atomic::Call::Store(0), size);
-    make(machine, atomic::Call::Load, size);
-    machine.finished().len() == 2
+    want_unless(machine.finished().len() / 2 == size)
 }
 
 /// A single value of so many words.
@@ -161,10 +131,17 @@ fn value(alloc: Global, size: usize) -> Result<AtomicMachine, AllocError> {
 
 /// The want of a store and a load of so many words.
 fn words(alloc: Global, size: usize) -> Want {
-    match value(alloc, size) {
-        Ok(mut machine) => want_unless(are_stored_and_loaded(&mut machine, size)),
-        Err(error) => Some(error),
+    let mut machine = match value(alloc, size) {
+        Ok(machine) => machine,
+        Err(error) => return Some(error),
+    };
+    for call in &[atomic::Call::Store(0), atomic::Call::Load] {
+        let _ = machine.step(atomic::Move::Begin(0, *call));
+        for _ in 0..size.saturating_add(3) {
+            let _ = machine.step(atomic::Move::GoOn(0));
+        }
     }
+    want_unless(machine.finished().len() == 2)
 }
 
 /// The wants of what is made empty.
@@ -175,35 +152,46 @@ fn empty(alloc: Global, size: usize) -> [Want; 6] {
         IndexQueue::new(alloc, size).err(),
         RobustUniqueIndexSet::new(alloc, size).err(),
         container(alloc, size, 0),
-        indices::shared(alloc, size, 0).err(),
+        indices::shared(alloc, size, 0, &[]).err(),
     ]
 }
 
 /// The wants of what is filled, or of calls on it.
-fn filled(alloc: Global, size: usize) -> [Want; 5] {
+fn filled(alloc: Global, size: usize) -> [Want; 7] {
+    let [refusing, overflowing] = rings_of(alloc, size);
     [
         container(alloc, size, size / 2),
         container(alloc, size, size),
         bits(alloc, size),
         turns(alloc, size),
         words(alloc, size),
+        refusing,
+        overflowing,
     ]
 }
 
 #[test]
 fn ample_memory_is_enough_at_each_size(rt: HostRuntime) -> Result<(), AllocError> {
-    for size in &SIZES {
-        find_memory(&empty(rt.alloc(), *size))?;
-        find_memory(&filled(rt.alloc(), *size))?;
-        find_memory(&rings_of(rt.alloc(), *size))?;
-    }
-    find_memory(&empty(rt.alloc(), 100_000))
-}
-
-#[test]
-fn many_places_are_made_of_which_few_are_used(rt: HostRuntime) -> Result<(), AllocError> {
-    let few = container(rt.alloc(), MANY, 3);
-    find_memory(&[few, indices::shared(rt.alloc(), MANY, 0).err()])
+    let alloc: Global = rt.alloc();
+    let wants = [
+        empty(alloc, 0),
+        empty(alloc, 1),
+        empty(alloc, 2),
+        empty(alloc, 7),
+        empty(alloc, 64),
+        empty(alloc, 1_000),
+        empty(alloc, 100_000),
+    ];
+    find_memory(wants.as_flattened())?;
+    let wants = [
+        filled(alloc, 0),
+        filled(alloc, 1),
+        filled(alloc, 2),
+        filled(alloc, 7),
+        filled(alloc, 64),
+        filled(alloc, 1_000),
+    ];
+    find_memory(wants.as_flattened())
 }
 
 /// The want of a set of fixed size that is shared.
@@ -233,23 +221,18 @@ fn fixed<const SIZE: usize>(alloc: Global) -> [Want; 5] {
     ]
 }
 
-fn all_fixed(alloc: Global) -> [[Want; 5]; 6] {
-    [
+#[test]
+fn ample_memory_is_enough_at_each_fixed_size(rt: HostRuntime) -> Result<(), AllocError> {
+    let alloc: Global = rt.alloc();
+    let wants = [
         fixed::<0>(alloc),
         fixed::<1>(alloc),
         fixed::<2>(alloc),
         fixed::<7>(alloc),
         fixed::<64>(alloc),
         fixed::<1_000>(alloc),
-    ]
-}
-
-#[test]
-fn ample_memory_is_enough_at_each_fixed_size(rt: HostRuntime) -> Result<(), AllocError> {
-    for wants in &all_fixed(rt.alloc()) {
-        find_memory(wants)?;
-    }
-    Ok(())
+    ];
+    find_memory(wants.as_flattened())
 }
 
 /// The wants of what nothing has room for. The positions of such a ring would go too far apart.
@@ -258,13 +241,15 @@ fn too_much(alloc: Global) -> [Want; 6] {
         RobustUniqueIndexSet::new(alloc, usize::MAX).err(),
         container(alloc, usize::MAX, 0),
         IndexQueue::new(alloc, usize::MAX).err(),
-        indices::shared(alloc, usize::MAX, 0).err(),
-        indices::shared(alloc, MANY + 1, 0).err(),
+        indices::shared(alloc, usize::MAX, 0, &[]).err(),
+        indices::shared(alloc, MANY + 1, 0, &[]).err(),
         RingMachine::overflowing(alloc, 1 << 62, &[]).err(),
     ]
 }
 
 #[test]
-fn takes_no_more_room_than_there_is(rt: HostRuntime) {
+fn takes_as_much_room_as_there_is_and_no_more(rt: HostRuntime) -> Result<(), AllocError> {
     are_refused(&rt, &too_much(rt.alloc()));
+    let few = container(rt.alloc(), MANY, 3);
+    find_memory(&[few, indices::shared(rt.alloc(), MANY, 0, &[]).err()])
 }

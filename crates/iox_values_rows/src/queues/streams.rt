@@ -1,9 +1,10 @@
 //! 100,000 numbers through two threads.
 use crate::answers::hold;
-use crate::queues::ends::{Numbers, ends, shared};
+use crate::queues::ends::{Numbers, ends, shared, wide};
 use iox_queues::{
-    Consumer, FixedSizeIndexQueue, FixedSizeSafelyOverflowingIndexQueue, IndexQueue, Producer,
-    Queue, SafelyOverflowingIndexQueue, Share, Shared, UnrestrictedAtomic,
+    Consumer, FixedSizeIndexQueue, FixedSizeSafelyOverflowingIndexQueue as FixedOverflowing,
+    IndexQueue, Producer, Queue, SafelyOverflowingIndexQueue as Overflowing, Share, Shared,
+    UnrestrictedAtomic, Words,
 };
 use std::alloc::{AllocError, Global};
 use std::thread;
@@ -20,16 +21,14 @@ struct Rising {
     sum: u64,
 }
 
-impl Rising {
-    fn new() -> Rising {
-        Rising {
-            rises: true,
-            next: 0,
-            count: 0,
-            sum: 0,
-        }
-    }
+const NONE: Rising = Rising {
+    rises: true,
+    next: 0,
+    count: 0,
+    sum: 0,
+};
 
+impl Rising {
     fn note(&mut self, value: u64) {
         self.rises = self.rises && self.next <= value;
         self.next = value.saturating_add(1);
@@ -48,7 +47,7 @@ impl Rising {
 
 // Puts all numbers in, each again and again until it isn't refused. The answer is what was handed out for them.
 fn put_all<Q: Numbers>(producer: &mut Producer<'_, Q>) -> Rising {
-    let mut out = Rising::new();
+    let mut out = NONE;
     let mut next = 0u64;
     for _ in 0..1_000_000_000u64 {
         if next == COUNT {
@@ -68,7 +67,7 @@ fn put_all<Q: Numbers>(producer: &mut Producer<'_, Q>) -> Rising {
 
 // Takes numbers until the last one came, which is never handed out.
 fn take_all<Q: Numbers>(consumer: &mut Consumer<'_, Q>) -> Rising {
-    let mut got = Rising::new();
+    let mut got = NONE;
     for _ in 0..1_000_000_000u64 {
         if got.next == COUNT {
             break;
@@ -98,33 +97,14 @@ fn goes<Q: Numbers + Send>(
     Ok(none_is_lost(rt, &shared(alloc, queue, 0)?))
 }
 
-#[test]
-fn queues_lose_no_number_and_keep_their_order(rt: HostRuntime) -> Result<(), AllocError> {
-    let alloc: Global = rt.alloc();
-    let answers = [
-        goes(&rt, alloc, IndexQueue::new(alloc, 64)),
-        goes(&rt, alloc, FixedSizeIndexQueue::<64>::new(alloc)),
-        goes(&rt, alloc, Queue::<u128, 64>::new(alloc)),
-        goes(&rt, alloc, SafelyOverflowingIndexQueue::new(alloc, 8)),
-        goes(
-            &rt,
-            alloc,
-            FixedSizeSafelyOverflowingIndexQueue::<8>::new(alloc),
-        ),
-    ];
-    hold(&rt, &answers)
-}
-
-// Stores 0, 1, 2, .. with the same number in both words.
+// Stores a value of each number.
 fn store_all(producer: &mut Producer<'_, UnrestrictedAtomic<u128>>) -> bool {
-    for value in 0..COUNT {
-        producer.store(twice(value));
+    for number in 0..COUNT {
+        if let Some(value) = wide(number) {
+            producer.store(value);
+        }
     }
     true
-}
-
-fn twice(value: u64) -> u128 {
-    (u128::from(value) << 64) | u128::from(value)
 }
 
 // Each load is whole and never older than the one before, up to the last.
@@ -132,11 +112,11 @@ fn load_all(shared: &Shared<UnrestrictedAtomic<u128>>) -> bool {
     let mut seen = 0u64;
     for _ in 0..1_000_000_000u64 {
         if let Some(value) = shared.load() {
-            let low = (value % (1 << 64)) as u64;
-            if value != twice(low) || low < seen {
+            let number = value.word(0);
+            if wide(number) != Some(value) || number < seen {
                 return false;
             }
-            seen = low;
+            seen = number;
             if seen == COUNT - 1 {
                 return true;
             }
@@ -162,6 +142,15 @@ fn loads_whole(rt: &impl Threads, alloc: Global) -> Result<bool, AllocError> {
 }
 
 #[test]
-fn a_shared_value_is_loaded_whole(rt: HostRuntime) -> Result<(), AllocError> {
-    hold(&rt, &[loads_whole(&rt, rt.alloc())])
+fn no_number_is_lost_and_a_value_is_loaded_whole(rt: HostRuntime) {
+    let alloc: Global = rt.alloc();
+    let answers = [
+        goes(&rt, alloc, IndexQueue::new(alloc, 64)),
+        goes(&rt, alloc, FixedSizeIndexQueue::<64>::new(alloc)),
+        goes(&rt, alloc, Queue::<u128, 64>::new(alloc)),
+        goes(&rt, alloc, Overflowing::new(alloc, 8)),
+        goes(&rt, alloc, FixedOverflowing::<8>::new(alloc)),
+        loads_whole(&rt, alloc),
+    ];
+    hold(&rt, &answers);
 }
