@@ -2,13 +2,14 @@
 ghost use Rattle.std.specs.Prelude.{◌≡◌, ◌<◌, ◌^◌, ⊤, true};
 ghost use Rattle.iox_hub_commands.specs.Numbers.{numbers_used};
 
+use crate::lanes;
 use iox_command::{Command, Reply};
 use iox_domain_values::{
     BackpressureAction, BackpressureFn, BackpressureHandler, BackpressureInfo, DegradationAction,
     DegradationCause, DegradationFn, DegradationHandler, DegradationInfo, Handlers,
 };
 use iox_hub::{GivenHandler, GivenHandlers, HandledCommand, run, step};
-use iox_hub_commands::{HubConfig, NumberedHub, RunReport};
+use iox_hub_commands::{HubConfig, NumberedHub};
 use iox_line::{Scratch, print_reply, read_command};
 use std::alloc::{AllocError, Global};
 use std::cell::Cell;
@@ -20,8 +21,8 @@ pub(crate) type Numbers = NumberedHub<u64, u64, Handlers, DegradationHandler>;
 /// Handlers that are handed in.
 pub(crate) type Given = GivenHandlers<BackpressureHandler, DegradationHandler>;
 
-/// Its list of expired connections holds one, where one sample of a publisher may be held.
-pub(crate) const CONFIG: HubConfig = HubConfig {
+// Its list of expired connections holds one, where one sample of a publisher may be held.
+const CONFIG: HubConfig = HubConfig {
     expired_connection_buffer: 0,
     id: 0,
 };
@@ -34,13 +35,6 @@ struct InTurn<A> {
 }
 
 impl<A: Copy> InTurn<A> {
-    fn new(actions: (A, A)) -> Self {
-        InTurn {
-            actions,
-            is_second: Cell::new(false),
-        }
-    }
-
     fn next(&self) -> A {
         let is_second = self.is_second.get();
         self.is_second.set(!is_second);
@@ -68,26 +62,6 @@ impl DegradationFn for InTurn<DegradationAction> {
     }
 }
 
-// Hands in an object for full mailboxes.
-fn hand_full(
-    alloc: Global,
-    given: &mut Given,
-    actions: (BackpressureAction, BackpressureAction),
-) -> Result<u64, AllocError> {
-    let object = Box::new(alloc, InTurn::new(actions))?;
-    given.hand_in(GivenHandler::Backpressure(BackpressureHandler::boxed(object)))
-}
-
-// Hands in an object for connections that failed.
-fn hand_failure(
-    alloc: Global,
-    given: &mut Given,
-    actions: (DegradationAction, DegradationAction),
-) -> Result<u64, AllocError> {
-    let object = Box::new(alloc, InTurn::new(actions))?;
-    given.hand_in(GivenHandler::Degradation(DegradationHandler::boxed(object)))
-}
-
 // What those for full mailboxes do, at places 1 to 4.
 const AT_FULL: [(BackpressureAction, BackpressureAction); 4] = [
     (BackpressureAction::Retry, BackpressureAction::DiscardData),
@@ -113,6 +87,28 @@ const AT_FAILURE: [(DegradationAction, DegradationAction); 2] = [
         DegradationAction::DegradeAndFail,
     ),
 ];
+
+// Hands in the objects for full mailboxes.
+fn hand_in_full(alloc: Global, given: &mut Given) -> Result<(), AllocError> {
+    for actions in &AT_FULL {
+        let actions = *actions;
+        let is_second = Cell::new(false);
+        let object = Box::new(alloc, InTurn { actions, is_second })?;
+        given.hand_in(GivenHandler::Backpressure(BackpressureHandler::boxed(object)))?;
+    }
+    Ok(())
+}
+
+// Hands in the objects for connections that failed, and so many more.
+fn hand_in_failures(alloc: Global, given: &mut Given, more: usize) -> Result<(), AllocError> {
+    for place in 0..more.saturating_add(2) {
+        let actions = AT_FAILURE[if place == 1 { 1 } else { 0 }];
+        let is_second = Cell::new(false);
+        let object = Box::new(alloc, InTurn { actions, is_second })?;
+        given.hand_in(GivenHandler::Degradation(DegradationHandler::boxed(object)))?;
+    }
+    Ok(())
+}
 
 /// A line, the places that it names, at a full mailbox and where a connection failed, and the reply.
 pub(crate) type Row = (&'static str, Option<u64>, Option<u64>, &'static str);
@@ -179,32 +175,18 @@ fn goes(
     is_reply(alloc, &reply, wanted)
 }
 
-// How many lines are replied to as their rows say, one after another.
-fn number_gone(
-    alloc: Global,
-    hub: &mut Numbers,
-    given: &mut Given,
-    scratch: &mut Scratch,
-    rows: &[Row],
-) -> Result<usize, AllocError> {
-    for (place, row) in rows.iter().enumerate() {
-        if !goes(alloc, hub, given, scratch, row)? {
-            return Ok(place);
-        }
-    }
-    Ok(rows.len())
-}
-
-/// Each line must be replied to as its row says.
+/// Each line must be replied to as its row says, one after another.
 pub(crate) fn go_on(
     rt: &impl Abort,
     alloc: Global,
     hub: &mut Numbers,
     given: &mut Given,
+    scratch: &mut Scratch,
     rows: &[Row],
 ) -> Result<(), AllocError> {
-    let gone = number_gone(alloc, hub, given, &mut Scratch::new(alloc)?, rows)?;
-    assert!(rt; gone == rows.len(), "row {gone}");
+    for (place, row) in rows.iter().enumerate() {
+        assert!(rt; goes(alloc, hub, given, scratch, row)?, "row {place}");
+    }
     Ok(())
 }
 
@@ -232,11 +214,6 @@ fn nodes(alloc: Global, len: usize) -> Result<Vec<HandledCommand<'static, u64>>,
     Ok(commands)
 }
 
-// Whether so many commands were replied to.
-fn is_whole(report: &RunReport<u64>, len: usize) -> bool {
-    !report.stopped && report.replies.len() == len
-}
-
 // Whether each of so many commands is replied to, in a run with handlers or without.
 fn runs(
     alloc: Global,
@@ -247,79 +224,73 @@ fn runs(
 ) -> Result<bool, AllocError>
     requires { numbers_used hub.old < 2 ^ 32 }
 {
-    if with_handlers {
-        let commands = nodes(alloc, len)?;
-        Ok(is_whole(&run(hub, alloc, commands, given), len))
+    let report = if with_handlers {
+        run(hub, alloc, nodes(alloc, len)?, given)
     } else {
-        let commands = loans(alloc, len)?;
-        Ok(is_whole(&hub.run(alloc, commands), len))
-    }
+        hub.run(alloc, loans(alloc, len)?)
+    };
+    Ok(!report.stopped && report.replies.len() == len)
 }
 
-// Hands in four objects for full mailboxes, and then two for connections that failed.
-fn hand_in(alloc: Global, given: &mut Given) -> Result<u64, AllocError> {
-    for actions in &AT_FULL {
-        hand_full(alloc, given, *actions)?;
-    }
-    hand_failure(alloc, given, AT_FAILURE[0])?;
-    hand_failure(alloc, given, AT_FAILURE[1])
+/// What is done in a new hub.
+#[derive(Clone, Copy)]
+pub(crate) enum Course {
+    /// Each line is replied to as its row says. Objects were handed in before.
+    Lines(&'static [Row]),
+    /// So many commands are run, with as many more objects handed in, with handlers or without.
+    Runs(usize, bool),
+    /// The domain of a service goes by lanes.
+    Lanes,
 }
 
-// Hands in so many objects for connections that failed.
-fn hand_in_more(alloc: Global, given: &mut Given, len: usize) -> Result<(), AllocError> {
-    for _ in 0..len {
-        hand_failure(alloc, given, AT_FAILURE[0])?;
-    }
-    Ok(())
-}
-
-// Each line must be replied to as its row says, and then each of so many commands, with as many more objects handed in.
-fn take(
+// Each of so many commands must be replied to where a publisher came before, with as many more objects handed in.
+fn run_on(
     rt: &impl Abort,
     alloc: Global,
     hub: &mut Numbers,
     given: &mut Given,
-    rows: &[Row],
     len: usize,
     with_handlers: bool,
 ) -> Result<(), AllocError> {
-    hand_in(alloc, given)?;
-    hand_in_more(alloc, given, len)?;
-    go_on(rt, alloc, hub, given, rows)?;
     assert!(rt; are_few(hub));
-    assert!(rt; runs(alloc, hub, given, len, with_handlers)?, "{len}");
+    assert!(rt; runs(alloc, hub, given, len, with_handlers)?);
     Ok(())
 }
 
-// The same on a new hub.
-fn go_anew(
+// It must go well.
+fn take(
+    scratch: &mut Scratch,
     rt: &impl Abort,
     alloc: Global,
+    hub: &mut Numbers,
     given: &mut Given,
-    rows: &[Row],
-    len: usize,
-    with_handlers: bool,
+    course: Course,
 ) -> Result<(), AllocError> {
+    hand_in_full(alloc, given)?;
+    match course {
+        Course::Lines(rows) => {
+            hand_in_failures(alloc, given, 0)?;
+            go_on(rt, alloc, hub, given, scratch, rows)
+        }
+        Course::Runs(len, with_handlers) => {
+            hand_in_failures(alloc, given, len)?;
+            go_on(rt, alloc, hub, given, scratch, PUBLISHER)?;
+            run_on(rt, alloc, hub, given, len, with_handlers)
+        }
+        Course::Lanes => lanes::go_on(rt, alloc, hub, given, scratch),
+    }
+}
+
+/// It must go well in a new hub.
+pub(crate) fn go(rt: &impl Abort, alloc: Global, course: Course) -> Result<(), AllocError> {
     take(
+        &mut Scratch::new(alloc)?,
         rt,
         alloc,
         &mut Numbers::new(alloc, CONFIG),
-        given,
-        rows,
-        len,
-        with_handlers,
+        &mut Given::new(alloc),
+        course,
     )
-}
-
-// The same where no objects were handed in before.
-fn go(
-    rt: &impl Abort,
-    alloc: Global,
-    rows: &[Row],
-    len: usize,
-    with_handlers: bool,
-) -> Result<(), AllocError> {
-    go_anew(rt, alloc, &mut Given::new(alloc), rows, len, with_handlers)
 }
 
 // A full mailbox of a service without overflow is asked of the object that the publisher took, and of no action that the command names:
@@ -420,12 +391,9 @@ const FAILURE: &[Row] = &[
 
 #[test]
 fn handlers_that_are_named_are_asked(rt: HostRuntime) -> Result<(), AllocError> {
-    go(&rt, rt.alloc(), FULL, 0, true)?;
-    go(&rt, rt.alloc(), FAILURE, 0, true)
+    go(&rt, rt.alloc(), Course::Lines(FULL))?;
+    go(&rt, rt.alloc(), Course::Lines(FAILURE))
 }
-
-// How many commands are run, with as many more objects handed in.
-const LENGTHS: [usize; 6] = [0, 1, 2, 7, 64, 1000];
 
 // A publisher comes.
 const PUBLISHER: &[Row] = &[
@@ -434,11 +402,14 @@ const PUBLISHER: &[Row] = &[
     ("publisher f1", None, None, "ok p1"),
 ];
 
+// How many commands are run.
+const LENGTHS: [usize; 6] = [0, 1, 2, 7, 64, 1000];
+
 #[test]
 fn lists_of_commands_are_run(rt: HostRuntime) -> Result<(), AllocError> {
     for len in &LENGTHS {
-        go(&rt, rt.alloc(), PUBLISHER, *len, true)?;
-        go(&rt, rt.alloc(), PUBLISHER, *len, false)?;
+        go(&rt, rt.alloc(), Course::Runs(*len, true))?;
+        go(&rt, rt.alloc(), Course::Runs(*len, false))?;
     }
     Ok(())
 }

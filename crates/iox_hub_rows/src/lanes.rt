@@ -1,7 +1,9 @@
 //! The domain of a service goes by lanes for a while, in a hub that commands drive.
-use crate::handled::{CONFIG, Given, Numbers, Row, go_on};
+use crate::handled::{self, Course, Given, Numbers, Row, go};
+use crate::ports::must_be_there;
 use iox_hub::service::Domain;
 use iox_lanes::{Call, Entry, Move, Party, into_lanes};
+use iox_line::Scratch;
 use std::alloc::{AllocError, Global};
 use std::process::Abort;
 
@@ -34,13 +36,6 @@ const BEHIND: [Row; 7] = [
     ("publisher f1", None, None, "ok p2"),
 ];
 
-// The domain of the service, if it is there.
-fn take(rt: &impl Abort, hub: &mut Numbers) -> Option<Domain<u64, u64>> {
-    let service = hub.factories.publish_subscribe(1)?;
-    assert!(rt; hub.hub.holds(service));
-    hub.hub.take_domain(service).ok()
-}
-
 // A whole call of the publisher: it goes on more often than any call takes. What doesn't fit is left out.
 fn add(entries: &mut Vec<Entry>, call: Call) -> Result<(), AllocError> {
     let party = Party::Publisher(0);
@@ -68,6 +63,13 @@ fn schedule(alloc: Global) -> Result<Vec<Entry>, AllocError> {
     Ok(entries)
 }
 
+// The domain of the service, if it is there.
+fn take(rt: &impl Abort, hub: &mut Numbers) -> Option<Domain<u64, u64>> {
+    let service = hub.factories.publish_subscribe(1)?;
+    must_be_there(rt, hub.hub.holds(service));
+    hub.hub.take_domain(service).ok()
+}
+
 // The domain, once its lanes made these entries; none where it doesn't become lanes, or they no domain.
 fn gone_by(alloc: Global, entries: &[Entry], domain: Domain<u64, u64>) -> Option<Domain<u64, u64>> {
     let mut opened = into_lanes(alloc, domain).ok()?;
@@ -81,12 +83,13 @@ fn goes_by_lanes(
     alloc: Global,
     hub: &mut Numbers,
     given: &mut Given,
+    scratch: &mut Scratch,
     entries: &[Entry],
 ) -> Result<bool, AllocError> {
     let Some(domain) = take(rt, hub) else {
         return Ok(false);
     };
-    let went = go_on(rt, alloc, hub, given, &MEANWHILE);
+    let went = handled::go_on(rt, alloc, hub, given, scratch, &MEANWHILE);
     let is_back = match gone_by(alloc, entries, domain) {
         Some(domain) => hub.hub.put_domain(domain).is_ok(),
         None => false,
@@ -95,25 +98,22 @@ fn goes_by_lanes(
     Ok(is_back)
 }
 
-fn go(
+/// It goes so, with commands before and behind.
+pub(crate) fn go_on(
     rt: &impl Abort,
     alloc: Global,
     hub: &mut Numbers,
     given: &mut Given,
+    scratch: &mut Scratch,
 ) -> Result<(), AllocError> {
-    go_on(rt, alloc, hub, given, &BEFORE)?;
+    handled::go_on(rt, alloc, hub, given, scratch, &BEFORE)?;
     let entries = schedule(alloc)?;
-    assert!(rt; goes_by_lanes(rt, alloc, hub, given, entries.as_slice())?);
-    go_on(rt, alloc, hub, given, &BEHIND)
+    let is_back = goes_by_lanes(rt, alloc, hub, given, scratch, entries.as_slice());
+    assert!(rt; is_back?);
+    handled::go_on(rt, alloc, hub, given, scratch, &BEHIND)
 }
 
 #[test]
 fn a_service_of_commands_goes_by_lanes(rt: HostRuntime) -> Result<(), AllocError> {
-    let alloc = rt.alloc();
-    go(
-        &rt,
-        alloc,
-        &mut Numbers::new(alloc, CONFIG),
-        &mut Given::new(alloc),
-    )
+    go(&rt, rt.alloc(), Course::Lanes)
 }

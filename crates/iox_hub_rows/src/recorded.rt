@@ -14,7 +14,6 @@ use iox_hub::prelude::*;
 use iox_hub::recorded::{Named, RecordedHub};
 use iox_hub_commands::{PublisherHandlers, SubscriberHandler};
 use std::alloc::Global;
-use std::process::Abort;
 
 // A recorded hub of messages of numbers.
 type Recorded = RecordedHub<u64, ()>;
@@ -60,19 +59,60 @@ const SUBSCRIBER: SubscriberOptions = SubscriberOptions {
     degradation_handler: None,
 };
 
-// How long the first message is: the longest is as long as its publisher's first slots.
-const LENGTHS: [usize; 3] = [0, 7, 64];
+// Values of the first message: the longest one is as long as its publisher's first slots.
+const VALUES: [&[u64]; 3] = [&[], &[7; 7], &[7; 64]];
 
-// The values of the longest one.
-const SEVENS: [u64; 64] = [7; 64];
+// One step of a publisher and of a subscriber, and what it comes to. Values that aren't named are those of the first message.
+enum Step {
+    // The publisher follows the subscribers.
+    PublisherFollows,
+    // The subscriber follows the publishers.
+    SubscriberFollows,
+    // Whether messages wait for the subscriber.
+    Has(bool),
+    // Values are sent to one subscriber at once; or the send waits at the full mailbox, and waits still when it is tried again.
+    Sends(Option<&'static [u64]>, bool),
+    // Values are received with this number, or without one, and released.
+    Receives(Option<&'static [u64]>, Option<u64>),
+    // A loan of defaults is given up.
+    GivesUp,
+    // A loan of values is written and sent to one subscriber, or refused for this reason.
+    Lends(Option<&'static [u64]>, Result<bool, LoanError>),
+}
 
-// Whether values are sent to so many subscribers at once.
+// Messages are exchanged, one of which finds no room. Then loans are given up, refused where they are longer than the publisher's slots,
+// and sent.
+const MESSAGES: &[Step] = &[
+    Step::PublisherFollows,
+    Step::SubscriberFollows,
+    Step::Has(false),
+    Step::Sends(None, false),
+    Step::Has(true),
+    Step::Receives(None, None),
+    Step::Sends(Some(&[9]), false),
+    Step::Sends(Some(&[10]), true),
+    Step::Receives(Some(&[9]), None),
+    Step::GivesUp,
+    Step::Lends(Some(&[7; 65]), Err(LoanError::ExceedsMaxLoanSize)),
+    Step::Lends(None, Ok(true)),
+    Step::Receives(None, None),
+];
+
+// Messages have the numbers 1 and 2.
+const NUMBERS: &[Step] = &[
+    Step::Sends(Some(&[7]), false),
+    Step::Sends(Some(&[8]), false),
+    Step::Receives(Some(&[7]), Some(1)),
+    Step::Receives(Some(&[8]), Some(2)),
+];
+
+// Whether values are sent to one subscriber at once, or the send waits and does so still when it is tried again.
 fn is_sent(
     alloc: Global,
     hub: &mut Recorded,
     publisher: &Named<slice::Publisher<u64, ()>>,
     values: &[u64],
-    count: usize,
+    waits: bool,
 ) -> bool
     requires { option_map (λ made. made.port) (value_at hub.old.calls.made.publishers publisher.now.number.value)
         ≡ Some publisher.now.it.port }
@@ -80,11 +120,16 @@ fn is_sent(
     ensures subscribers { hub.new.calls.made.subscribers ≡ hub.old.calls.made.subscribers }
 {
     match hub.send_slice(alloc, publisher, values) {
-        Some(Ok(Sent::Delivered(delivered))) => delivered == count,
-        Some(Ok(Sent::Blocked(blocked))) => {
-            let _ = hub.give_up(publisher, blocked);
-            false
-        }
+        Some(Ok(Sent::Delivered(delivered))) => delivered == 1 && !waits,
+        Some(Ok(Sent::Blocked(blocked))) => match hub.retry(publisher, blocked, 1) {
+            Ok(Ok(Sent::Blocked(blocked))) => hub.give_up(publisher, blocked) == Some(0) && waits,
+            Ok(Ok(Sent::Delivered(_))) => false,
+            Ok(Err(_)) => false,
+            Err(blocked) => {
+                let _ = hub.give_up(publisher, blocked);
+                false
+            }
+        },
         Some(Err(_)) => false,
         None => false,
     }
@@ -112,12 +157,13 @@ fn put_values<'a, B: PublisherHandlers, D: SubscriberHandler>(
     }
 }
 
-// Whether a subscriber receives these values, and releases them.
+// Whether a subscriber receives these values with this number, or without one, and releases them.
 fn is_received(
     alloc: Global,
     hub: &mut Recorded,
     subscriber: &Named<slice::Subscriber<u64, ()>>,
     values: &[u64],
+    number: Option<u64>,
 ) -> bool
     requires { value_at hub.old.calls.made.subscribers subscriber.now.number.value ≡ Some subscriber.now.it.port }
     ensures publishers { hub.new.calls.made.publishers ≡ hub.old.calls.made.publishers }
@@ -129,7 +175,8 @@ fn is_received(
                 Some(read) => read == values,
                 None => false,
             };
-            hub.release(sample) && is
+            let has = hub.sequence(&sample) == Some(number);
+            hub.release(sample) && is && has
         }
         Some(Ok(None)) => false,
         Some(Err(_)) => false,
@@ -137,207 +184,45 @@ fn is_received(
     }
 }
 
-// Whether a send waits at the full mailbox, and waits still when it is tried again.
-fn is_waiting(
-    alloc: Global,
-    hub: &mut Recorded,
-    publisher: &Named<slice::Publisher<u64, ()>>,
-    values: &[u64],
-) -> bool
-    requires { option_map (λ made. made.port) (value_at hub.old.calls.made.publishers publisher.now.number.value)
-        ≡ Some publisher.now.it.port }
-    ensures publishers { hub.new.calls.made.publishers ≡ hub.old.calls.made.publishers }
-    ensures subscribers { hub.new.calls.made.subscribers ≡ hub.old.calls.made.subscribers }
-{
-    match hub.send_slice(alloc, publisher, values) {
-        Some(Ok(Sent::Blocked(blocked))) => match hub.retry(publisher, blocked, 1) {
-            Ok(Ok(Sent::Blocked(blocked))) => hub.give_up(publisher, blocked) == Some(0),
-            Ok(Ok(Sent::Delivered(_))) => false,
-            Ok(Err(_)) => false,
-            Err(blocked) => {
-                let _ = hub.give_up(publisher, blocked);
-                false
-            }
-        },
-        Some(Ok(Sent::Delivered(_))) => false,
-        Some(Err(_)) => false,
-        None => false,
-    }
-}
-
-// Whether a publisher follows the subscribers.
-fn publisher_follows(
-    alloc: Global,
-    hub: &mut Recorded,
-    publisher: &Named<slice::Publisher<u64, ()>>,
-) -> bool
-    requires { option_map (λ made. made.port) (value_at hub.old.calls.made.publishers publisher.now.number.value)
-        ≡ Some publisher.now.it.port }
-    ensures publishers { hub.new.calls.made.publishers ≡ hub.old.calls.made.publishers }
-    ensures subscribers { hub.new.calls.made.subscribers ≡ hub.old.calls.made.subscribers }
-{
-    match hub.update_publisher(alloc, publisher) {
-        Some(Ok(())) => true,
-        Some(Err(_)) => false,
-        None => false,
-    }
-}
-
-// Whether a subscriber follows the publishers.
-fn subscriber_follows(
-    alloc: Global,
-    hub: &mut Recorded,
-    subscriber: &Named<slice::Subscriber<u64, ()>>,
-) -> bool
-    requires { value_at hub.old.calls.made.subscribers subscriber.now.number.value ≡ Some subscriber.now.it.port }
-    ensures publishers { hub.new.calls.made.publishers ≡ hub.old.calls.made.publishers }
-    ensures subscribers { hub.new.calls.made.subscribers ≡ hub.old.calls.made.subscribers }
-{
-    match hub.update_subscriber(alloc, subscriber) {
-        Some(Ok(())) => true,
-        Some(Err(_)) => false,
-        None => false,
-    }
-}
-
-// Whether it is told so whether messages wait for a subscriber.
-fn is_told(
-    alloc: Global,
-    hub: &mut Recorded,
-    subscriber: &Named<slice::Subscriber<u64, ()>>,
-    waits: bool,
-) -> bool
-    requires { value_at hub.old.calls.made.subscribers subscriber.now.number.value ≡ Some subscriber.now.it.port }
-    ensures publishers { hub.new.calls.made.publishers ≡ hub.old.calls.made.publishers }
-    ensures subscribers { hub.new.calls.made.subscribers ≡ hub.old.calls.made.subscribers }
-{
-    match hub.has_samples(alloc, subscriber) {
-        Some(Ok(has)) => has == waits,
-        Some(Err(_)) => false,
-        None => false,
-    }
-}
-
-// Whether messages go from a publisher to a subscriber in turn, these values and others, one of which finds no room.
-fn exchange(
-    alloc: Global,
-    hub: &mut Recorded,
-    publisher: &Named<slice::Publisher<u64, ()>>,
-    subscriber: &Named<slice::Subscriber<u64, ()>>,
-    values: &[u64],
-) -> bool
-    requires publisher { option_map (λ made. made.port) (value_at hub.old.calls.made.publishers publisher.now.number.value)
-        ≡ Some publisher.now.it.port }
-    requires subscriber { value_at hub.old.calls.made.subscribers subscriber.now.number.value ≡ Some subscriber.now.it.port }
-    ensures publishers { hub.new.calls.made.publishers ≡ hub.old.calls.made.publishers }
-    ensures subscribers { hub.new.calls.made.subscribers ≡ hub.old.calls.made.subscribers }
-{
-    if !publisher_follows(alloc, hub, publisher) {
-        return false;
-    }
-    if !subscriber_follows(alloc, hub, subscriber) {
-        return false;
-    }
-    if !is_told(alloc, hub, subscriber, false) {
-        return false;
-    }
-    if !is_sent(alloc, hub, publisher, values, 1) {
-        return false;
-    }
-    if !is_told(alloc, hub, subscriber, true) {
-        return false;
-    }
-    if !is_received(alloc, hub, subscriber, values) {
-        return false;
-    }
-    if !is_sent(alloc, hub, publisher, &[9], 1) {
-        return false;
-    }
-    if !is_waiting(alloc, hub, publisher, &[10]) {
-        return false;
-    }
-    is_received(alloc, hub, subscriber, &[9])
-}
-
-// Whether a loan of these values is written and sent to one subscriber.
-fn is_lent_and_sent(
-    alloc: Global,
-    hub: &mut Recorded,
-    publisher: &Named<slice::Publisher<u64, ()>>,
-    values: &[u64],
-) -> bool
-    requires { option_map (λ made. made.port) (value_at hub.old.calls.made.publishers publisher.now.number.value)
-        ≡ Some publisher.now.it.port }
-    ensures publishers { hub.new.calls.made.publishers ≡ hub.old.calls.made.publishers }
-    ensures subscribers { hub.new.calls.made.subscribers ≡ hub.old.calls.made.subscribers }
-{
-    let Some(Ok(loan)) = hub.loan_slice_uninit(alloc, publisher, values.len()) else {
-        return false;
-    };
-    let (sample, is_written) = hub.write_from_slice(loan, values);
-    match hub.send(alloc, sample) {
-        Ok(Ok(Sent::Delivered(delivered))) => is_written && delivered == 1,
-        Ok(Ok(Sent::Blocked(blocked))) => {
-            let _ = hub.give_up(publisher, blocked);
-            false
-        }
-        Ok(Err(_)) => false,
-        Err(sample) => {
-            hub.drop_loan(sample);
-            false
-        }
-    }
-}
-
-// Whether a loan of defaults is given up.
-fn is_given_up(
-    alloc: Global,
-    hub: &mut Recorded,
-    publisher: &Named<slice::Publisher<u64, ()>>,
-) -> bool
-    requires { option_map (λ made. made.port) (value_at hub.old.calls.made.publishers publisher.now.number.value)
-        ≡ Some publisher.now.it.port }
-    ensures publishers { hub.new.calls.made.publishers ≡ hub.old.calls.made.publishers }
-    ensures subscribers { hub.new.calls.made.subscribers ≡ hub.old.calls.made.subscribers }
-{
-    match hub.loan_slice(alloc, publisher, 3) {
-        Some(Ok(sample)) => {
-            hub.drop_loan(sample);
-            true
-        }
-        Some(Err(_)) => false,
-        None => false,
-    }
-}
-
-// Whether a loan is refused that is longer than the publisher's slots.
-fn is_too_long(
-    alloc: Global,
-    hub: &mut Recorded,
-    publisher: &Named<slice::Publisher<u64, ()>>,
-) -> bool
-    requires { option_map (λ made. made.port) (value_at hub.old.calls.made.publishers publisher.now.number.value)
-        ≡ Some publisher.now.it.port }
-    ensures publishers { hub.new.calls.made.publishers ≡ hub.old.calls.made.publishers }
-    ensures subscribers { hub.new.calls.made.subscribers ≡ hub.old.calls.made.subscribers }
-{
-    match hub.loan_slice_uninit(alloc, publisher, 65) {
-        Some(Err(LoanError::ExceedsMaxLoanSize)) => true,
-        Some(Err(_)) => false,
-        Some(Ok(loan)) => {
-            hub.drop_loan(loan);
-            false
-        }
-        None => false,
-    }
-}
-
-// Whether loans are sent and received, given up, and refused.
+// Whether a loan of these values is written and sent to one subscriber, or why it is refused.
 fn lends(
     alloc: Global,
     hub: &mut Recorded,
     publisher: &Named<slice::Publisher<u64, ()>>,
+    values: &[u64],
+) -> Result<bool, LoanError>
+    requires { option_map (λ made. made.port) (value_at hub.old.calls.made.publishers publisher.now.number.value)
+        ≡ Some publisher.now.it.port }
+    ensures publishers { hub.new.calls.made.publishers ≡ hub.old.calls.made.publishers }
+    ensures subscribers { hub.new.calls.made.subscribers ≡ hub.old.calls.made.subscribers }
+{
+    let loan = match hub.loan_slice_uninit(alloc, publisher, values.len()) {
+        Some(Ok(loan)) => loan,
+        Some(Err(error)) => return Err(error),
+        None => return Ok(false),
+    };
+    let (sample, is_written) = hub.write_from_slice(loan, values);
+    match hub.send(alloc, sample) {
+        Ok(Ok(Sent::Delivered(delivered))) => Ok(is_written && delivered == 1),
+        Ok(Ok(Sent::Blocked(blocked))) => {
+            let _ = hub.give_up(publisher, blocked);
+            Ok(false)
+        }
+        Ok(Err(_)) => Ok(false),
+        Err(sample) => {
+            hub.drop_loan(sample);
+            Ok(false)
+        }
+    }
+}
+
+// Whether a step comes to that.
+fn goes(
+    alloc: Global,
+    hub: &mut Recorded,
+    publisher: &Named<slice::Publisher<u64, ()>>,
     subscriber: &Named<slice::Subscriber<u64, ()>>,
+    step: &Step,
     values: &[u64],
 ) -> bool
     requires publisher { option_map (λ made. made.port) (value_at hub.old.calls.made.publishers publisher.now.number.value)
@@ -346,52 +231,72 @@ fn lends(
     ensures publishers { hub.new.calls.made.publishers ≡ hub.old.calls.made.publishers }
     ensures subscribers { hub.new.calls.made.subscribers ≡ hub.old.calls.made.subscribers }
 {
-    if !is_given_up(alloc, hub, publisher) {
-        return false;
-    }
-    if !is_too_long(alloc, hub, publisher) {
-        return false;
-    }
-    if !is_lent_and_sent(alloc, hub, publisher, values) {
-        return false;
-    }
-    is_received(alloc, hub, subscriber, values)
-}
-
-// Whether a publisher leaves.
-fn publisher_leaves(hub: &mut Recorded, publisher: Named<slice::Publisher<u64, ()>>) -> bool
-    requires { option_map (λ made. made.port) (value_at hub.old.calls.made.publishers publisher.number.value) ≡ Some publisher.it.port }
-    ensures { hub.new.calls.made.subscribers ≡ hub.old.calls.made.subscribers }
-{
-    match hub.end_publisher(publisher) {
-        Ok(()) => true,
-        Err(publisher) => {
-            let _ = publisher.it.into_port();
-            false
+    match *step {
+        Step::PublisherFollows => match hub.update_publisher(alloc, publisher) {
+            Some(Ok(())) => true,
+            Some(Err(_)) => false,
+            None => false,
+        },
+        Step::SubscriberFollows => match hub.update_subscriber(alloc, subscriber) {
+            Some(Ok(())) => true,
+            Some(Err(_)) => false,
+            None => false,
+        },
+        Step::Has(waits) => match hub.has_samples(alloc, subscriber) {
+            Some(Ok(has)) => has == waits,
+            Some(Err(_)) => false,
+            None => false,
+        },
+        Step::Sends(other, waits) => {
+            is_sent(alloc, hub, publisher, other.unwrap_or(values), waits)
+        }
+        Step::Receives(other, number) => {
+            is_received(alloc, hub, subscriber, other.unwrap_or(values), number)
+        }
+        Step::GivesUp => match hub.loan_slice(alloc, publisher, 3) {
+            Some(Ok(sample)) => {
+                hub.drop_loan(sample);
+                true
+            }
+            Some(Err(_)) => false,
+            None => false,
+        },
+        Step::Lends(other, lent) => {
+            lends(alloc, hub, publisher, other.unwrap_or(values)) == lent
         }
     }
 }
 
-// Whether a subscriber leaves.
-fn subscriber_leaves(hub: &mut Recorded, subscriber: Named<slice::Subscriber<u64, ()>>) -> bool
-    requires { value_at hub.old.calls.made.subscribers subscriber.number.value ≡ Some subscriber.it.port }
-    ensures factories { hub.new.calls.factories ≡ hub.old.calls.factories }
-    ensures config { hub.new.calls.config ≡ hub.old.calls.config }
+// Whether steps come to that, one after another.
+fn go_on(
+    alloc: Global,
+    hub: &mut Recorded,
+    publisher: &Named<slice::Publisher<u64, ()>>,
+    subscriber: &Named<slice::Subscriber<u64, ()>>,
+    steps: &[Step],
+    values: &[u64],
+) -> bool
+    requires publisher { option_map (λ made. made.port) (value_at hub.old.calls.made.publishers publisher.now.number.value)
+        ≡ Some publisher.now.it.port }
+    requires subscriber { value_at hub.old.calls.made.subscribers subscriber.now.number.value ≡ Some subscriber.now.it.port }
+    ensures publishers { hub.new.calls.made.publishers ≡ hub.old.calls.made.publishers }
+    ensures subscribers { hub.new.calls.made.subscribers ≡ hub.old.calls.made.subscribers }
 {
-    match hub.end_subscriber(subscriber) {
-        Ok(()) => true,
-        Err(subscriber) => {
-            let _ = subscriber.it.into_port();
-            false
+    for step in steps {
+        if !goes(alloc, hub, publisher, subscriber, step, values) {
+            return false;
         }
     }
+    true
 }
 
-// Whether ports of the service are made as the options ask, exchange messages, lend, and leave.
+// Whether ports of the service are made as the options ask, go on so, and leave.
 fn converse(
     alloc: Global,
     hub: &mut Recorded,
     service: &Named<PortFactory<PublishSubscribe>>,
+    buffer_size: usize,
+    steps: &[Step],
     values: &[u64],
 ) -> bool
     requires { value_at hub.old.calls.factories service.now.number.value ≡ Some (made_factory.PublishSubscribe service.now.it) }
@@ -400,16 +305,19 @@ fn converse(
         return false;
     };
     let Some(Ok(subscriber)) = hub.subscriber(alloc, service, &SUBSCRIBER) else {
-        let _ = publisher_leaves(hub, publisher);
         return false;
     };
-    let is_asked = publisher.it.initial_max_slice_len() == 64 && subscriber.it.buffer_size() == 1;
-    let goes = exchange(alloc, hub, &publisher, &subscriber, values);
-    let lends = lends(alloc, hub, &publisher, &subscriber, values);
+    let sizes = (
+        publisher.it.initial_max_slice_len(),
+        subscriber.it.buffer_size(),
+    );
+    let goes = go_on(alloc, hub, &publisher, &subscriber, steps, values);
     let fits = hub.received_fit();
-    let publisher_left = publisher_leaves(hub, publisher);
-    let subscriber_left = subscriber_leaves(hub, subscriber);
-    is_asked && goes && lends && fits && publisher_left && subscriber_left
+    match hub.end_publisher(publisher) {
+        Ok(()) => hub.end_subscriber(subscriber).is_ok()
+            && (sizes, goes, fits) == ((64, buffer_size), true, true),
+        Err(_) => false,
+    }
 }
 
 // Whether a service is opened, and messages go through it.
@@ -421,90 +329,9 @@ fn begin(alloc: Global, hub: &mut Recorded, values: &[u64]) -> bool {
         return false;
     };
     match hub.open_or_create(alloc, &node, name, &SERVICE, AttributeVerifier::new()) {
-        Some(Ok(service)) => converse(alloc, hub, &service, values),
+        Some(Ok(service)) => converse(alloc, hub, &service, 1, MESSAGES, values),
         _ => false,
     }
-}
-
-// Whether that goes well in a new hub.
-fn goes(alloc: Global, values: &[u64]) -> bool {
-    begin(
-        alloc,
-        &mut Recorded::new(alloc, HubConfig::default()),
-        values,
-    )
-}
-
-#[test]
-fn calls_are_made(rt: HostRuntime) {
-    for len in &LENGTHS {
-        let values = SEVENS.get(..*len).unwrap_or(&[]);
-        assert!(&rt; values.len() == *len && goes(rt.alloc(), values), "{len}");
-    }
-}
-
-// Whether a subscriber receives a message with this number.
-fn is_numbered(
-    alloc: Global,
-    hub: &mut Recorded,
-    subscriber: &Named<slice::Subscriber<u64, ()>>,
-    number: u64,
-) -> bool
-    requires { value_at hub.old.calls.made.subscribers subscriber.now.number.value ≡ Some subscriber.now.it.port }
-    ensures publishers { hub.new.calls.made.publishers ≡ hub.old.calls.made.publishers }
-    ensures subscribers { hub.new.calls.made.subscribers ≡ hub.old.calls.made.subscribers }
-{
-    match hub.receive(alloc, subscriber) {
-        Some(Ok(Some(sample))) => {
-            let is = hub.sequence(&sample) == Some(Some(number));
-            hub.release(sample) && is
-        }
-        Some(Ok(None)) => false,
-        Some(Err(_)) => false,
-        None => false,
-    }
-}
-
-// Whether messages of a publisher have the numbers 1 and 2.
-fn are_numbered(
-    alloc: Global,
-    hub: &mut Recorded,
-    publisher: &Named<slice::Publisher<u64, ()>>,
-    subscriber: &Named<slice::Subscriber<u64, ()>>,
-) -> bool
-    requires publisher { option_map (λ made. made.port) (value_at hub.old.calls.made.publishers publisher.now.number.value)
-        ≡ Some publisher.now.it.port }
-    requires subscriber { value_at hub.old.calls.made.subscribers subscriber.now.number.value ≡ Some subscriber.now.it.port }
-    ensures publishers { hub.new.calls.made.publishers ≡ hub.old.calls.made.publishers }
-    ensures subscribers { hub.new.calls.made.subscribers ≡ hub.old.calls.made.subscribers }
-{
-    if !is_sent(alloc, hub, publisher, &[7], 1) {
-        return false;
-    }
-    if !is_sent(alloc, hub, publisher, &[8], 1) {
-        return false;
-    }
-    if !is_numbered(alloc, hub, subscriber, 1) {
-        return false;
-    }
-    is_numbered(alloc, hub, subscriber, 2)
-}
-
-// Whether messages of the service have numbers.
-fn counts(alloc: Global, hub: &mut Recorded, service: &Named<PortFactory<PublishSubscribe>>) -> bool
-    requires { value_at hub.old.calls.factories service.now.number.value ≡ Some (made_factory.PublishSubscribe service.now.it) }
-{
-    let Some(Ok(publisher)) = hub.publisher(alloc, service, &PUBLISHER) else {
-        return false;
-    };
-    let Some(Ok(subscriber)) = hub.subscriber(alloc, service, &SUBSCRIBER) else {
-        let _ = publisher_leaves(hub, publisher);
-        return false;
-    };
-    let counts = are_numbered(alloc, hub, &publisher, &subscriber);
-    let publisher_left = publisher_leaves(hub, publisher);
-    let subscriber_left = subscriber_leaves(hub, subscriber);
-    counts && publisher_left && subscriber_left
 }
 
 // Whether messages of a service have numbers that is created so.
@@ -516,7 +343,7 @@ fn is_created_with_numbers(alloc: Global, hub: &mut Recorded) -> bool {
         return false;
     };
     match hub.create(alloc, &node, name, &NUMBERED, &AttributeSpecifier::new()) {
-        Some(Ok(service)) => counts(alloc, hub, &service),
+        Some(Ok(service)) => converse(alloc, hub, &service, 2, NUMBERS, &[]),
         _ => false,
     }
 }
@@ -579,13 +406,12 @@ fn is_closed(
         return false;
     };
     let Err((CloseError::StillInUse, Some(service))) = hub.close(service) else {
-        let _ = subscriber.it.into_port();
         return false;
     };
-    if !subscriber_leaves(hub, subscriber) {
-        return false;
+    match hub.end_subscriber(subscriber) {
+        Ok(()) => hub.close(service).is_ok(),
+        Err(_) => false,
     }
-    hub.close(service).is_ok()
 }
 
 // Whether a service is created, and opened beside that, and the second factory is closed.
@@ -596,8 +422,7 @@ fn begins_and_ends(alloc: Global, hub: &mut Recorded) -> bool {
     let Ok(name) = ServiceName::new(b"odometry") else {
         return false;
     };
-    let Some(Ok(_first)) = hub.create(alloc, &node, name, &SERVICE, &AttributeSpecifier::new())
-    else {
+    let Some(Ok(_)) = hub.create(alloc, &node, name, &SERVICE, &AttributeSpecifier::new()) else {
         return false;
     };
     let Some(Ok(service)) = hub.open(alloc, &node, name, &SERVICE, AttributeVerifier::new()) else {
@@ -606,10 +431,46 @@ fn begins_and_ends(alloc: Global, hub: &mut Recorded) -> bool {
     is_closed(alloc, hub, service)
 }
 
+// What is done in a new hub.
+#[derive(Clone, Copy)]
+enum Course {
+    // Messages go through a service, the first one with these values.
+    Messages(&'static [u64]),
+    // Services come and go.
+    Services,
+}
+
+// Whether that goes well.
+fn take(alloc: Global, hub: &mut Recorded, course: Course) -> bool {
+    match course {
+        Course::Messages(values) => begin(alloc, hub, values),
+        Course::Services => is_refused(alloc, hub)
+            && begins_and_ends(alloc, hub)
+            && is_created_with_numbers(alloc, hub),
+    }
+}
+
+// Whether that goes well in a new hub.
+fn go(alloc: Global, course: Course) -> bool {
+    take(
+        alloc,
+        &mut Recorded::new(alloc, HubConfig::default()),
+        course,
+    )
+}
+
+#[test]
+fn calls_are_made(rt: HostRuntime) {
+    for values in &VALUES {
+        assert!(&rt;
+            go(rt.alloc(), Course::Messages(*values)),
+            "{}",
+            values.len()
+        );
+    }
+}
+
 #[test]
 fn services_come_and_go(rt: HostRuntime) {
-    let alloc = rt.alloc();
-    let mut hub = Recorded::new(alloc, HubConfig::default());
-    assert!(&rt; is_refused(alloc, &mut hub) && begins_and_ends(alloc, &mut hub));
-    assert!(&rt; is_created_with_numbers(alloc, &mut hub));
+    assert!(&rt; go(rt.alloc(), Course::Services));
 }

@@ -102,9 +102,9 @@ impl PreallocatedSamplesFn for Counting {
 
     fn call(&self, worst_case: usize) -> usize {
         if self.is_told(0) {
-            worst_case / 2
-        } else {
             worst_case
+        } else {
+            worst_case / 1_000
         }
     }
 }
@@ -123,50 +123,54 @@ const DEGRADATION: DegradationInfo = DegradationInfo {
     receiver_port_id: 0,
 };
 
+fn new_counting(alloc: Global) -> Result<Box<Counting>, AllocError> {
+    let calls = Cell::new(0);
+    Ok(Box::new(alloc, Counting { calls })?)
+}
+
 // Whether a new object is asked once a call, and told how often it was.
-fn is_asked_once(handler: &BackpressureHandler) -> bool {
-    let mut info = BACKPRESSURE;
-    let first = handler.call(&info) == BackpressureAction::Retry;
-    info.retries = 1;
-    first
-        && handler.call(&info) == BackpressureAction::Retry
-        && handler.call(&info) == BackpressureAction::DiscardDataAndFail
-}
-
-fn new_counting() -> Counting {
-    Counting {
-        calls: Cell::new(0),
-    }
-}
-
-// The same of an object in a box.
 fn is_asked(alloc: Global) -> Result<bool, AllocError> {
-    let object = Box::new(alloc, new_counting())?;
-    Ok(is_asked_once(&BackpressureHandler::boxed(object)))
+    let handler = BackpressureHandler::boxed(new_counting(alloc)?);
+    let mut again = BACKPRESSURE;
+    again.retries = 1;
+    Ok(
+        [
+            handler.call(&BACKPRESSURE),
+            handler.call(&again),
+            handler.call(&again),
+        ] == [
+            BackpressureAction::Retry,
+            BackpressureAction::Retry,
+            BackpressureAction::DiscardDataAndFail,
+        ],
+    )
 }
 
 // Whether a new object is told of the connection.
-fn is_told_of_it(handler: &DegradationHandler) -> bool {
+fn degrades(alloc: Global) -> Result<bool, AllocError> {
+    let handler = DegradationHandler::boxed(new_counting(alloc)?);
     let cause = DegradationCause::FailedToEstablishConnection;
-    handler.degrade(cause, &DEGRADATION) == DegradationAction::Ignore
-        && handler.degrade(cause, &DEGRADATION) == DegradationAction::DegradeAndFail
+    Ok(
+        [
+            handler.degrade(cause, &DEGRADATION),
+            handler.degrade(cause, &DEGRADATION),
+        ] == [DegradationAction::Ignore, DegradationAction::DegradeAndFail],
+    )
+}
+
+/// An object that keeps the number of places the first time that it is asked, and answers a thousandth after that: one place at least.
+pub(crate) fn kept_once(alloc: Global) -> Result<PreallocatedSamplesOverride, AllocError> {
+    Ok(PreallocatedSamplesOverride::boxed(new_counting(alloc)?))
 }
 
 // Whether a new object is told of the places.
-fn is_told_of_places(places: &PreallocatedSamplesOverride) -> bool {
-    number_of_places(places, 10) == 5 && number_of_places(places, 10) == 10
-}
-
-// The same of an object in a box.
-fn degrades(alloc: Global) -> Result<bool, AllocError> {
-    let object = Box::new(alloc, new_counting())?;
-    Ok(is_told_of_it(&DegradationHandler::boxed(object)))
-}
-
-// The same of an object in a box.
 fn overrides(alloc: Global) -> Result<bool, AllocError> {
-    let object = Box::new(alloc, new_counting())?;
-    Ok(is_told_of_places(&PreallocatedSamplesOverride::boxed(object)))
+    let places = kept_once(alloc)?;
+    let answers = [
+        number_of_places(&places, 1_000),
+        number_of_places(&places, 1_000),
+    ];
+    Ok(answers == [1_000, 1])
 }
 
 // Each must hold, where no allocation failed.

@@ -1,12 +1,12 @@
 //! Services of a hub.
 use crate::conversations;
 use crate::ports::must_be_there;
+use crate::texts::is_shown;
 use iox_describe::ServiceName;
 use iox_describe::pattern::PublishSubscribe;
 use iox_domain::Nobody;
 use iox_hub_base::{Hub, HubBuilder, HubConfig, NodeHandle, PortFactory};
-use iox_negotiate::ServiceBuilder;
-use std::alloc::{AllocError, Global};
+use std::alloc::Global;
 use std::process::Abort;
 use std::test::Fail;
 
@@ -22,22 +22,6 @@ const CONFIG: HubConfig = HubConfig {
     id: 7,
 };
 
-// What is asked of the service: mailboxes of three messages, and numbers.
-fn asked(
-    rt: &impl Abort,
-    hub: &Messages,
-    node: &NodeHandle,
-) -> Result<ServiceBuilder<PublishSubscribe>, Fail> {
-    must_be_there(rt, hub.holds_node(node));
-    Ok(
-        hub.service_builder(node, ServiceName::new(b"A")?)
-            .publish_subscribe::<u64>()
-            .user_header::<u8>()
-            .subscriber_max_buffer_size(3)
-            .sequence_numbers(true),
-    )
-}
-
 /// How a node comes to the service.
 #[derive(Clone, Copy)]
 pub(crate) enum How {
@@ -46,15 +30,22 @@ pub(crate) enum How {
     OpenOrCreate,
 }
 
-// A node comes to the service.
+// A node comes to the service, and asks for mailboxes of three messages, and numbers.
 fn come(
     rt: &impl Abort,
     alloc: Global,
     hub: &mut Messages,
-    node: &NodeHandle,
+    node: NodeHandle,
     how: How,
 ) -> Result<Service, Fail> {
-    let builder = asked(rt, hub, node)?;
+    must_be_there(rt, hub.holds_node(&node));
+    let name = ServiceName::new(b"A")?;
+    let builder = hub
+        .service_builder(&node, name)
+        .publish_subscribe::<u64>()
+        .user_header::<u8>()
+        .subscriber_max_buffer_size(3)
+        .sequence_numbers(true);
     must_be_there(rt, builder.holds(hub));
     Ok(match how {
         How::Create => builder.create_in(alloc, hub, Vec::new(alloc))?,
@@ -71,26 +62,28 @@ pub(crate) fn come_new(
     how: How,
 ) -> Result<Service, Fail> {
     let node = hub.new_node()?;
-    come(rt, alloc, hub, &node, how)
+    come(rt, alloc, hub, node, how)
 }
 
-// Whether the service is closed.
-fn is_closed(rt: &impl Abort, hub: &mut Messages, service: Service) -> bool {
+// The service must be closed.
+fn close(rt: &impl Abort, hub: &mut Messages, service: Service) {
     must_be_there(rt, hub.holds(&service));
-    hub.close(service).is_ok()
+    assert!(rt; hub.close(service).is_ok());
 }
 
-// Whether a node that comes to the service twice can close it twice.
-fn comes_and_goes(
+// A node that comes to the service twice can close it twice.
+fn come_and_go(
     rt: &impl Abort,
     alloc: Global,
     hub: &mut Messages,
-    node: &NodeHandle,
-    life: (How, How),
-) -> Result<bool, Fail> {
+    node: NodeHandle,
+    life: &(How, How),
+) -> Result<(), Fail> {
     let first = come(rt, alloc, hub, node, life.0)?;
-    let second = come(rt, alloc, hub, node, life.1)?;
-    Ok(is_closed(rt, hub, second) && is_closed(rt, hub, first))
+    let second = come(rt, alloc, hub, node, life.1);
+    close(rt, hub, first);
+    close(rt, hub, second?);
+    Ok(())
 }
 
 // Lives of the service. Each begins anew.
@@ -99,23 +92,14 @@ const LIVES: [(How, How); 2] = [
     (How::OpenOrCreate, How::OpenOrCreate),
 ];
 
-// Whether the first node of the hub displays so.
-fn is_shown(alloc: Global, node: &NodeHandle) -> Result<bool, AllocError> {
-    Ok(format!(in alloc; "{node:?}")?.as_str() == "NodeHandle { hub: 7, number: 1 }")
-}
-
-// The service lives so often.
-fn live(rt: &impl Abort, alloc: Global, hub: &mut Messages, node: &NodeHandle) -> Result<(), Fail> {
+// The first node of the hub is shown so, and the service lives so often.
+fn live(rt: &impl Abort, alloc: Global, hub: &mut Messages) -> Result<(), Fail> {
+    let node = hub.new_node()?;
+    assert!(rt; is_shown(alloc, &node, "NodeHandle { hub: 7, number: 1 }")?);
     for life in &LIVES {
-        assert!(rt; comes_and_goes(rt, alloc, hub, node, *life)?);
+        come_and_go(rt, alloc, hub, node, life)?;
     }
     Ok(())
-}
-
-fn come_and_go(rt: &impl Abort, alloc: Global, hub: &mut Messages) -> Result<(), Fail> {
-    let node = hub.new_node()?;
-    assert!(rt; is_shown(alloc, &node)?);
-    live(rt, alloc, hub, &node)
 }
 
 /// What is done in a new hub.
@@ -127,7 +111,7 @@ pub(crate) enum Course {
 
 fn take(rt: &impl Abort, alloc: Global, hub: &mut Messages, course: Course) -> Result<(), Fail> {
     match course {
-        Course::Services => come_and_go(rt, alloc, hub),
+        Course::Services => live(rt, alloc, hub),
         Course::Values => conversations::agree(rt, alloc, hub),
     }
 }
