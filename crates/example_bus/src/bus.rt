@@ -36,7 +36,6 @@ fn join<T: Words + ZeroCopySend>(
         .user_header::<u64>()
         .history_size(2)
         .subscriber_max_buffer_size(4);
-    ensure!(asked.holds(bus), "a service of another bus");
     Ok(asked.open_or_create_in(alloc, bus, Vec::new(alloc))?)
 }
 
@@ -104,9 +103,9 @@ pub fn follow<T: Copy>(alloc: Global, bus: &mut Bus<T>, port: PortId) -> Result<
 }
 
 /// A message of these values with a time stamp, which is still to be sent.
-fn write<T: Copy>(
+fn write<T: Copy, H: Home<T, u64>>(
     alloc: Global,
-    bus: &mut Bus<T>,
+    home: &mut H,
     port: PortId,
     stamp: u64,
     values: &[T],
@@ -116,12 +115,28 @@ fn write<T: Copy>(
         BackpressureStrategy::DiscardData,
         values.len(),
     );
-    if !publisher.holds(bus) || publisher.is_blocked(bus) {
+    if !publisher.holds(home) || publisher.is_blocked(home) {
         bail!("no publisher");
     }
-    let mut loan = publisher.loan_slice_uninit(alloc, bus, values.len())?;
-    loan.user_header_write(bus, stamp);
-    Ok(loan.write_from_slice(bus, values))
+    let mut loan = publisher.loan_slice_uninit(alloc, home, values.len())?;
+    loan.user_header_write(home, stamp);
+    Ok(loan.write_from_slice(home, values))
+}
+
+/// Sends a message; the answer is to how many subscribers.
+fn send<T: Copy, H: Home<T, u64>>(
+    alloc: Global,
+    home: &mut H,
+    sample: slice::SampleMut<T, u64>,
+) -> Result<usize> {
+    if !sample.holds(home) || sample.is_blocked(home) {
+        sample.drop_with(home);
+        bail!("no loan");
+    }
+    match sample.send(alloc, home)? {
+        Sent::Delivered(subscribers) => Ok(subscribers),
+        Sent::Blocked(waiting) => waiting.drop_with(home).context("no send"),
+    }
 }
 
 /// Sends these values with a time stamp; the answer is to how many subscribers.
@@ -133,14 +148,7 @@ pub fn publish<T: Copy>(
     values: &[T],
 ) -> Result<usize> {
     let sample = write(alloc, bus, port, stamp, values)?;
-    if !sample.holds(bus) || sample.is_blocked(bus) {
-        sample.drop_with(bus);
-        bail!("no loan");
-    }
-    match sample.send(alloc, bus)? {
-        Sent::Delivered(subscribers) => Ok(subscribers),
-        Sent::Blocked(waiting) => waiting.drop_with(bus).context("no send"),
-    }
+    send(alloc, bus, sample)
 }
 
 /// The time stamp and the values of a sample, just as they were sent.

@@ -4,12 +4,11 @@ ghost use Rattle.std.specs.Float.{binary64};
 ghost use Rattle.std.specs.Float.Ieee.{fits};
 ghost use Rattle.iox_hub.specs.QueuesBase.Scalars.{float-given_back};
 
-use crate::bus::Bus;
 use anyhow::{Result, bail};
 use iox_hub::prelude::*;
 
 /// A place in metres, and a heading in degrees.
-#[derive(Clone, Copy, Debug, PartialEq)]
+#[derive(Clone, Copy, Debug)]
 pub struct Pose {
     pub x: f64,
     pub y: f64,
@@ -73,7 +72,11 @@ impl ZeroCopySend for Pose {
 }
 
 /// Receives the next pose, if one waits, and releases it.
-pub fn hear_pose(alloc: Global, poses: &mut Bus<Pose>, port: PortId) -> Result<Option<Pose>> {
+pub fn hear_pose<H: Home<Pose, u64>>(
+    alloc: Global,
+    poses: &mut H,
+    port: PortId,
+) -> Result<Option<Pose>> {
     let subscriber = slice::Subscriber::of_port(port, 4);
     if !subscriber.holds(poses) {
         bail!("no subscriber");

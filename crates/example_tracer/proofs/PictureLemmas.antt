@@ -1,9 +1,11 @@
 -- What the ways of a picture are when one more shape is drawn.
 use Rattle.std.proofs.Common.{◌≡◌, ◌∙◌, ℕ, ◌+◌, Bool, true, false, List, [], ◌∷◌, ◌++◌, map, length, take, get_or, ◌<◌, refl, ap}
-use Rattle.std.proofs.Common.{zero-add, append_assoc, append-nil}
-use Rattle.std.specs.Prelude.{Option, filter}
-use Rattle.std.specs.List.{range_with_len}
-use Rattle.std.proofs.lemmas.List.{map-append, take_more}
+use Rattle.std.proofs.Common.{zero-add, append_assoc, append-nil, arith, ◌≤◌, ⊎_elim}
+use Rattle.std.specs.Prelude.{Option, Some, None, ◌⊎◌, filter, position}
+use Rattle.std.specs.List.{range_with_len, position_or_len}
+use Rattle.std.proofs.lemmas.Bool.{cases_lt, lt-ltb, le-ltb}
+use Rattle.std.proofs.lemmas.List.{map-append, take_more, get_or_default}
+use Rattle.std.proofs.lemmas.List.Sums.{position_or_len_is}
 use Rattle.std.proofs.lemmas.List.Elements.{filter-append}
 use Rattle.std.proofs.lemmas.List.FromFn.{filter_of_map_range_with_len_more}
 use Rattle.example_tracer.specs.declared.exchange.Exchange.{Exchange}
@@ -49,3 +51,29 @@ pub drawn_on : (conversation : List Exchange) (arrows : List Arrow) (at : ℕ) (
     ++ lost_rows conversation (take at arrows) (get_or arrows at d) → IsDrawn conversation (take (at + 1) arrows) (ways_in after)
 drawn_on conversation arrows at d before after within drawn added =
     rw (take_more arrows at d within, added) (more (get_or arrows at d) drawn)
+
+-- one more line that doesn't pass
+pub fails_on : (test : Exchange → Bool) (xs : List Exchange) (i : ℕ) (e : Exchange) → i < length xs → test (get_or xs i e) ≡ false
+    → ((k : ℕ) (d : Exchange) → k < i → test (get_or xs k d) ≡ false)
+    → (k : ℕ) (d : Exchange) → k < i + 1 → test (get_or xs k d) ≡ false
+fails_on test xs i e within fails before k d below =
+    let split : (k < i) ⊎ (i ≤ k) = cases_lt k i in
+    ⊎_elim (λ less. before k d less)
+    (λ least. let same : k ≡ i = omega arith in rw same (ap test (get_or_default xs i d e within) ∙ fails)) split
+
+-- the first line that passes
+pub first_at : (test : Exchange → Bool) (xs : List Exchange) (i : ℕ) (e : Exchange) → i < length xs → test (get_or xs i e) ≡ true
+    → ((k : ℕ) (d : Exchange) → k < i → test (get_or xs k d) ≡ false) → Some i ≡ position test xs
+first_at test xs i e within passes before =
+    let at : position_or_len test xs ≡ i = position_or_len_is test xs i e (omega arith) (λ k below. before k e below) (λ _. passes) in
+    rw (at, lt-ltb i (length xs) within) refl
+
+-- no line passes
+pub none_passes : (test : Exchange → Bool) (xs : List Exchange)
+    → ((k : ℕ) (d : Exchange) → k < length xs → test (get_or xs k d) ≡ false) → None ≡ position test xs
+none_passes test [] fails = refl
+none_passes test (x ∷ rest) fails =
+    let at : position_or_len test (x ∷ rest) ≡ length (x ∷ rest)
+    = position_or_len_is test (x ∷ rest) (length (x ∷ rest)) x (omega arith) (λ k below. fails k x below)
+    (λ within. absurd (omega arith)) in
+    rw (at, le-ltb (length (x ∷ rest)) (length (x ∷ rest)) (omega arith)) refl

@@ -57,9 +57,12 @@ fn passes(arrow: &Arrow<'_>, subscriber: &[u8], publisher: &[u8], line: usize) -
 fn came(arrows: &[Arrow<'_>], subscriber: &[u8], publisher: &[u8], line: usize) -> bool
     ensures { result ≡ list_any (λ arrow. passes arrow subscriber.now publisher.now line) arrows.now }
 {
-    arrows
-        .iter()
-        .any(|arrow| passes(arrow, subscriber, publisher, line))
+    for arrow in arrows {
+        if passes(arrow, subscriber, publisher, line) {
+            return true;
+        }
+    }
+    false
 }
 
 /// Whether a line may have sent what was received: its values fit, and neither its message nor one behind it came before.
@@ -149,13 +152,22 @@ pub fn is_lost(
     }
 }
 
-/// Whether the subscriber got something behind this line of which the origin can't be told.
+/// Whether an arrow shows that the subscriber got something behind this line of which the origin can't be told.
+fn untold(arrow: &Arrow<'_>, subscriber: &[u8], line: usize) -> bool
+    ensures { result ≡ untold arrow.now subscriber.now line }
+{
+    arrow.origin.is_none() && line < arrow.receipt && is(arrow.subscriber, subscriber)
+}
+
 fn is_untold(arrows: &[Arrow<'_>], subscriber: &[u8], line: usize) -> bool
     ensures { result ≡ list_any (λ arrow. untold arrow subscriber.now line) arrows.now }
 {
-    arrows.iter().any(|arrow| {
-        arrow.origin.is_none() && line < arrow.receipt && is(arrow.subscriber, subscriber)
-    })
+    for arrow in arrows {
+        if untold(arrow, subscriber, line) {
+            return true;
+        }
+    }
+    false
 }
 
 /// The ways of all messages that the conversation received, in the order of their receipts.

@@ -42,6 +42,9 @@ use std::env;
 use std::io::{self, Read};
 use std::process::ExitCode;
 
+/// The status where nothing can be given.
+const FAILED: u8 = 1;
+
 /// The status after an argument that isn't known.
 const MISUSED: u8 = 64;
 
@@ -57,18 +60,20 @@ fn main(rt: HostRuntime) -> io::Result<ExitCode> {
 /// Gives what an argument asks for.
 fn give(rt: &HostRuntime, word: &str) -> io::Result<ExitCode> {
     match word {
-        "draw" => draw(rt, &read(rt)?),
-        "record" => print_record(rt, &read(rt)?),
-        "replay" => print_script(rt, &read(rt)?),
+        "draw" | "record" | "replay" | "all" => answer(rt, word, &read(rt)?),
         "serve" => Ok(carry(rt, rt.stdin())),
-        "all" => print_all(rt, &read(rt)?),
-        _ => misused(rt),
+        _ => end(
+            rt,
+            MISUSED,
+            "the argument is draw, record, replay, serve or all",
+        ),
     }
 }
 
-fn misused(rt: &HostRuntime) -> io::Result<ExitCode> {
-    rt.eprintln("the argument is draw, record, replay, serve or all")?;
-    Ok(ExitCode::from(MISUSED))
+/// Says why nothing is given, and ends with this status.
+fn end(rt: &HostRuntime, status: u8, why: &str) -> io::Result<ExitCode> {
+    rt.eprintln(why)?;
+    Ok(ExitCode::from(status))
 }
 
 /// All of standard input.
@@ -78,39 +83,35 @@ fn read(rt: &HostRuntime) -> io::Result<Vec<u8>> {
     Ok(text)
 }
 
+/// Gives what an argument asks for of a text.
+fn answer(rt: &HostRuntime, word: &str, text: &[u8]) -> io::Result<ExitCode> {
+    if word == "replay" {
+        return print_made(rt, replay(rt.alloc(), text), NO_TABLE);
+    }
+    let conversation = conversation(rt.alloc(), text)?;
+    match word {
+        "draw" => print_picture(rt, &conversation),
+        "record" => print_made(rt, record(rt.alloc(), &conversation), NO_RECORD),
+        _ => print_all(rt, &conversation),
+    }
+}
+
 fn print(rt: &HostRuntime, text: &[u8]) -> io::Result<ExitCode> {
     rt.write_all(text)?;
     Ok(ExitCode::SUCCESS)
 }
 
-fn fail(rt: &HostRuntime, why: &str) -> io::Result<ExitCode> {
-    rt.eprintln(why)?;
-    Ok(ExitCode::FAILURE)
-}
-
-fn draw(rt: &HostRuntime, text: &[u8]) -> io::Result<ExitCode> {
-    let conversation = conversation(rt.alloc(), text)?;
-    print_picture(rt, &conversation)
+/// Prints a table or a script, or says why there is none.
+fn print_made(rt: &HostRuntime, made: csv::Result<Vec<u8>>, why: &str) -> io::Result<ExitCode> {
+    match made {
+        Ok(text) => print(rt, &text),
+        Err(_) => end(rt, FAILED, why),
+    }
 }
 
 fn print_picture(rt: &HostRuntime, conversation: &[Exchange<'_>]) -> io::Result<ExitCode> {
     let picture = picture(rt.alloc(), conversation)?;
     print(rt, picture.as_bytes())
-}
-
-fn print_record(rt: &HostRuntime, text: &[u8]) -> io::Result<ExitCode> {
-    let conversation = conversation(rt.alloc(), text)?;
-    match record(rt.alloc(), &conversation) {
-        Ok(table) => print(rt, &table),
-        Err(_) => fail(rt, NO_RECORD),
-    }
-}
-
-fn print_script(rt: &HostRuntime, table: &[u8]) -> io::Result<ExitCode> {
-    match replay(rt.alloc(), table) {
-        Ok(script) => print(rt, &script),
-        Err(_) => fail(rt, NO_TABLE),
-    }
 }
 
 /// Answers replies of a hub, as they come, by the lines for another.
@@ -121,17 +122,12 @@ fn carry<R: Read + Drop>(rt: &HostRuntime, replies: R) -> ExitCode {
 }
 
 /// Prints what all other arguments give of a conversation, each below its name.
-fn print_all(rt: &HostRuntime, text: &[u8]) -> io::Result<ExitCode> {
-    let conversation = conversation(rt.alloc(), text)?;
+fn print_all(rt: &HostRuntime, conversation: &[Exchange<'_>]) -> io::Result<ExitCode> {
     rt.println("picture:")?;
-    let _ = print_picture(rt, &conversation)?;
-    print_tables(rt, &conversation)
-}
-
-fn print_tables(rt: &HostRuntime, conversation: &[Exchange<'_>]) -> io::Result<ExitCode> {
+    let _ = print_picture(rt, conversation)?;
     match record(rt.alloc(), conversation) {
         Ok(table) => print_table(rt, conversation, &table),
-        Err(_) => fail(rt, NO_RECORD),
+        Err(_) => end(rt, FAILED, NO_RECORD),
     }
 }
 
@@ -144,7 +140,7 @@ fn print_table(
     rt.write_all(table)?;
     match replay(rt.alloc(), table) {
         Ok(script) => print_lines(rt, conversation, &script),
-        Err(_) => fail(rt, NO_TABLE),
+        Err(_) => end(rt, FAILED, NO_TABLE),
     }
 }
 

@@ -33,7 +33,12 @@ fn makes(it: &Exchange<'_>, name: &[u8]) -> bool
 fn birth(conversation: &[Exchange<'_>], name: &[u8]) -> Option<usize>
     ensures { result ≡ position (makes name.now) conversation.now }
 {
-    conversation.iter().position(|it| makes(it, name))
+    for row in 0..conversation.len() {
+        if makes(&conversation[row], name) {
+            return Some(row);
+        }
+    }
+    None
 }
 
 /// Adds the way of an arrow, from one lifeline to another: a stroke from the row of its origin to that of its receipt, or a sign

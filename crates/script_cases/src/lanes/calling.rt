@@ -138,60 +138,44 @@ fn write(alloc: Global, words: &mut SplitWhitespace<'_>) -> Result<Call, AllocEr
     })
 }
 
-// The call of a verb at the loan or sample that a line names.
-fn call_at(verb: &str, words: &mut SplitWhitespace<'_>) -> Option<Call> {
-    match verb {
-        "send" => Some(Call::Send {
-            loan: number(words),
-        }),
-        "drop" => Some(Call::DropLoan {
-            loan: number(words),
-        }),
-        "read" => Some(Call::Read {
-            sample: number(words),
-        }),
-        "release" => Some(Call::Release {
-            sample: number(words),
-        }),
-        _ => None,
-    }
-}
-
-// The call of a verb.
+// The call of a verb, at the loan or sample that a line names.
 fn call_of(
     alloc: Global,
     verb: &str,
     words: &mut SplitWhitespace<'_>,
 ) -> Result<Option<Call>, AllocError> {
-    match verb {
-        "loan" => Ok(Some(Call::LoanUninit)),
-        "receive" => Ok(Some(Call::Receive)),
-        "write" => Ok(Some(write(alloc, words)?)),
-        _ => Ok(call_at(verb, words)),
-    }
+    let call = match verb {
+        "loan" => Call::LoanUninit,
+        "receive" => Call::Receive,
+        "write" => write(alloc, words)?,
+        "send" => Call::Send {
+            loan: number(words),
+        },
+        "drop" => Call::DropLoan {
+            loan: number(words),
+        },
+        "read" => Call::Read {
+            sample: number(words),
+        },
+        "release" => Call::Release {
+            sample: number(words),
+        },
+        _ => return Ok(None),
+    };
+    Ok(Some(call))
 }
 
-// The slot that a whole loan gives.
-fn lend(lanes: &mut LaneMachine, party: Party) -> Option<u64> {
-    if !ends(lanes, party, Call::LoanUninit) {
+// The slot that a whole call gives: a loan, or a receive.
+fn given(lanes: &mut LaneMachine, party: Party, call: Call) -> Option<u64> {
+    if !ends(lanes, party, call) {
         return None;
     }
     match lanes.finished().last()?.answer {
-        Answer::Lent(LoanAnswer::Slot(slot)) => Some(slot),
+        Answer::Lent(LoanAnswer::Slot(slot)) | Answer::Received(Receipt::Taken { slot, .. }) => {
+            Some(slot)
+        }
         _ => None,
     }
-}
-
-// Writes this value into a loan and sends it; whether it came to the end of the send.
-fn fill(
-    alloc: Global,
-    lanes: &mut LaneMachine,
-    party: Party,
-    loan: u64,
-    value: u64,
-) -> Result<bool, AllocError> {
-    let write = filling(alloc, lanes, loan, value)?;
-    Ok(ends(lanes, party, write) && ends(lanes, party, Call::Send { loan }))
 }
 
 // Lends, writes this value and sends; whether it came to the end of the send.
@@ -201,94 +185,61 @@ fn put(
     party: Party,
     value: u64,
 ) -> Result<bool, AllocError> {
-    match lend(lanes, party) {
-        Some(loan) => fill(alloc, lanes, party, loan, value),
-        None => Ok(false),
+    let Some(loan) = given(lanes, party, Call::LoanUninit) else {
+        return Ok(false);
+    };
+    let write = filling(alloc, lanes, loan, value)?;
+    Ok(ends(lanes, party, write) && ends(lanes, party, Call::Send { loan }))
+}
+
+// Receives, reads and releases; whether all that came to its end.
+fn take(lanes: &mut LaneMachine, party: Party) -> bool {
+    match given(lanes, party, Call::Receive) {
+        Some(sample) => {
+            ends(lanes, party, Call::Read { sample })
+                && ends(lanes, party, Call::Release { sample })
+        }
+        None => false,
     }
 }
 
-// Puts the values from one up to another, as long as that goes on.
-fn puts(
+// Does what a verb says once, with this value; whether it came to its end.
+fn goes(
     alloc: Global,
     lanes: &mut LaneMachine,
     party: Party,
+    verb: &str,
+    value: u64,
+) -> Result<bool, AllocError> {
+    match verb {
+        "loans" => Ok(given(lanes, party, Call::LoanUninit).is_some()),
+        "receives" => Ok(given(lanes, party, Call::Receive).is_some()),
+        "takes" => Ok(take(lanes, party)),
+        _ => put(alloc, lanes, party, value),
+    }
+}
+
+// Does what a verb says with the values from one up to another, as long as that goes on. Where all of that are reads, it comes to the
+// words of the last one.
+fn repeated(
+    alloc: Global,
+    lanes: &mut LaneMachine,
+    party: Party,
+    verb: &str,
     (from, to): (u64, u64),
 ) -> Result<CameTo, AllocError> {
+    let mut last = 0;
     for value in from..to {
-        if !put(alloc, lanes, party, value)? {
+        last = lanes.words_read().len();
+        if !goes(alloc, lanes, party, verb, value)? {
             return Ok(CameTo::End);
         }
     }
-    Ok(CameTo::End)
-}
-
-// Lends so many slots, as long as that goes on.
-fn loans(lanes: &mut LaneMachine, party: Party, count: u64) -> CameTo {
-    for _ in 0..count {
-        if lend(lanes, party).is_none() {
-            return CameTo::End;
-        }
-    }
-    CameTo::End
-}
-
-// The slot that a whole receive gives.
-fn receive(lanes: &mut LaneMachine, party: Party) -> Option<u64> {
-    if !ends(lanes, party, Call::Receive) {
-        return None;
-    }
-    match lanes.finished().last()?.answer {
-        Answer::Received(Receipt::Taken { slot, .. }) => Some(slot),
-        _ => None,
-    }
-}
-
-// Receives so many messages, as long as that goes on.
-fn receives(lanes: &mut LaneMachine, party: Party, count: u64) -> CameTo {
-    for _ in 0..count {
-        if receive(lanes, party).is_none() {
-            return CameTo::End;
-        }
-    }
-    CameTo::End
-}
-
-// Receives, reads and releases; where the words begin that were read, if all that came to its end.
-fn take(lanes: &mut LaneMachine, party: Party) -> Option<usize> {
-    let sample = receive(lanes, party)?;
-    let from = lanes.words_read().len();
-    if ends(lanes, party, Call::Read { sample }) && ends(lanes, party, Call::Release { sample }) {
-        Some(from)
+    Ok(if verb == "takes" {
+        CameTo::Words(last)
     } else {
-        None
-    }
-}
-
-// Takes so many messages: it comes to the words of the last one, or to a call that gave none.
-fn takes(lanes: &mut LaneMachine, party: Party, count: u64) -> CameTo {
-    let mut last = 0;
-    for _ in 0..count {
-        match take(lanes, party) {
-            Some(from) => last = from,
-            None => return CameTo::End,
-        }
-    }
-    CameTo::Words(last)
-}
-
-// A call of so many steps at most.
-fn within(
-    alloc: Global,
-    lanes: &mut LaneMachine,
-    party: Party,
-    steps: u64,
-    words: &mut SplitWhitespace<'_>,
-) -> Result<CameTo, AllocError> {
-    let verb = word(words);
-    match call_of(alloc, verb, words)? {
-        Some(call) => Ok(came_to(called(lanes, party, call, steps))),
-        None => Ok(CameTo::Nothing),
-    }
+        CameTo::End
+    })
 }
 
 // What so many of a verb come to.
@@ -301,26 +252,30 @@ fn counted(
 ) -> Result<CameTo, AllocError> {
     match verb {
         "go" => Ok(came_to(goes_on(lanes, party, number))),
-        "put" => puts(alloc, lanes, party, (number, number.saturating_add(1))),
-        "puts" => puts(alloc, lanes, party, (0, number)),
-        "loans" => Ok(loans(lanes, party, number)),
-        "receives" => Ok(receives(lanes, party, number)),
-        "takes" => Ok(takes(lanes, party, number)),
+        "put" => repeated(
+            alloc,
+            lanes,
+            party,
+            verb,
+            (number, number.saturating_add(1)),
+        ),
+        "puts" | "loans" | "receives" | "takes" => repeated(alloc, lanes, party, verb, (0, number)),
         _ => Ok(CameTo::Nothing),
     }
 }
 
-// A whole call, or so many of a verb.
-fn whole(
+// A call, of so many steps at most if that is named; else so many of a verb.
+fn within(
     alloc: Global,
     lanes: &mut LaneMachine,
     party: Party,
-    verb: &str,
+    (verb, steps): (&str, Option<u64>),
     words: &mut SplitWhitespace<'_>,
 ) -> Result<CameTo, AllocError> {
-    match call_of(alloc, verb, words)? {
-        Some(call) => Ok(came_to(called(lanes, party, call, MOST))),
-        None => counted(alloc, lanes, party, verb, number(words)),
+    match (call_of(alloc, verb, words)?, steps) {
+        (Some(call), steps) => Ok(came_to(called(lanes, party, call, steps.unwrap_or(MOST)))),
+        (None, None) => counted(alloc, lanes, party, verb, number(words)),
+        (None, Some(_)) => Ok(CameTo::Nothing),
     }
 }
 
@@ -331,10 +286,14 @@ pub(crate) fn answer(
     party: Party,
     words: &mut SplitWhitespace<'_>,
 ) -> Result<CameTo, AllocError> {
-    match word(words) {
-        "begin" => within(alloc, lanes, party, 1, words),
-        "within" => within(alloc, lanes, party, number(words), words),
-        "take" => Ok(takes(lanes, party, 1)),
-        verb => whole(alloc, lanes, party, verb, words),
-    }
+    let (verb, steps) = match word(words) {
+        "begin" => (word(words), Some(1)),
+        "within" => {
+            let steps = number(words);
+            (word(words), Some(steps))
+        }
+        "take" => return repeated(alloc, lanes, party, "takes", (0, 1)),
+        verb => (verb, None),
+    };
+    within(alloc, lanes, party, (verb, steps), words)
 }

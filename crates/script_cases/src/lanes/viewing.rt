@@ -123,14 +123,12 @@ fn link(lanes: &LaneMachine, connection: u64) -> Said<'_> {
 }
 
 // The slot at a place of a publisher's history, the oldest at 0.
-fn remembered(lanes: &LaneMachine, publisher: u64, at: u64) -> Option<u64> {
-    let lane = lanes.publishers().get(publisher as usize)?;
-    lane.port().book().history().get(at as usize).copied()
-}
-
 fn history(lanes: &LaneMachine, publisher: u64, at: u64) -> Said<'_> {
-    match remembered(lanes, publisher, at) {
-        Some(slot) => Said::Number(slot),
+    let Some(lane) = lanes.publishers().get(publisher as usize) else {
+        return NONE;
+    };
+    match lane.port().book().history().get(at as usize) {
+        Some(slot) => Said::Number(*slot),
         None => NONE,
     }
 }

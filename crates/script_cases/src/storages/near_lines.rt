@@ -22,32 +22,6 @@ fn changed(
     [&line[..from], others, &line[to..]].concat(alloc)
 }
 
-// One where a line isn't corrupted though others stand in place of some of its bytes.
-fn sound(
-    alloc: Global,
-    pattern: &str,
-    line: &[u8],
-    place: (usize, usize),
-    others: &[u8],
-) -> Result<usize, AllocError> {
-    let bytes = changed(alloc, line, place, others)?;
-    let is_corrupted = is_corrupted(alloc, pattern, bytes.as_slice())?;
-    Ok(usize::from(!is_corrupted))
-}
-
-// One where what stands before a place of a line, and isn't all of it, isn't corrupted.
-fn sound_prefix(
-    alloc: Global,
-    pattern: &str,
-    line: &[u8],
-    place: usize,
-) -> Result<usize, AllocError> {
-    if place == line.len() {
-        return Ok(0);
-    }
-    sound(alloc, pattern, line, (place, line.len()), b"")
-}
-
 // Whether a string has begun in these bytes, and not ended.
 fn is_inside(bytes: &[u8]) -> bool {
     let mut is_inside = false;
@@ -55,19 +29,6 @@ fn is_inside(bytes: &[u8]) -> bool {
         is_inside = is_inside != (*byte == b'"');
     }
     is_inside
-}
-
-// One where a space may come at a place of a line outside its strings, and it isn't corrupted.
-fn sound_space(
-    alloc: Global,
-    pattern: &str,
-    line: &[u8],
-    place: usize,
-) -> Result<usize, AllocError> {
-    if is_inside(&line[..place.min(line.len())]) {
-        return Ok(0);
-    }
-    sound(alloc, pattern, line, (place, place), b" ")
 }
 
 // The service of which a line is a description.
@@ -78,40 +39,52 @@ fn hash_in(alloc: Global, line: &[u8]) -> Option<ServiceHash> {
     }
 }
 
-// One where a line with this byte at a place is neither corrupted nor the line of a description of the service.
-fn odd_byte(
-    alloc: Global,
-    pattern: &str,
-    line: &[u8],
-    place: usize,
-    byte: u8,
-) -> Result<usize, AllocError> {
-    let bytes = changed(alloc, line, (place, place.saturating_add(1)), &[byte])?;
-    let bytes = bytes.as_slice();
-    let describes = hash_in(alloc, bytes) == hash_in(alloc, line);
-    Ok(usize::from(is_corrupted(alloc, pattern, bytes)? == describes))
-}
-
-// How many changes of a byte of a line, to one of a few others, are odd.
-fn odd_bytes(alloc: Global, pattern: &str, line: &[u8], place: usize) -> Result<usize, AllocError> {
-    let mut odd = 0usize;
-    for byte in b"0\"}" {
-        odd = odd.saturating_add(odd_byte(alloc, pattern, line, place, *byte)?);
-    }
-    Ok(odd)
-}
-
-// How many lines that differ from a line at a place are amiss.
-fn amiss_at(
+// One where a line with others in place of some of its bytes isn't corrupted. Where a byte was changed, one where it is corrupted though it
+// describes the service, or isn't though it doesn't.
+fn amiss(
     alloc: Global,
     (verb, pattern): (&str, &str),
     line: &[u8],
+    place: (usize, usize),
+    others: &[u8],
+) -> Result<usize, AllocError> {
+    let bytes = changed(alloc, line, place, others)?;
+    let bytes = bytes.as_slice();
+    let describes = verb == "bytes" && hash_in(alloc, bytes) == hash_in(alloc, line);
+    Ok(usize::from(is_corrupted(alloc, pattern, bytes)? == describes))
+}
+
+// How many changes of a byte of a line, to one of a few others, are amiss.
+fn amiss_bytes(
+    alloc: Global,
+    asked: (&str, &str),
+    line: &[u8],
     place: usize,
 ) -> Result<usize, AllocError> {
-    match verb {
-        "prefixes" => sound_prefix(alloc, pattern, line, place),
-        "spaces" => sound_space(alloc, pattern, line, place),
-        _ => odd_bytes(alloc, pattern, line, place),
+    let changed = (place, place.saturating_add(1));
+    let mut count = 0usize;
+    for byte in b"0\"}" {
+        count = count.saturating_add(amiss(alloc, asked, line, changed, &[*byte])?);
+    }
+    Ok(count)
+}
+
+// How many lines that differ from a line at a place are amiss: what stands before it and isn't all of the line; the line with a space
+// more there, outside its strings; and the line with another byte there.
+fn amiss_at(
+    alloc: Global,
+    asked: (&str, &str),
+    line: &[u8],
+    place: usize,
+) -> Result<usize, AllocError> {
+    let all = line.len();
+    match asked.0 {
+        "prefixes" if place < all => amiss(alloc, asked, line, (place, all), b""),
+        "spaces" if !is_inside(&line[..place.min(all)]) => {
+            amiss(alloc, asked, line, (place, place), b" ")
+        }
+        "bytes" => amiss_bytes(alloc, asked, line, place),
+        _ => Ok(0),
     }
 }
 
@@ -124,21 +97,15 @@ fn count_amiss(alloc: Global, asked: (&str, &str), line: &[u8]) -> Result<usize,
     Ok(count)
 }
 
-// The line of version 1 of what a line describes.
-fn first_line(alloc: Global, line: &[u8]) -> Result<Vec<u8>, AllocError> {
-    match decode(alloc, line) {
-        Ok(description) => encode_v1(alloc, &description).or(Err(AllocError)),
-        Err(_) => Err(AllocError),
-    }
-}
-
 // The line that a service is published with, or that of version 1.
 fn line_of(alloc: Global, pattern: &str, version: &str) -> Result<Vec<u8>, AllocError> {
     let line = published_line(alloc, pattern, NAME)?;
-    if version == "1" {
-        first_line(alloc, line.as_slice())
-    } else {
-        Ok(line)
+    if version != "1" {
+        return Ok(line);
+    }
+    match decode(alloc, line.as_slice()) {
+        Ok(description) => encode_v1(alloc, &description).or(Err(AllocError)),
+        Err(_) => Err(AllocError),
     }
 }
 
