@@ -41,10 +41,10 @@ NOT_PASSED = {
 # the port, and by their places the others that it is tied to and the connection.
 LOOK_UPS = {
     "Made::lender": ["self.publishers.get"],
-    "calls::put": ["home.domain_mut"],
-    "Services::domain_mut": ["self.presences.domain_mut"],
-    "Presences::domain_mut": ["self.get_mut", "presence.domain_mut"],
-    "Presences::get_mut": ["self.entries.get_mut"],
+    "domain_mut": ["home.place"],
+    "Hub::place": ["self.services.place"],
+    "Services::place": ["self.presences.place"],
+    "Presences::place": ["self.entries.place"],
     "DomainState::put": ["self.publisher_handlers.get"],
     "Kept::get": ["self.values.get"],
     "ServicePorts::put": ["self.publishers.get_mut"],
@@ -166,7 +166,7 @@ def a_line_looks_its_number_its_domain_and_its_port_up_once():
     made = {}
     for name, _, file, _ in rows():
         body = re.sub(r"\s*\n\s*", "", body_of(name, file))
-        made[name] = [it[1] for it in re.finditer(r"([\w.:?]+\.(?:domain|domain_mut|get|get_mut))\(", body)]
+        made[name] = [it[1] for it in re.finditer(r"([\w.:?]+\.(?:domain|get|get_mut|place))\(", body)]
     expect({name: looked for name, looked in made.items() if looked}, LOOK_UPS)
 
 

@@ -1,7 +1,7 @@
 //! The program: serves standard input on a new hub, and writes to standard output.
 //!
 //! It ends with status 0 at the end of the input, with 1 after a read or write fault, and with 2 where no memory is
-//! found for a reply; after a fault one line on standard error says which. Arguments are ignored.
+//! found for a reply or for the buffers of the run; after a fault one line on standard error says which. Arguments are ignored.
 //!
 //! What it needs of the stack is taken before the first line is read. So it ends there where that isn't to be had, and never later, however
 //! much the heap takes.

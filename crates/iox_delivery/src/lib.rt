@@ -16,7 +16,7 @@
 //! - [`slices`]: publishers, subscribers, loans and samples of slices.
 //! - [`laws`]: what a loan comes to that was just made; what may be sent, and what may be read.
 //!
-//! No port, loan, sample or waiting send may be let go: it is spent by the call that ends it.
+//! Publishers and subscribers are copied, as numbers are. A loan, a sample and a waiting send are spent by the call that ends them.
 //!
 //! First calls, of a publisher and of a subscriber; a hub is a home, too:
 //!

@@ -7,7 +7,7 @@
 //! - [`sample`]: a slice that was received.
 //! - [`filling`]: slices that are lent and written at once, by port.
 //!
-//! No port, loan or sample may be let go: it is spent by the call that ends it.
+//! Publishers and subscribers are copied, as numbers are. A loan and a sample are spent by the call that ends them.
 //!
 //! First calls, of a publisher:
 //!

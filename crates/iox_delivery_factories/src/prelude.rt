@@ -7,7 +7,7 @@
 //!
 //! let settings = Settings::PublishSubscribe(config);
 //! let description = Description::new(name, settings, AttributeSpecifier::new());
-//! let mut domain = Domain::<u64, ()>::new(alloc, id, description, 128).ok()?;
+//! let mut domain = Domain::<u64, ()>::new(alloc, id, &description, 128).ok()?;
 //! let builder = publisher_builder(&domain, 5, 9);
 //! ```
 pub use crate::{

@@ -42,7 +42,3 @@ FitTypes payload user_header types =
 abbrev pub Fits : Detail → Detail → Settings → Type 0
 Fits payload user_header settings =
     (config : StaticConfig) × (settings ≡ PublishSubscribe config) × AreWithinLimits settings × FitTypes payload user_header config.types
-
--- the messages of a publish-subscribe service hold slices
-abbrev pub HoldsSlices : Settings → Type 0
-HoldsSlices settings = (config : StaticConfig) × (settings ≡ PublishSubscribe config) × (config.types.payload.variant ≡ Dynamic)

@@ -11,7 +11,7 @@ ghost use Rattle.iox_domain.specs.Homes.{ports_of, with_ports, with_publisher, w
 ghost use Rattle.iox_domain.specs.Homes.{publisher_degrades, publisher_decides, subscriber_degrades};
 
 use crate::domain_id::DomainId;
-use crate::home::{Home, LendsDomains};
+use crate::home::{Home, domain, domain_mut};
 use crate::ports::{PublisherConfig, ServicePorts, SubscriberConfig};
 use iox_domain_ports::{Sent, Taken};
 use iox_domain_values::{
@@ -32,7 +32,7 @@ where
     U: 'a,
     ensures { option_copied result ≡ ports_of H.domain_of id home.now }
 {
-    match home.domain(id) {
+    match domain(home, id) {
         Some(domain) => Some(&domain.ports),
         None => None,
     }
@@ -52,7 +52,7 @@ where
         (λ last. with_ports H.changed id last home.old) home.old) }
     ensures value { option_copied_mut result ≡ ports_of H.domain_of id home.old }
 {
-    match home.domain_mut(id) {
+    match domain_mut(home, id) {
         Some(domain) => Some(&mut domain.ports),
         None => None,
     }
@@ -73,7 +73,7 @@ pub fn loan<T: Copy, U: Copy, H: Home<T, U>>(
     ensures { AtDomain (λ after. with_ports H.changed id after home.old) (LoansBy number values elements)
         (ports_of H.domain_of id home.old) home.old result home.new }
 {
-    let domain = home.domain_mut(id)?;
+    let domain = domain_mut(home, id)?;
     domain.loan(alloc, number, values, elements)
 }
 
@@ -91,7 +91,7 @@ pub fn update_publisher<T: Copy, U: Copy, H: Home<T, U>>(
         (UpdatesBy (publisher_degrades (λ kept. H.ForPublishers.degrades kept) H.domain_of id number home.old) number)
         (ports_of H.domain_of id home.old) home.old result home.new }
 {
-    let domain = home.domain_mut(id)?;
+    let domain = domain_mut(home, id)?;
     domain.update_publisher(alloc, number)
 }
 
@@ -111,7 +111,7 @@ pub fn send<T: Copy, U: Copy, H: Home<T, U>>(
         (publisher_decides (λ kept. H.ForPublishers.decides kept) H.domain_of id number home.old) number slot)
         (ports_of H.domain_of id home.old) home.old result home.new }
 {
-    let domain = home.domain_mut(id)?;
+    let domain = domain_mut(home, id)?;
     domain.send(alloc, number, slot)
 }
 
@@ -132,7 +132,7 @@ pub fn put<T: Copy, U: Copy, H: Home<T, U>>(
         (publisher_decides (λ kept. H.ForPublishers.decides kept) H.domain_of id number home.old) number values.now)
         (ports_of H.domain_of id home.old) home.old result home.new }
 {
-    let domain = home.domain_mut(id)?;
+    let domain = domain_mut(home, id)?;
     domain.put(alloc, number, values)
 }
 
@@ -150,7 +150,7 @@ pub fn retry<T: Copy, U: Copy, H: Home<T, U>>(
         (RetriesBy (publisher_decides (λ kept. H.ForPublishers.decides kept) H.domain_of id number home.old) number elapsed)
         (ports_of H.domain_of id home.old) home.old result home.new }
 {
-    let domain = home.domain_mut(id)?;
+    let domain = domain_mut(home, id)?;
     domain.retry(number, elapsed)
 }
 
@@ -166,7 +166,7 @@ pub fn leave_publisher<T: Copy, U: Copy, H: Home<T, U>>(
     ensures { LeavesDomain (λ after. with_ports H.changed id after home.old) (without_publisher H.changed id number)
         (PublisherLeaves number) (ports_of H.domain_of id home.old) home.old result home.new }
 {
-    let Some(domain) = home.domain_mut(id) else {
+    let Some(domain) = domain_mut(home, id) else {
         return false;
     };
     domain.leave_publisher(number)
@@ -186,7 +186,7 @@ pub fn update_subscriber<T: Copy, U: Copy, H: Home<T, U>>(
         (FollowsBy (subscriber_degrades (λ kept. H.ForSubscribers.degrades kept) H.domain_of id number home.old) number)
         (ports_of H.domain_of id home.old) home.old result home.new }
 {
-    let domain = home.domain_mut(id)?;
+    let domain = domain_mut(home, id)?;
     domain.update_subscriber(alloc, number)
 }
 
@@ -204,7 +204,7 @@ pub fn has_samples<T: Copy, U: Copy, H: Home<T, U>>(
         (TellsBy (subscriber_degrades (λ kept. H.ForSubscribers.degrades kept) H.domain_of id number home.old) number)
         (ports_of H.domain_of id home.old) home.old result home.new }
 {
-    let domain = home.domain_mut(id)?;
+    let domain = domain_mut(home, id)?;
     domain.has_samples(alloc, number)
 }
 
@@ -221,7 +221,7 @@ pub fn receive<T: Copy, U: Copy, H: Home<T, U>>(
         (ReceivesBy (subscriber_degrades (λ kept. H.ForSubscribers.degrades kept) H.domain_of id number home.old) number)
         (ports_of H.domain_of id home.old) home.old result home.new }
 {
-    let domain = home.domain_mut(id)?;
+    let domain = domain_mut(home, id)?;
     domain.receive(alloc, number)
 }
 
@@ -237,7 +237,7 @@ pub fn leave_subscriber<T: Copy, U: Copy, H: Home<T, U>>(
     ensures { LeavesDomain (λ after. with_ports H.changed id after home.old) (without_subscriber H.changed id number)
         (SubscriberLeaves number) (ports_of H.domain_of id home.old) home.old result home.new }
 {
-    let Some(domain) = home.domain_mut(id) else {
+    let Some(domain) = domain_mut(home, id) else {
         return false;
     };
     domain.leave_subscriber(number)
@@ -262,7 +262,7 @@ pub fn create_publisher<T: Copy, U: Copy, O: Overrides, H: Home<T, U>>(
         (why_no_publisher config)
         (ports_of H.domain_of id home.old) home.old result home.new }
 {
-    let domain = home.domain_mut(id)?;
+    let domain = domain_mut(home, id)?;
     Some(domain.create_publisher(alloc, config, user_header, overriding, handlers))
 }
 
@@ -281,6 +281,6 @@ pub fn create_subscriber<T: Copy, U: Copy, H: Home<T, U>>(
         (SubscriberComes (H.ForSubscribers.degrades handler FailedToEstablishConnection) config) (why_no_subscriber config)
         (ports_of H.domain_of id home.old) home.old result home.new }
 {
-    let domain = home.domain_mut(id)?;
+    let domain = domain_mut(home, id)?;
     Some(domain.create_subscriber(alloc, config, handler))
 }

@@ -1,6 +1,6 @@
 //! What holds domains, and a domain as the home of its own ports.
-ghost use Rattle.std.specs.Prelude.{◌≡◌, Option, option_copied, option_map};
-ghost use Rattle.std.specs.Borrow.{sem, LendsIf};
+ghost use Rattle.std.specs.Prelude.{◌≡◌, ℕ, Option, None, Some, IfNone, IfSome, IsTrue, option_copied, option_map};
+ghost use Rattle.std.specs.Borrow.{sem, Lends, LendsIf};
 ghost use Rattle.std.specs.Option.{option_copied_mut};
 ghost use Rattle.iox_domain.specs.AsHome.{same_id, own_state, own_changed};
 ghost use Rattle.iox_domain.specs.HomeLaws as homely;
@@ -21,15 +21,24 @@ pub trait LendsDomains<S> {
     // a home after one step of what the domain of an id lends, if it is here
     ghost changed: { DomainId → (S → S) → Self → Self };
 
-    /// The state of the domain of this id, if it is here.
-    fn domain(&self, id: DomainId) -> Option<&S>
-        ensures { option_copied result ≡ domain_of id self.now };
+    // whether the domain of an id is here, at this place
+    ghost stands_at: { DomainId → ℕ → Self → Type 0 };
 
-    /// The state of the domain of this id, if it is here, to be changed in its place.
-    fn domain_mut(&mut self, id: DomainId) -> Option<&mut S>
-        ensures* writes_back { sem 𝓛 (LendsIf Self.row S.row
-            self.entry result (λ last. changed id (λ before. last) self.old) self.old) }
-        ensures value { option_copied_mut result ≡ domain_of id self.old };
+    /// Where the domain of this id is, if it is here.
+    fn place(&self, id: DomainId) -> Option<usize>
+        ensures some { IfSome result (λ place. stands_at id place self.now) }
+        ensures none { IfNone result (domain_of id self.now ≡ None) };
+
+    /// The state of the domain of this id, which is at this place.
+    fn domain_at(&self, id: DomainId, place: usize) -> &S
+        requires { stands_at id place self.now }
+        ensures { domain_of id self.now ≡ Some result.now };
+
+    /// The same, to be changed there.
+    fn domain_mut_at(&mut self, id: DomainId, place: usize) -> &mut S
+        requires { stands_at id place self.old }
+        ensures* writes_back { sem 𝓛 (Lends Self.row S.row self.entry result (λ last. changed id (λ before. last) self.old)) }
+        ensures value { domain_of id self.old ≡ Some result.now };
 
     // what was changed is found so
     ghost changed_found: { (id : DomainId) (step : S → S) (home : Self)
@@ -74,20 +83,18 @@ impl<T: Copy, U: Copy, B: Decides + Degrades, D: Degrades> LendsDomains<DomainSt
 
     ghost changed = { own_changed };
 
-    fn domain(&self, id: DomainId) -> Option<&DomainState<T, U, B, D>> {
-        if is(self.id, id) {
-            Some(&self.state)
-        } else {
-            None
-        }
+    ghost stands_at = { λ id place domain. IsTrue (same_id domain.id id) };
+
+    fn place(&self, id: DomainId) -> Option<usize> {
+        if is(self.id, id) { Some(0) } else { None }
     }
 
-    fn domain_mut(&mut self, id: DomainId) -> Option<&mut DomainState<T, U, B, D>> {
-        if is(self.id, id) {
-            Some(&mut self.state)
-        } else {
-            None
-        }
+    fn domain_at(&self, _id: DomainId, _place: usize) -> &DomainState<T, U, B, D> {
+        &self.state
+    }
+
+    fn domain_mut_at(&mut self, _id: DomainId, _place: usize) -> &mut DomainState<T, U, B, D> {
+        &mut self.state
     }
 
     ghost changed_found = { homely.changed_found };
@@ -99,6 +106,30 @@ impl<T: Copy, U: Copy, B: Decides + Degrades, D: Degrades> LendsDomains<DomainSt
     ghost unchanged = { homely.unchanged };
 
     ghost again = { homely.again };
+}
+
+/// The state of the domain of an id, if it is here.
+pub(crate) fn domain<'a, S: 'a, H: LendsDomains<S>>(home: &'a H, id: DomainId) -> Option<&'a S>
+    ensures { option_copied result ≡ H.domain_of id home.now }
+{
+    match home.place(id) {
+        Some(place) => Some(home.domain_at(id, place)),
+        None => None,
+    }
+}
+
+/// The state of the domain of an id, if it is here, to be changed in its place.
+pub(crate) fn domain_mut<'a, S: 'a, H: LendsDomains<S>>(
+    home: &'a mut H,
+    id: DomainId,
+) -> Option<&'a mut S>
+    ensures* writes_back { sem 𝓛 (LendsIf H.row S.row home.entry result (λ last. H.changed id (λ before. last) home.old) home.old) }
+    ensures value { option_copied_mut result ≡ H.domain_of id home.old }
+{
+    match home.place(id) {
+        Some(place) => Some(home.domain_mut_at(id, place)),
+        None => None,
+    }
 }
 
 // Whether two ids are one.

@@ -14,7 +14,10 @@
 //!
 //! ```
 //! let sizes = sizes_of(&description, 128)?;
-//! let settings = PublisherSettings::default().max_loaned_samples(6);
+//! let settings = PublisherSettings {
+//!     max_loaned_samples: 6,
+//!     ..PublisherSettings::default()
+//! };
 //! ```
 
 pub mod custom;
@@ -25,7 +28,7 @@ pub mod sizes;
 pub mod subscriber_settings;
 
 pub use custom::{CustomHeaderMarker, CustomPayloadMarker};
-pub use fitting::{fits, is_slice};
+pub use fitting::fits;
 pub use iox_describe_base::{Header, ZeroCopySend};
 pub use publisher_settings::PublisherSettings;
 pub use sizes::sizes_of;

@@ -16,27 +16,10 @@ use iox_domain::settings::PublisherSettings;
 use iox_domain::{DomainId, calls};
 use iox_domain_values::{Decides, DegradationAction, Degrades, PortOwner};
 use iox_hub_commands::NumberedHub;
-use iox_hub_commands::services::Factories;
 use std::alloc::Global;
 
-// The domain of the factory that goes by a number, and whose its ports are; None where none of publish-subscribe does.
-fn place(factories: &Factories, factory: u64) -> Option<(DomainId, PortOwner)>
-    ensures { result ≡ option_map (λ opened. (domain_of_factory opened, owner_of_factory opened))
-        (publish_subscribe_in (value_at factories.now.made factory)) }
-{
-    let factory = factories.publish_subscribe(factory)?;
-    let domain = DomainId {
-        hub: factory.hub(),
-        service: factory.number(),
-    };
-    let owner = PortOwner {
-        number: factory.owner(),
-        node_id: factory.node(),
-    };
-    Some((domain, owner))
-}
-
-// The same; None also where the domain isn't here.
+// The domain of the factory that goes by a number, and whose its ports are; None where none of publish-subscribe does, or its domain isn't
+// here.
 fn place_here<T: Copy, U: Copy, B: Decides + Degrades, D: Degrades>(
     hub: &NumberedHub<T, U, B, D>,
     factory: u64,
@@ -46,7 +29,7 @@ fn place_here<T: Copy, U: Copy, B: Decides + Degrades, D: Degrades>(
     ensures here { is_some result ≡ is_some
         (ports_of_factory (publish_subscribe_in (value_at hub.now.factories.made factory)) hub.now.hub) }
 {
-    let (domain, owner) = place(&hub.factories, factory)?;
+    let (domain, owner) = hub.place(factory)?;
     match calls::ports(&hub.hub, domain) {
         Some(_) => Some((domain, owner)),
         None => None,

@@ -1,5 +1,6 @@
 -- Values by rising number, in boxes or not: what stands at a place, comes there and goes from there.
-use Rattle.std.proofs.Common.{ℕ, zero, suc, ◌≡◌, ◌<◌, ◌≤◌, List, [], ◌∷◌, length, get_or, map, set, cond, Some, refl, sym}
+use Rattle.std.proofs.Common.{ℕ, zero, suc, ◌≡◌, ◌<◌, ◌≤◌, List, [], ◌∷◌, length, get_or, map, set, cond, Option, None}
+use Rattle.std.proofs.Common.{Some, refl, sym}
 use Rattle.std.proofs.Common.{ap, subst, ◌∙◌, arith}
 use Rattle.std.proofs.lemmas.List.{get_or-map, length-map}
 use Rattle.std.proofs.lemmas.Map.Keys.{below_from_sorted, sorted_tail}
@@ -8,11 +9,12 @@ use Rattle.std.specs.BTreeMap.{insert_entry, is_at}
 use Rattle.std.specs.Cmp.{nat_cmp_is}
 use Rattle.std.specs.List.{HoldsAt, insert, remove}
 use Rattle.std.specs.List.Sorted.{IsStrictlySortedBy}
+use Rattle.std.specs.Prelude.{IfSome}
 use Rattle.std.specs.Map.{keys_of, lookup, remove_entry, set_value}
 use Rattle.std.specs.Ordering.{nat_cmp, is_eq, match_ordering}
 use Rattle.std.specs.declared.boxed.Box.{Box}
 use Rattle.std.specs.declared.cmp.Ordering.TheVariants.{Less, Equal, Greater}
-use Rattle.iox_hub_base.specs.Unboxed.{unboxed}
+use Rattle.iox_hub_base.specs.Unboxed.{unboxed, StandsAt}
 
 -- what is in a box
 abbrev pub in_box : {X Z : Type 0} → Box X Z → X
@@ -59,6 +61,20 @@ module _ {V X : Type 0} (value : V → X) where
         ap (λ order. cond (is_eq order) (Some (value first.1)) (lookup (is_at (nat_cmp number)) (seen rest)))
         (behind number first.0 (omega (arith, first_below first rest place entry rising (omega arith), found entry)))
         ∙ lookup-place place entry rest (tail first rest rising) (omega arith) found stands
+
+    -- it stands there also among what is seen
+    pub seen-holds : (place : ℕ) (entries : List (ℕ × V)) → place < length entries → HoldsAt (λ entry. entry.0 ≡ number) entries place
+        → HoldsAt (λ entry. entry.0 ≡ number) (seen entries) place
+    seen-holds place [] within found default = absurd (omega arith)
+    seen-holds zero (first ∷ rest) within found default = found first
+    seen-holds (suc place) (first ∷ rest) within found default = seen-holds place rest (omega arith) found default
+
+    -- what stands there among what is seen
+    pub holds-seen : (place : ℕ) (entries : List (ℕ × V)) → place < length entries
+        → HoldsAt (λ entry. entry.0 ≡ number) (seen entries) place → HoldsAt (λ entry. entry.0 ≡ number) entries place
+    holds-seen place [] within found default = absurd (omega arith)
+    holds-seen zero (first ∷ rest) within found default = found (first.0, value first.1)
+    holds-seen (suc place) (first ∷ rest) within found default = holds-seen place rest (omega arith) found default
 
     -- it goes from there when its number goes
     pub remove-place : (place : ℕ) (default : ℕ × V) (entries : List (ℕ × V)) → IsStrictlySortedBy nat_cmp (keys_of entries)
@@ -139,3 +155,19 @@ rising-from entries values same rising = subst (IsStrictlySortedBy nat_cmp) (ap 
 pub rising-unboxed : {X Z : Type 0} (entries : List (ℕ × Box X Z)) → IsStrictlySortedBy nat_cmp (keys_of entries)
     → IsStrictlySortedBy nat_cmp (keys_of (unboxed entries))
 rising-unboxed entries rising = subst (IsStrictlySortedBy nat_cmp) (sym (keys-unboxed entries)) rising
+
+module _ {X Z : Type 0} (number : ℕ) (entries : List (ℕ × Box X Z)) (values : List (ℕ × X)) (same : unboxed entries ≡ values) where
+  -- a number stands among boxes where it stands among the values
+  pub stands-boxed : (place : ℕ) → StandsAt number place values → StandsAt number place entries
+  stands-boxed place stands =
+      let there : StandsAt number place (unboxed entries) = subst (StandsAt number place) (sym same) stands in
+      let within : place < length entries = omega (arith, there.0, length-map {B = ℕ × X} entries (λ entry. (entry.0, entry.1.value))) in
+      (within, holds-seen in_box number place entries within there.1)
+
+  -- and among the values where it is found among boxes
+  pub stands-if : (answer : Option ℕ) → IfSome answer (λ place. place < length entries)
+      → IfSome answer (λ place. HoldsAt (λ entry. entry.0 ≡ number) entries place) → IfSome answer (λ place. StandsAt number place values)
+  stands-if None within found = tt
+  stands-if (Some place) within found =
+      subst (StandsAt number place) same
+      (omega (arith, within, length-map {B = ℕ × X} entries (λ entry. (entry.0, entry.1.value))), seen-holds in_box number place entries within found)

@@ -1,6 +1,6 @@
 -- What services end as, once a `&mut` into them has ended.
 use Rattle.std.specs.Prelude.{ℕ, List, Option}
-use Rattle.std.specs.Borrow.{Fml, LendsIf, MutBor, RattleType}
+use Rattle.std.specs.Borrow.{Fml, Lends, LendsIf, MutBor, RattleType}
 use Rattle.iox_domain.specs.declared.domain.Domain.{Domain}
 use Rattle.iox_domain.specs.contracts.domain.Domain as domain
 use Rattle.iox_hub_base.specs.Open.{with_presence, with_domain}
@@ -10,10 +10,9 @@ use Rattle.iox_hub_base.specs.contracts.presence.Presence as presence
 use Rattle.iox_hub_base.specs.contracts.presences.Presences as presences
 
 module _ (T U B D : RattleType) where
-  -- the last domain behind the reference is here; where it was out nothing has changed
-  abbrev pub LendsDomain : MutBor (Presence T.Denot U.Denot B.Denot D.Denot) → Option (MutBor (Domain T.Denot U.Denot B.Denot D.Denot))
-      → Fml
-  LendsDomain lent answer = LendsIf (presence.the_row T U B D) (domain.the_row T U B D) lent answer (λ last. Here last) lent.now
+  -- the last domain behind the reference is here
+  abbrev pub LendsDomain : MutBor (Presence T.Denot U.Denot B.Denot D.Denot) → MutBor (Domain T.Denot U.Denot B.Denot D.Denot) → Fml
+  LendsDomain lent answer = Lends (presence.the_row T U B D) (domain.the_row T U B D) lent answer (λ last. Here last)
 
   -- what is last behind the reference stands under the number; where nothing was open nothing has changed
   abbrev pub LendsPresence : MutBor (List (ℕ × Presence T.Denot U.Denot B.Denot D.Denot)) → ℕ
@@ -21,8 +20,7 @@ module _ (T U B D : RattleType) where
   LendsPresence lent number answer = LendsIf (presences.the_row T U B D) (presence.the_row T U B D) lent answer
       (with_presence number lent.now) lent.now
 
-  -- the last domain behind the reference is here under the number; where none was here nothing has changed
-  abbrev pub LendsDomainOf : MutBor (List (ℕ × Presence T.Denot U.Denot B.Denot D.Denot)) → ℕ
-      → Option (MutBor (Domain T.Denot U.Denot B.Denot D.Denot)) → Fml
-  LendsDomainOf lent number answer = LendsIf (presences.the_row T U B D) (domain.the_row T U B D) lent answer
-      (with_domain number lent.now) lent.now
+  -- the last domain behind the reference is here under the number
+  abbrev pub LendsDomainAt : MutBor (List (ℕ × Presence T.Denot U.Denot B.Denot D.Denot)) → ℕ
+      → MutBor (Domain T.Denot U.Denot B.Denot D.Denot) → Fml
+  LendsDomainAt lent number answer = Lends (presences.the_row T U B D) (domain.the_row T U B D) lent answer (with_domain number lent.now)

@@ -1,5 +1,5 @@
 //! Values by their numbers: a list by rising number, in which a number is found at once.
-ghost use Rattle.std.specs.Prelude.{◌≡◌, ◌<◌, ℕ, length, option_copied, IfSome, IfNone, IfOk, OnOk, OnErr, [], None};
+ghost use Rattle.std.specs.Prelude.{◌≡◌, ◌<◌, ℕ, length, option_copied, IfSome, IfNone, IfOk, OnOk, OnErr, [], None, Some};
 ghost use Rattle.std.specs.BTreeMap.{insert_entry, is_at};
 ghost use Rattle.std.specs.Borrow.{sem};
 ghost use Rattle.std.specs.List.{HoldsAt};
@@ -7,7 +7,7 @@ ghost use Rattle.std.specs.List.Sorted.{IsStrictlySortedBy, IsBinarySearchResult
 ghost use Rattle.std.specs.Map.{keys_of, lookup, remove_entry, set_value};
 ghost use Rattle.std.specs.Option.{option_copied_mut};
 ghost use Rattle.std.specs.Ordering.{nat_cmp};
-ghost use Rattle.iox_hub_base.specs.Unboxed.{unboxed};
+ghost use Rattle.iox_hub_base.specs.Unboxed.{unboxed, StandsAt};
 
 use std::alloc::{AllocError, Global};
 use std::marker::Model;
@@ -37,7 +37,7 @@ impl<X> Model for ByNumber<X> {
 }
 
 impl<X: Drop> ByNumber<X> {
-    ghost use Rattle.iox_hub_base.specs.ByNumberLends.{LendsUnder};
+    ghost use Rattle.iox_hub_base.specs.ByNumberLends.{LendsStanding, LendsUnder};
 
     /// No number has a value. It takes no memory.
     pub(crate) fn new(alloc: Global) -> Self
@@ -48,12 +48,37 @@ impl<X: Drop> ByNumber<X> {
         }
     }
 
+    /// Where a number stands, if it has a value.
+    pub(crate) fn place(&self, number: u64) -> Option<usize>
+        ensures some { IfSome result (λ place. StandsAt number place self.now) }
+        ensures none { IfNone result (lookup (is_at (nat_cmp number)) self.now ≡ None) }
+    {
+        place_of(&self.entries, number)
+    }
+
+    /// The value of a number, which stands at this place.
+    pub(crate) fn at(&self, number: u64, place: usize) -> &X
+        requires { StandsAt number place self.now }
+        ensures { lookup (is_at (nat_cmp number)) self.now ≡ Some result.now }
+    {
+        &self.entries[place].1
+    }
+
+    /// The same, to be changed there.
+    pub(crate) fn at_mut(&mut self, number: u64, place: usize) -> &mut X
+        requires { StandsAt number place self.old }
+        ensures* writes_back { sem 𝓛 (LendsStanding X.row self.entry number result) }
+        ensures value { lookup (is_at (nat_cmp number)) self.old ≡ Some result.now }
+    {
+        &mut *self.entries[place].1
+    }
+
     /// The value of a number, if it has one.
     pub(crate) fn get(&self, number: u64) -> Option<&X>
         ensures { option_copied result ≡ lookup (is_at (nat_cmp number)) self.now }
     {
-        match place_of(&self.entries, number) {
-            Some(place) => Some(&*self.entries[place].1),
+        match self.place(number) {
+            Some(place) => Some(self.at(number, place)),
             None => None,
         }
     }
@@ -63,8 +88,8 @@ impl<X: Drop> ByNumber<X> {
         ensures* writes_back { sem 𝓛 (LendsUnder X.row self.entry number result) }
         ensures value { option_copied_mut result ≡ lookup (is_at (nat_cmp number)) self.old }
     {
-        match place_of(&self.entries, number) {
-            Some(place) => Some(&mut *self.entries[place].1),
+        match self.place(number) {
+            Some(place) => Some(self.at_mut(number, place)),
             None => None,
         }
     }

@@ -1,7 +1,10 @@
 //! A hub as the home of the domains of its services.
 ghost use Rattle.std.proofs.Common.{ap};
+ghost use Rattle.std.specs.Prelude.{◌≡◌, IsSome};
 ghost use Rattle.iox_hub_base.specs.AsHome.{with_services, hub_state, hub_changed};
 ghost use Rattle.iox_hub_base.specs.HomeLaws as homely;
+ghost use Rattle.iox_hub_base.specs.Open.{domain_of};
+ghost use Rattle.iox_hub_base.specs.Unboxed.{StandsAt};
 
 use crate::hub::Hub;
 use iox_domain::{DomainId, DomainState, Home, LendsDomains};
@@ -19,12 +22,19 @@ impl<T: Copy, U: Copy, B: Decides + Degrades, D: Degrades> LendsDomains<DomainSt
 
     ghost changed = { hub_changed };
 
-    fn domain(&self, id: DomainId) -> Option<&DomainState<T, U, B, D>> {
-        LendsDomains::domain(&self.services, id)
+    ghost stands_at = { λ id place hub. (id.hub ≡ hub.services.hub) × StandsAt id.service place hub.services.domains
+        × IsSome (domain_of id.service hub.services.domains) };
+
+    fn place(&self, id: DomainId) -> Option<usize> {
+        self.services.place(id)
     }
 
-    fn domain_mut(&mut self, id: DomainId) -> Option<&mut DomainState<T, U, B, D>> {
-        LendsDomains::domain_mut(&mut self.services, id)
+    fn domain_at(&self, id: DomainId, place: usize) -> &DomainState<T, U, B, D> {
+        self.services.domain_at(id, place)
+    }
+
+    fn domain_mut_at(&mut self, id: DomainId, place: usize) -> &mut DomainState<T, U, B, D> {
+        self.services.domain_mut_at(id, place)
     }
 
     ghost changed_found = { λ id step hub. homely.changed_found id step hub.services };

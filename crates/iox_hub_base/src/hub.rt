@@ -173,8 +173,8 @@ impl<T: Copy, U: Copy, B: Drop, D: Drop> Hub<T, U, B, D> {
         self.services.loans_left()
     }
 
-    /// How many samples the subscribers of all domains that are here may hold at once: each as many as may be borrowed of a
-    /// connection, for each connection that it has room for. Past 2^64 - 1 it is that.
+    /// How many samples the subscribers of all domains that are here may hold at once: each that didn't leave as many as may be
+    /// borrowed of a connection, of each publisher that is there. Past 2^64 - 1 it is that.
     ///
     /// This port's own.
     /// Example: `let samples = hub.samples_at_most();`

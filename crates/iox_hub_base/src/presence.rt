@@ -1,7 +1,6 @@
 //! A domain that is here, or what is agreed while it is out.
-ghost use Rattle.std.specs.Prelude.{◌≡◌, ◌↔◌, ◌-◌, ◌^◌, IsTrue, min, option_copied};
+ghost use Rattle.std.specs.Prelude.{◌≡◌, ◌↔◌, ◌-◌, ◌^◌, IsSome, IsTrue, Some, min, option_copied};
 ghost use Rattle.std.specs.Borrow.{sem};
-ghost use Rattle.std.specs.Option.{option_copied_mut};
 ghost use Rattle.iox_hub_base.specs.Open.{here, taken_out};
 ghost use Rattle.iox_hub_base.specs.Agreeing.{same_agreement};
 ghost use Rattle.iox_hub_base.specs.Room.{counted_at};
@@ -38,15 +37,16 @@ impl<T, U, B, D> Presence<T, U, B, D> {
         }
     }
 
-    /// The domain, if it is here, to be changed in its place.
-    /// Example: `let domain = presence.domain_mut()?;`
-    pub fn domain_mut(&mut self) -> Option<&mut Domain<T, U, B, D>>
+    /// The domain, which is here, to be changed in its place.
+    /// Example: `let domain = presence.domain_mut();`
+    pub fn domain_mut(&mut self) -> &mut Domain<T, U, B, D>
+        requires { IsSome (here self.old) }
         ensures* writes_back { sem 𝓛 (LendsDomain T.row U.row B.row D.row self.entry result) }
-        ensures value { option_copied_mut result ≡ here self.old }
+        ensures value { here self.old ≡ Some result.now }
     {
         match self {
-            Presence::Here(domain) => Some(domain),
-            Presence::Out(_) => None,
+            Presence::Here(domain) => domain,
+            Presence::Out(_) => unreachable!(),
         }
     }
 

@@ -1,9 +1,10 @@
 //! What is open, by numbers.
-ghost use Rattle.std.specs.Prelude.{◌≡◌, ◌-◌, ◌^◌, ℕ, min, option_copied, IfOk, OnOk, OnErr, [], None};
+ghost use Rattle.std.specs.Prelude.{◌≡◌, ◌-◌, ◌^◌, ℕ, min, option_copied, IfSome, IfNone, IsSome, IfOk, OnOk, OnErr, [], None, Some};
 ghost use Rattle.std.specs.Borrow.{sem};
 ghost use Rattle.std.specs.Option.{option_copied_mut};
 ghost use Rattle.iox_hub_base.specs.Open.{presence_of, domain_of, with_presence, opened, closed};
 ghost use Rattle.iox_hub_base.specs.Room.{loans_left_in, samples_at_most_in};
+ghost use Rattle.iox_hub_base.specs.Unboxed.{StandsAt};
 
 use crate::by_number::{ByNumber, RoomyByNumber};
 use crate::presence::Presence;
@@ -30,7 +31,7 @@ impl<T, U, B, D> Model for Presences<T, U, B, D> {
 }
 
 impl<T: Copy, U: Copy, B: Drop, D: Drop> Presences<T, U, B, D> {
-    ghost use Rattle.iox_hub_base.specs.Lends.{LendsPresence, LendsDomainOf};
+    ghost use Rattle.iox_hub_base.specs.Lends.{LendsPresence, LendsDomainAt};
 
     /// Nothing is open.
     pub fn new(alloc: Global) -> Self
@@ -66,16 +67,39 @@ impl<T: Copy, U: Copy, B: Drop, D: Drop> Presences<T, U, B, D> {
         self.get(number)?.domain()
     }
 
-    /// The domain under a number, if it is here, to be changed in its place.
-    /// Example: `let domain = presences.domain_mut(number)?;`
-    pub fn domain_mut(&mut self, number: u64) -> Option<&mut Domain<T, U, B, D>>
-        ensures* writes_back { sem 𝓛 (LendsDomainOf T.row U.row B.row D.row self.entry number result) }
-        ensures value { option_copied_mut result ≡ domain_of number self.old }
+    /// Where the number of a domain that is here stands.
+    /// Example: `let place = presences.place(number)?;`
+    pub fn place(&self, number: u64) -> Option<usize>
+        ensures some { IfSome result (λ place. StandsAt number place self.now × IsSome (domain_of number self.now)) }
+        ensures none { IfNone result (domain_of number self.now ≡ None) }
     {
-        match self.get_mut(number) {
-            Some(presence) => presence.domain_mut(),
-            None => None,
+        let place = self.entries.place(number)?;
+        match self.entries.at(number, place) {
+            Presence::Here(_) => Some(place),
+            Presence::Out(_) => None,
         }
+    }
+
+    /// The domain under a number that stands at this place; it is here.
+    /// Example: `let domain = presences.domain_at(number, place);`
+    pub fn domain_at(&self, number: u64, place: usize) -> &Domain<T, U, B, D>
+        requires { StandsAt number place self.now × IsSome (domain_of number self.now) }
+        ensures { domain_of number self.now ≡ Some result.now }
+    {
+        match self.entries.at(number, place) {
+            Presence::Here(domain) => domain,
+            Presence::Out(_) => unreachable!(),
+        }
+    }
+
+    /// The same, to be changed in its place.
+    /// Example: `let domain = presences.domain_mut_at(number, place);`
+    pub fn domain_mut_at(&mut self, number: u64, place: usize) -> &mut Domain<T, U, B, D>
+        requires { StandsAt number place self.old × IsSome (domain_of number self.old) }
+        ensures* writes_back { sem 𝓛 (LendsDomainAt T.row U.row B.row D.row self.entry number result) }
+        ensures value { domain_of number self.old ≡ Some result.now }
+    {
+        self.entries.at_mut(number, place).domain_mut()
     }
 
     /// How many loans the publishers of all domains that are here may still make. Past 2^64 - 1 it is that.

@@ -1,7 +1,9 @@
 //! The services of a hub as a home of domains.
-ghost use Rattle.std.specs.Prelude.{◌≡◌, ◌↔◌, IsTrue};
+ghost use Rattle.std.specs.Prelude.{◌≡◌, ◌↔◌, IsSome, IsTrue};
+ghost use Rattle.iox_hub_base.specs.Open.{domain_of};
 ghost use Rattle.iox_hub_base.specs.ServicesAsHome.{state_at, changed_at};
 ghost use Rattle.iox_hub_base.specs.HomeLaws as homely;
+ghost use Rattle.iox_hub_base.specs.Unboxed.{StandsAt};
 
 use crate::services::Services;
 use iox_domain::{DomainId, DomainState, Home, LendsDomains};
@@ -26,24 +28,24 @@ impl<T: Copy, U: Copy, B: Decides + Degrades, D: Degrades> LendsDomains<DomainSt
 
     ghost changed = { changed_at };
 
-    fn domain(&self, id: DomainId) -> Option<&DomainState<T, U, B, D>> {
-        if !is_of(self.hub, id) {
-            return None;
-        }
-        match self.presences.domain(id.service) {
-            Some(domain) => Some(&domain.state),
-            None => None,
+    ghost stands_at = { λ id place services. (id.hub ≡ services.hub) × StandsAt id.service place services.domains
+        × IsSome (domain_of id.service services.domains) };
+
+    fn place(&self, id: DomainId) -> Option<usize> {
+        if is_of(self.hub, id) {
+            self.presences.place(id.service)
+        } else {
+            None
         }
     }
 
-    fn domain_mut(&mut self, id: DomainId) -> Option<&mut DomainState<T, U, B, D>> {
-        if !is_of(self.hub, id) {
-            return None;
-        }
-        match self.presences.domain_mut(id.service) {
-            Some(domain) => Some(&mut domain.state),
-            None => None,
-        }
+    fn domain_at(&self, id: DomainId, place: usize) -> &DomainState<T, U, B, D> {
+        &self.presences.domain_at(id.service, place).state
+    }
+
+    fn domain_mut_at(&mut self, id: DomainId, place: usize) -> &mut DomainState<T, U, B, D> {
+        let domain = self.presences.domain_mut_at(id.service, place);
+        &mut domain.state
     }
 
     ghost changed_found = { homely.changed_found };

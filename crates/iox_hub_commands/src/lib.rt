@@ -62,7 +62,10 @@ pub use crate::services::HubConfig;
 pub use handlers::{
     FixedDegradation, FixedHandlers, NamedSlots, PublisherHandlers, SubscriberHandler,
 };
-pub use naming::{most_loans, publisher_handlers, subscriber_handler};
+pub use naming::{
+    domain_of, first_length, most_loans, owner_of, publisher_config, publisher_handlers,
+    subscriber_config, subscriber_handler,
+};
 pub use numbered_hub::NumberedHub;
 pub use ports::Made;
 pub use run::RunReport;

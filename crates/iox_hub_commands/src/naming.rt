@@ -3,12 +3,39 @@ ghost use Rattle.std.specs.Prelude.{◌≡◌};
 ghost use Rattle.std.specs.Option.{unwrap_or};
 ghost use Rattle.iox_hub_commands.specs.Naming.{most_loans, publisher_config, publisher_handlers, named_slots, subscriber_config};
 ghost use Rattle.iox_hub_commands.specs.Naming.{subscriber_handler};
+ghost use Rattle.iox_hub_commands.specs.Services.{domain_of_factory, owner_of_factory};
+ghost use Rattle.iox_domain.specs.PortSettings.{publisher_defaults};
 
 use crate::handlers::{NamedSlots, PublisherHandlers, SubscriberHandler};
 use iox_command::{PublisherOptions, SubscriberOptions};
+use iox_describe::pattern::PublishSubscribe;
+use iox_domain::DomainId;
 use iox_domain::ports::{PublisherConfig, SubscriberConfig};
 use iox_domain::settings::PublisherSettings;
 use iox_domain_values::{DegradationAction, PortOwner};
+use iox_hub_base::PortFactory;
+
+/// The domain of a factory's ports.
+/// Example: `let domain = domain_of(&factory);`
+pub fn domain_of(factory: &PortFactory<PublishSubscribe>) -> DomainId
+    ensures { result ≡ domain_of_factory (factory.now.service.membership, factory.now.owner) }
+{
+    DomainId {
+        hub: factory.hub(),
+        service: factory.number(),
+    }
+}
+
+/// Whose a factory's ports are.
+/// Example: `let owner = owner_of(&factory);`
+pub fn owner_of(factory: &PortFactory<PublishSubscribe>) -> PortOwner
+    ensures { result ≡ owner_of_factory (factory.now.service.membership, factory.now.owner) }
+{
+    PortOwner {
+        number: factory.owner(),
+        node_id: factory.node(),
+    }
+}
 
 /// How many loans may be out at once of a publisher that is named so.
 pub fn most_loans(options: &PublisherOptions) -> usize
@@ -18,18 +45,28 @@ pub fn most_loans(options: &PublisherOptions) -> usize
     length(options.max_loaned_samples, defaults.max_loaned_samples)
 }
 
-// What a publisher of slices is made with.
-pub(crate) fn publisher_config(owner: PortOwner, options: &PublisherOptions) -> PublisherConfig
+/// How many values a loan of a publisher that is named so may have at first.
+/// Example: `let length = first_length(&options);`
+pub fn first_length(options: &PublisherOptions) -> usize
+    ensures { result ≡ unwrap_or options.now.initial_max_slice_len publisher_defaults.initial_max_slice_len }
+{
+    let defaults = PublisherSettings::default();
+    length(
+        options.initial_max_slice_len,
+        defaults.initial_max_slice_len,
+    )
+}
+
+/// What a publisher of slices is made with.
+/// Example: `let config = publisher_config(owner, &options);`
+pub fn publisher_config(owner: PortOwner, options: &PublisherOptions) -> PublisherConfig
     ensures { result ≡ publisher_config owner options.now }
 {
     let defaults = PublisherSettings::default();
     PublisherConfig {
         owner,
         max_loaned_samples: most_loans(options),
-        values: length(
-            options.initial_max_slice_len,
-            defaults.initial_max_slice_len,
-        ),
+        values: first_length(options),
         unit: 1,
         allocation: options.allocation_strategy.unwrap_or(defaults.allocation),
         first_sequence: defaults.first_sequence,
@@ -60,8 +97,9 @@ pub(crate) fn named_slots(options: &PublisherOptions) -> NamedSlots
     }
 }
 
-// What a subscriber is made with.
-pub(crate) fn subscriber_config(owner: PortOwner, options: &SubscriberOptions) -> SubscriberConfig
+/// What a subscriber is made with.
+/// Example: `let config = subscriber_config(owner, &options);`
+pub fn subscriber_config(owner: PortOwner, options: &SubscriberOptions) -> SubscriberConfig
     ensures { result ≡ subscriber_config owner options.now }
 {
     SubscriberConfig {

@@ -12,7 +12,10 @@ ghost use Rattle.iox_delivery.specs.Container.NumberTable.{value_at};
 use crate::numbered_hub::NumberedHub;
 use crate::replies::{closed_reply, factory_reply, foreign_reply};
 use crate::services::{ServiceAsked, foreign};
-use crate::{PublisherHandlers, SubscriberHandler, publisher_handlers, subscriber_handler};
+use crate::{
+    PublisherHandlers, SubscriberHandler, domain_of, owner_of, publisher_handlers,
+    subscriber_handler,
+};
 use iox_command::{
     ForeignStep, PublisherOptions, Refusal, Reply, StepBefore, Steps, SubscriberOptions,
 };
@@ -122,21 +125,14 @@ impl<T: Words + ZeroCopySend, U: Copy + ZeroCopySend, B: Drop, D: Drop> Numbered
 }
 
 impl<T, U, B, D> NumberedHub<T, U, B, D> {
-    // The domain of the factory that goes by a number, and whose its ports are; None where none of publish-subscribe does.
-    fn place(&self, factory: u64) -> Option<(DomainId, PortOwner)>
+    /// The domain of the factory that goes by a number, and whose its ports are; None where none of publish-subscribe does.
+    /// Example: `let (domain, owner) = hub.place(factory)?;`
+    pub fn place(&self, factory: u64) -> Option<(DomainId, PortOwner)>
         ensures { result ≡ option_map (λ opened. (domain_of_factory opened, owner_of_factory opened))
             (publish_subscribe_in (value_at self.now.factories.made factory)) }
     {
         let factory = self.factories.publish_subscribe(factory)?;
-        let domain = DomainId {
-            hub: factory.hub(),
-            service: factory.number(),
-        };
-        let owner = PortOwner {
-            number: factory.owner(),
-            node_id: factory.node(),
-        };
-        Some((domain, owner))
+        Some((domain_of(factory), owner_of(factory)))
     }
 }
 

@@ -17,12 +17,23 @@ use std::marker::Model;
 
 /// A publisher that steps on the words that it shares with the other ports of its board. It may go to any thread; no call takes a
 /// lock, memory or leave to wait.
-#[derive(Drop)]
 pub struct LanePublisher {
     words: Share,
     board: u64,
     place: usize,
     port: ThreadedPublisher,
+}
+
+/// Said here once, so that no crate above proves it anew.
+impl Drop for LanePublisher {
+    fn drop(self) {
+        let LanePublisher {
+            words: _,
+            board: _,
+            place: _,
+            port: _,
+        } = self;
+    }
 }
 
 impl Model for LanePublisher {
@@ -128,14 +139,20 @@ impl LanePublisher {
     pub(crate) fn into_lane(self) -> PublisherLane
         ensures { result ≡ self.own.lane }
     {
-        self.port.into_parts().1
+        self.into_parts().1
     }
 
     /// Its seat and its lane, which stands still from now on.
     pub(crate) fn into_parts(self) -> (WordSeat, PublisherLane)
         ensures { (result.0.table_id ≡ self.own.table) × (result.0.me ≡ single self.own.port) × (result.1 ≡ self.own.lane) }
     {
-        self.port.into_parts()
+        let LanePublisher {
+            words: _,
+            board: _,
+            place: _,
+            port,
+        } = self;
+        port.into_parts()
     }
 }
 

@@ -21,12 +21,23 @@ use std::sync::Wait;
 
 /// A subscriber that steps on the words that it shares with the other ports of its board. It may go to any thread; no call takes
 /// a lock or memory, and `receive` alone leave to wait.
-#[derive(Drop)]
 pub struct LaneSubscriber {
     words: Share,
     board: u64,
     place: usize,
     port: ThreadedSubscriber,
+}
+
+/// Said here once, so that no crate above proves it anew.
+impl Drop for LaneSubscriber {
+    fn drop(self) {
+        let LaneSubscriber {
+            words: _,
+            board: _,
+            place: _,
+            port: _,
+        } = self;
+    }
 }
 
 impl Model for LaneSubscriber {
@@ -120,14 +131,20 @@ impl LaneSubscriber {
     pub(crate) fn into_lane(self) -> SubscriberLane
         ensures { result ≡ self.own.lane }
     {
-        self.port.into_parts().1
+        self.into_parts().1
     }
 
     /// Its seat and its lane, which stands still from now on.
     pub(crate) fn into_parts(self) -> (WordSeat, SubscriberLane)
         ensures { (result.0.table_id ≡ self.own.table) × (result.0.me ≡ single self.own.port) × (result.1 ≡ self.own.lane) }
     {
-        self.port.into_parts()
+        let LaneSubscriber {
+            words: _,
+            board: _,
+            place: _,
+            port,
+        } = self;
+        port.into_parts()
     }
 }
 

@@ -21,13 +21,24 @@ use std::alloc::{AllocError, Global};
 use std::marker::Model;
 
 /// A publisher that steps in threads.
-#[derive(Drop)]
 pub struct ThreadedPublisher {
     seat: WordSeat,
     sizes: TableSizes,
     lane: PublisherLane,
     // The write that it is asked for next: its room was taken when the port was made.
     asked: Move,
+}
+
+/// Said here once, so that no crate above proves it anew.
+impl Drop for ThreadedPublisher {
+    fn drop(self) {
+        let ThreadedPublisher {
+            seat: _,
+            sizes: _,
+            lane: _,
+            asked: _,
+        } = self;
+    }
 }
 
 impl Model for ThreadedPublisher {
@@ -334,6 +345,12 @@ impl ThreadedPublisher {
     pub fn into_parts(self) -> (WordSeat, PublisherLane)
         ensures { (result.0.table_id ≡ self.table) × (result.0.me ≡ single self.port) × (result.1 ≡ self.lane) }
     {
-        (self.seat, self.lane)
+        let ThreadedPublisher {
+            seat,
+            sizes: _,
+            lane,
+            asked: _,
+        } = self;
+        (seat, lane)
     }
 }

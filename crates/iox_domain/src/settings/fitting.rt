@@ -2,7 +2,7 @@
 ghost use Rattle.std.specs.Prelude.{◌≡◌, ◌↔◌, IsTrue};
 ghost use Rattle.iox_describe_settings.specs.DescribeBase.Detail.{detail};
 ghost use Rattle.iox_describe_settings.specs.DescribeBase.declared.type_detail.TypeVariant.TheVariants.{FixedSize};
-ghost use Rattle.iox_domain.specs.Fitting.{any_payload, any_user_header, stood_for, asked_types, FitTypes, Fits, HoldsSlices};
+ghost use Rattle.iox_domain.specs.Fitting.{any_payload, any_user_header, stood_for, asked_types, FitTypes, Fits};
 
 use crate::settings::custom::{CustomHeaderMarker, CustomPayloadMarker};
 use iox_describe_base::{Header, MessageTypeDetails, TypeDetail, TypeVariant, ZeroCopySend};
@@ -23,19 +23,6 @@ pub fn fits<T: ZeroCopySend, U: ZeroCopySend>(description: &Description) -> bool
             T::type_detail(TypeVariant::FixedSize),
             U::type_detail(TypeVariant::FixedSize),
             &config.types,
-        ),
-        _ => false,
-    }
-}
-
-/// Whether the messages of a description are slices. Those of another pattern aren't.
-pub fn is_slice(description: &Description) -> bool
-    ensures { IsTrue result ↔ HoldsSlices description.now.settings }
-{
-    match description.settings() {
-        Settings::PublishSubscribe(config) => matches!(
-            config.types.payload.variant(),
-            TypeVariant::Dynamic
         ),
         _ => false,
     }

@@ -1,5 +1,5 @@
 //! What a subscriber is made with.
-ghost use Rattle.std.specs.Prelude.{◌≡◌, Some};
+ghost use Rattle.std.specs.Prelude.{◌≡◌};
 ghost use Rattle.iox_domain_values.specs.Sizes.{buffer_of};
 ghost use Rattle.iox_domain.specs.PortSettings.{subscriber_defaults};
 
@@ -24,16 +24,6 @@ impl Default for SubscriberSettings {
 }
 
 impl SubscriberSettings {
-    /// Names how many messages of one publisher may wait for it; 0 stands for 1.
-    ///
-    /// Ported from `iceoryx2::service::port_factory::subscriber::PortFactorySubscriber::buffer_size`.
-    pub fn buffer_size(mut self, value: usize) -> Self
-        ensures { result ≡ record self { buffer_size = Some value } }
-    {
-        self.buffer_size = Some(value);
-        self
-    }
-
     /// How many messages of one publisher may wait for a subscriber of this service: as many as are named, at least 1, or as many as
     /// the service allows where none is named.
     ///

@@ -1,19 +1,15 @@
 //! What calls of a recorded hub do to the hub, and how things get their numbers.
 ghost use Rattle.std.specs.Prelude.{◌≡◌, ◌&&◌, List, is_ok};
-ghost use Rattle.std.specs.Option.{unwrap_or};
 ghost use Rattle.std.specs.Result.{result_ok};
 ghost use Rattle.iox_command.specs.declared.command.Command.TheVariants as command;
 ghost use Rattle.iox_delivery.specs.Holding.{publisher_blocked, subscriber_stands};
 ghost use Rattle.iox_delivery.specs.Publishing.{FollowsSubscribers, RetriesSend};
 ghost use Rattle.iox_delivery.specs.Slices.{SendsSlice};
 ghost use Rattle.iox_delivery.specs.Subscribing.{FollowsPublishers, ReceivesSample, TellsSamples};
-ghost use Rattle.iox_delivery.specs.Domain.PortSettings.{publisher_defaults};
 ghost use Rattle.iox_domain.specs.Homes as homes;
 ghost use Rattle.iox_hub_commands.specs.Calls.{may_lend};
-ghost use Rattle.iox_hub_commands.specs.Naming.{publisher_config, subscriber_config};
 ghost use Rattle.iox_hub_commands.specs.DescribeSettings.declared.static_config.Settings.TheVariants as settings;
 ghost use Rattle.iox_hub_commands.specs.DescribeSettings.declared.static_config.publish_subscribe.StaticConfig.{StaticConfig};
-ghost use Rattle.iox_hub_commands.specs.Services.{domain_of_factory, owner_of_factory};
 ghost use Rattle.iox_hub.specs.Recorded.{Calls, asked_too};
 ghost use Rattle.iox_hub.specs.RecordedNames.{back_by, named_by, port_made};
 ghost use Rattle.iox_hub.specs.RecordedNames.{publisher_side, received_by, subscriber_side};
@@ -25,15 +21,13 @@ use iox_command::{PublisherOptions, SubscriberOptions};
 use iox_delivery::{BlockedSend, PortId, Sent, UpdateConnections, slices as slice};
 use iox_describe::pattern::PublishSubscribe;
 use iox_describe_base::ZeroCopySend;
-use iox_domain::ports::{PublisherConfig, SubscriberConfig};
 use iox_domain::settings::PublisherSettings;
 use iox_domain::{DomainId, Home};
 use iox_domain_values::{
-    ConnectionFailure, PortOwner, PublisherCreateError, ReceiveError, SendError,
-    SubscriberCreateError,
+    ConnectionFailure, PublisherCreateError, ReceiveError, SendError, SubscriberCreateError,
 };
 use iox_hub_base::{Hub, PortFactory};
-use iox_hub_commands::{PublisherHandlers, SubscriberHandler, most_loans};
+use iox_hub_commands::{PublisherHandlers, SubscriberHandler, first_length};
 use iox_queues_base::Words;
 use std::alloc::Global;
 
@@ -209,64 +203,6 @@ pub(crate) fn told_received<
     ensures { result.calls ≡ calls }
 {
     History::told(history, number, &(), &())
-}
-
-// The domain of a factory's ports.
-pub(crate) fn domain_of(factory: &PortFactory<PublishSubscribe>) -> DomainId
-    ensures { result ≡ domain_of_factory (factory.now.service.membership, factory.now.owner) }
-{
-    DomainId {
-        hub: factory.hub(),
-        service: factory.number(),
-    }
-}
-
-// Whose a factory's ports are.
-pub(crate) fn owner_of(factory: &PortFactory<PublishSubscribe>) -> PortOwner
-    ensures { result ≡ owner_of_factory (factory.now.service.membership, factory.now.owner) }
-{
-    PortOwner {
-        number: factory.owner(),
-        node_id: factory.node(),
-    }
-}
-
-// What a publisher of slices is made with.
-pub(crate) fn publisher_config(owner: PortOwner, options: &PublisherOptions) -> PublisherConfig
-    ensures { result ≡ publisher_config owner options.now }
-{
-    let defaults = PublisherSettings::default();
-    PublisherConfig {
-        owner,
-        max_loaned_samples: most_loans(options),
-        values: first_length(options),
-        unit: 1,
-        allocation: options.allocation_strategy.unwrap_or(defaults.allocation),
-        first_sequence: defaults.first_sequence,
-    }
-}
-
-// How many values a loan may have at first.
-pub(crate) fn first_length(options: &PublisherOptions) -> usize
-    ensures { result ≡ unwrap_or options.now.initial_max_slice_len publisher_defaults.initial_max_slice_len }
-{
-    match options.initial_max_slice_len {
-        Some(length) => length as usize,
-        None => PublisherSettings::default().initial_max_slice_len,
-    }
-}
-
-// What a subscriber is made with.
-pub(crate) fn subscriber_config(owner: PortOwner, options: &SubscriberOptions) -> SubscriberConfig
-    ensures { result ≡ subscriber_config owner options.now }
-{
-    SubscriberConfig {
-        owner,
-        buffer_size: match options.buffer_size {
-            Some(size) => Some(size as usize),
-            None => None,
-        },
-    }
 }
 
 // How many messages of one publisher may wait for a subscriber of a service.

@@ -48,8 +48,8 @@ use iox_domain_values::{
 use iox_hub_base::{Hub, HubConfig, NodeHandle, PortFactory};
 use iox_hub_commands::services::foreign;
 use iox_hub_commands::{
-    FixedDegradation, FixedHandlers, NamedSlots, PublisherHandlers, SubscriberHandler,
-    publisher_handlers, subscriber_handler,
+    FixedDegradation, FixedHandlers, NamedSlots, PublisherHandlers, SubscriberHandler, domain_of,
+    owner_of, publisher_config, publisher_handlers, subscriber_config, subscriber_handler,
 };
 use iox_hub_machine::typed::{
     typed_calls_are_a_run, typed_closes_are_steps, typed_publisher_calls_are_steps,
@@ -383,9 +383,9 @@ impl<
               initial_max_slice_len = unwrap_or options.now.initial_max_slice_len 1;
             }))) }
     {
-        let domain = calls::domain_of(&factory.it);
+        let domain = domain_of(&factory.it);
         let number = Number::given(&self.history);
-        let config = calls::publisher_config(calls::owner_of(&factory.it), options);
+        let config = publisher_config(owner_of(&factory.it), options);
         let slots = NamedSlots {
             slots: options.preallocated_samples,
         };
@@ -432,11 +432,11 @@ impl<
             → IfSome result (λ answer. IfOk answer (λ subscriber.
             subscriber.it.side ≡ record { buffer_size = unwrap_or options.now.buffer_size most.subscriber_max_buffer_size })) }
     {
-        let domain = calls::domain_of(&factory.it);
+        let domain = domain_of(&factory.it);
         let number = Number::given(&self.history);
         typed_calls_are_a_run::<T, U, B, D>();
         typed_service_calls_are_steps::<T, U, B, D>();
-        let config = calls::subscriber_config(calls::owner_of(&factory.it), options);
+        let config = subscriber_config(owner_of(&factory.it), options);
         let answer = create_subscriber(
             &mut self.hub,
             alloc,

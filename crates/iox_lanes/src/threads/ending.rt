@@ -68,11 +68,7 @@ pub fn end<T: Copy, U: Copy, B, D>(
     if !has_all(&board, &publishers, &subscribers) {
         return Err(not_all(board, publishers, subscribers));
     }
-    let DomainBoard {
-        board: _,
-        domain,
-        publishers: numbers,
-    } = board;
+    let (_board, domain, numbers) = board.into_fields();
     Ok(emptied(domain, &numbers, &publishers))
 }
 
@@ -95,11 +91,7 @@ pub fn end_together<T: Copy, U: Copy, B, D>(
     if !has_all(&board, &publishers, &subscribers) {
         return Err(not_all(board, publishers, subscribers));
     }
-    let DomainBoard {
-        board,
-        domain,
-        publishers: numbers,
-    } = board;
+    let (board, domain, numbers) = board.into_fields();
     let domain = emptied(domain, &numbers, &publishers);
     match iox_lanes_threads::end_together(board, publishers, subscribers) {
         Ok(_) => Ok(domain),

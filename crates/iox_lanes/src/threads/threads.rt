@@ -9,12 +9,22 @@ use std::marker::Model;
 /// The board of a domain's ports in threads, with the domain as it was when its lanes began.
 ///
 /// This port's own.
-#[derive(Drop)]
 pub struct DomainBoard<T, U, B = Handlers, D = DegradationHandler> {
     pub(crate) board: Board,
     pub(crate) domain: Domain<T, U, B, D>,
     // The numbers of the publishers, by their places.
     pub(crate) publishers: Vec<u64>,
+}
+
+/// Said here once, so that no crate above proves it anew.
+impl<T: Drop, U: Drop, B: Drop, D: Drop> Drop for DomainBoard<T, U, B, D> {
+    fn drop(self) {
+        let DomainBoard {
+            board: _,
+            domain: _,
+            publishers: _,
+        } = self;
+    }
 }
 
 impl<T, U, B, D> Model for DomainBoard<T, U, B, D> {
@@ -26,6 +36,18 @@ impl<T, U, B, D> Model for DomainBoard<T, U, B, D> {
 }
 
 impl<T, U, B, D> DomainBoard<T, U, B, D> {
+    // Its fields.
+    pub(crate) fn into_fields(self) -> (Board, Domain<T, U, B, D>, Vec<u64>)
+        ensures { (result.0 ≡ self.board) × (result.1 ≡ self.domain) × (result.2.items ≡ self.publishers) }
+    {
+        let DomainBoard {
+            board,
+            domain,
+            publishers,
+        } = self;
+        (board, domain, publishers)
+    }
+
     /// Whether the port is one of this board's: whether both were opened with one number.
     pub fn knows<P: OnBoard>(&self, port: &P) -> bool
         ensures { result ≡ (P.board_of port.now == self.now.board.number) }

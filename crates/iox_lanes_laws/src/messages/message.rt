@@ -15,12 +15,23 @@ use std::alloc::{AllocError, Global};
 use std::marker::Model;
 
 /// A message as it was when its send began, or when it was found. This port's own.
-#[derive(Drop)]
 pub struct Message {
     publisher: usize,
     slot: u64,
     moment: u64,
     words: Vec<u64>,
+}
+
+/// Said here once, so that no crate above proves it anew.
+impl Drop for Message {
+    fn drop(self) {
+        let Message {
+            publisher: _,
+            slot: _,
+            moment: _,
+            words: _,
+        } = self;
+    }
 }
 
 impl Model for Message {

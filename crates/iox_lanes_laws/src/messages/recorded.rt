@@ -18,11 +18,21 @@ use std::marker::Model;
 
 /// Lanes with the messages that were sent on them since they were handed in: each has the next number as its send begins, from 0 on,
 /// behind those that were found. This port's own.
-#[derive(Drop)]
 pub struct Lanes {
     alloc: Global,
     lanes: LaneMachine,
     messages: Vec<Message>,
+}
+
+/// Said here once, so that no crate above proves it anew.
+impl Drop for Lanes {
+    fn drop(self) {
+        let Lanes {
+            alloc: _,
+            lanes: _,
+            messages: _,
+        } = self;
+    }
 }
 
 impl Model for Lanes {
@@ -313,9 +323,9 @@ impl Lanes {
         ensures { (result.0 ≡ self.lanes) × (result.1.items ≡ self.messages) }
     {
         let Lanes {
+            alloc: _,
             lanes,
             messages,
-            ..
         } = self;
         (lanes, messages)
     }
@@ -336,7 +346,11 @@ impl Lanes {
     pub fn into_machine(self) -> LaneMachine
         ensures { result ≡ self.lanes }
     {
-        let Lanes { lanes, .. } = self;
+        let Lanes {
+            alloc: _,
+            lanes,
+            messages: _,
+        } = self;
         lanes
     }
 }
