@@ -72,7 +72,9 @@ def functions(file):
             indent, name = named.groups()
             end = next((it for it in range(at, len(lines)) if lines[it].startswith((indent + "}", indent + "{}"))), at)
             begins = (it for it in range(at, end) if lines[it].startswith(indent + "{") or re.search(r"\) (?:-> .* )?\{$", lines[it]))
-            body = "\n".join(re.sub(r"//.*", "", it) for it in lines[next(begins, end) : end + 1])
+            first = next(begins, end)
+            # What stands before the brace of a head of one line is no call.
+            body = "\n".join(["{" if first == at else "", *(re.sub(r"//.*", "", it) for it in lines[first + (first == at) : end + 1])])
             found[f"{owner}::{name}" if indent else name] = body
     return found
 
@@ -166,7 +168,7 @@ def a_line_looks_its_number_its_domain_and_its_port_up_once():
     made = {}
     for name, _, file, _ in rows():
         body = re.sub(r"\s*\n\s*", "", body_of(name, file))
-        made[name] = [it[1] for it in re.finditer(r"([\w.:?]+\.(?:domain|get|get_mut|place))\(", body)]
+        made[name] = [it[1] for it in re.finditer(r"([\w.:?]+\.(?:domain|get|get_mut|place))\((?!\))", body)]
     expect({name: looked for name, looked in made.items() if looked}, LOOK_UPS)
 
 
