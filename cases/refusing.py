@@ -358,7 +358,12 @@ def refusals_in(tests, library, name):
     """Has each of the first requests of a test refused in turn. Returns how often it failed for it; any other failure differs."""
     failed = 0
     with tempfile.TemporaryDirectory(prefix="iox-check-") as folder:
-        for number, ended, _ in run(tests, library, Path(folder), b"", each=True, words=[name], most=MOST)[:MOST]:
+        try:
+            made = run(tests, library, Path(folder), b"", each=True, words=[name], most=MOST)
+        except NotHere:
+            # It asks for more than there can be, and so for nothing.
+            return 0
+        for number, ended, _ in made[:MOST]:
             status = os.waitstatus_to_exitcode(ended)
             said = b"".join((Path(folder) / f"{number}.{it}").read_bytes() for it in (1, 2))
             if status < 0 or status > 0 and not re.search(rb"(?i)alloc_?error|allocfailed|out ?of ?memory", said):
