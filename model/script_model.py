@@ -485,18 +485,25 @@ class Subscriber:
             self.update()
         except Refused as why:
             raise Refused(f"ReceiveError::ConnectionFailure({str(why).partition('::')[2]})") from None
-        for link in list(self.expired):
-            if link.waiting and len(link.borrowed) < self.most_borrowed:
-                return self.take(link)
-            if link.is_idle():
-                self.expired.remove(link)
-                self.forget(link)
-        for key in sorted(self.keys):
-            if self.keys[key].waiting and len(self.keys[key].borrowed) < self.most_borrowed:
-                return self.take(self.keys[key])
+        link = self.next_to_give()
+        if link is not None:
+            return self.take(link)
         if self.has_data():
             raise Refused("ReceiveError::ExceedsMaxBorrows")
         return None
+
+    def next_to_give(self):
+        """The connection whose oldest message is received; expired ones with nothing left end on the way to it."""
+        for link in list(self.expired):
+            if self.may_give(link):
+                return link
+            if link.is_idle():
+                self.expired.remove(link)
+                self.forget(link)
+        return next((self.keys[key] for key in sorted(self.keys) if self.may_give(self.keys[key])), None)
+
+    def may_give(self, link):
+        return bool(link.waiting) and len(link.borrowed) < self.most_borrowed
 
     def has_data(self):
         return any(it.waiting for it in self.keys.values())

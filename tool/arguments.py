@@ -36,6 +36,8 @@ def parser():
     add("--json", action="store_true", help="write a line of JSON for each reply")
     add("--svg", metavar="OUT", help="draw the conversation as a picture into OUT")
     add("--html", metavar="OUT", help="write a page into OUT that plays it step by step")
+    add("--against", metavar="CMD", help="hold the replies of another program against the model")
+    add("--random", metavar="N", help="with --against: N random scripts, or N,PROFILE,SEED")
     add("--time", action="store_true", help="say at the end how long it took")
     add("--numbers", action="store_true", help="show the line itself, too, behind err and skip")
     how = made.add_mutually_exclusive_group()

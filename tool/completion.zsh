@@ -8,6 +8,8 @@ _iox() {
         '(--json)'--json'[write a line of JSON for each reply]' \
         '(--svg)'--svg'[draw the conversation as a picture into OUT]:OUT:_files' \
         '(--html)'--html'[write a page into OUT that plays it step by step]:OUT:_files' \
+        '(--against)'--against'[hold the replies of another program against the model]:CMD:_files' \
+        '(--random)'--random'[with --against\: N random scripts, or N,PROFILE,SEED]:N:_files' \
         '(--time)'--time'[say at the end how long it took]' \
         '(--numbers)'--numbers'[show the line itself, too, behind err and skip]' \
         '(-q --quiet -v --verbose)'{-q,--quiet}'[say nothing about lines on standard error]' \

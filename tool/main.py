@@ -150,6 +150,10 @@ def main() -> int:
     if options.version:
         print(version())
         return 0
+    if options.against is not None or options.random is not None:
+        from tool.against import run as run_against
+
+        return run_against(options)
     if options.file == "-":
         options.file = None
     if options.file is not None:
