@@ -108,13 +108,13 @@ def what_was_edited_during_a_build_is_not_taken_for_built():
 
 
 @case
-def a_failed_build_names_its_log():
+def a_failed_build_names_its_first_error_and_its_log():
     with Copy() as copy:
         (copy.top / "fail").touch()
         ran = copy.run("--proved", given=b"node\n")
         expect((ran.status, ran.out), (3, b""))
         log = copy.top / "crates" / "iox" / "out" / "build.log"
-        expect_in(f"iox_line is not proved or not built: {log}".encode(), ran.err)
+        expect_in(f"iox_line is not proved or not built: error: no proof ({log} has all of it)".encode(), ran.err)
         expect_in("error: no proof", log.read_text(encoding="utf-8"))
         (copy.top / "fail").unlink()
         copy.calls()
@@ -250,7 +250,7 @@ def the_kept_build_answers_at_a_prompt_too():
         environment = {"XDG_STATE_HOME": str(copy.top), "PATH": copy.how["env"]["PATH"]}
         status, screen = talk(words, [b"node\n", b"put p1 1\n", b"quit\n"], environment)
         expect((status, copy.calls()), (0, []))
-        expect_in("iox> node\nok n1\niox> put p1 1\nskip\nline 2, skip: p1 was never given\niox> quit\n", screen)
+        expect_in("iox> node\nok n1\niox> put p1 1\nskip\nline 2, skip: p1 doesn't exist\niox> quit\n", screen)
 
 
 @case
@@ -276,14 +276,60 @@ def where_no_program_can_be_taken_each_script_has_a_run_of_its_own():
 
 
 @case
-def a_refused_build_without_proofs_names_its_log():
+def a_refused_build_without_proofs_names_its_first_error_and_its_log():
     with Copy() as copy:
         (copy.top / "fail").touch()
         ran = copy.run(SCRIPT)
         log = copy.top / "crates" / "iox" / "out" / "unproved.log"
         expect((ran.status, ran.out), (3, b""))
-        expect_in(f"{log} says why".encode(), ran.err)
+        expect_in(f"iox: the program can't be built: error: no such name ({log} has all of it)".encode(), ran.err)
         expect_in("no such name", log.read_text(encoding="utf-8"))
+
+
+@case
+def a_build_that_answers_the_first_script_otherwise_is_kept_and_the_line_is_told():
+    with Copy() as copy:
+        (copy.top / "wrong").touch()
+        ran = copy.run(given=b"node\ncreate n1 ps A\nsubscriber f1\nreceive s1\n")
+        expect((ran.status, ran.out, copy.tries()), (0, b"ok n1\nok f1\nok s1\nnothing\n", 1))
+        told = b'iox: line 14 of examples/first.iox: this build replies "nothing", and first.replies has "none"\n'
+        expect_in(told, ran.err)
+        # It is told once, and nothing is built again.
+        ran = copy.run(SCRIPT)
+        expect((ran.status, ran.out, copy.tries(), ran.err), (0, REPLIES.replace(b"none", b"nothing"), 0, b""))
+
+
+@case
+def without_a_toolchain_a_program_of_these_sources_is_taken():
+    with Copy() as copy:
+        copy.run(SCRIPT)
+        copy.calls()
+        alone = {"PATH": "/usr/bin:/bin"}
+        ran = copy.run(SCRIPT, env=alone)
+        expect((ran.status, ran.out, copy.calls()), (0, REPLIES, []))
+        expect_in(b"there is no rt on the path: what answers was built from these sources", ran.err)
+        copy.run("-q", SCRIPT, env=alone).expect(0, REPLIES)
+        copy.edit("crates/iox_line/src/lib.rt")
+        copy.run(SCRIPT, env=alone).expect_one_line(3, "no rt on the path", "--model")
+
+
+@case
+def a_checkout_that_cannot_be_written_is_built_into_the_users_cache():
+    with Copy() as copy:
+        out, cache = copy.top / "crates" / "iox" / "out", copy.top / "cache"
+        # (Whoever runs this may be allowed to write everywhere.)
+        shutil.rmtree(out)
+        out.touch()
+        environment = {**copy.how["env"], "XDG_CACHE_HOME": str(cache)}
+        for tries in (1, 0):
+            ran = copy.run(SCRIPT, env=environment)
+            expect((ran.status, ran.out, copy.tries()), (0, REPLIES, tries))
+        expect(len([*cache.glob("kohepuri/*/unproved-*-*")]), 1)
+        copy.run("--proved", SCRIPT, env=environment).expect_one_line(3, f"{out} can't be written", "--model")
+        environment["XDG_CACHE_HOME"] = str(out)
+        copy.run(SCRIPT, env=environment).expect_one_line(3, f"neither {out} nor {out}/kohepuri/", "--model")
+        copy.run("--model", SCRIPT, env=environment).expect(0, REPLIES)
+        expect(copy.calls(), [])
 
 
 @case
@@ -306,7 +352,8 @@ def texts_are_read_again_only_where_a_file_looks_otherwise():
         await_that(lambda: copy.run(SCRIPT).status == 0 and (out / "sum").exists(), "the sum is kept once the files are some seconds old")
         look, total = (out / "sum").read_text(encoding="ascii").split()
         # Whatever sum is kept for this look is believed.
-        (out / f"unproved-{total}").rename(out / "unproved-0123456789abcdef")
+        built = next(out.glob(f"unproved-{total}-*"))
+        built.rename(out / built.name.replace(total, "0123456789abcdef"))
         (out / "sum").write_text(f"{look} 0123456789abcdef\n", encoding="ascii")
         copy.calls()
         expect((copy.run(SCRIPT).out, copy.tries()), (REPLIES, 0))

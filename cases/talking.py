@@ -32,9 +32,13 @@ def help_fits_a_screen_and_names_each_option():
     ran = Ran("--help")
     expect((ran.status, ran.err), (0, b""))
     lines = ran.out.decode().splitlines()
-    expect((len(lines) <= 26, max(map(len, lines)) <= 80), (True, True))
-    for it in "--proved --unproved --model --json --svg --html --time --numbers -q -v --path --commands --version 64 66".split():
+    expect((len(lines) <= 38, max(map(len, lines)) <= 80), (True, True))
+    from tool.arguments import parser
+
+    names = [name for option in parser()._actions for name in option.option_strings]
+    for it in (*names, "status: 0 ", "; 1 ", "; 2 ", "; 3 ", "; 4 ", "; 5 ", "; 64 ", "\n  66 ", "; 128+N "):
         expect_in(it, ran.out.decode())
+    expect(len(names) > 20, True)
 
 
 @case
@@ -92,17 +96,17 @@ def numbers_show_the_lines_at_fault_before_what_is_wrong():
     replies = b"ok n1\nerr faulty line\nskip\nerr faulty line\nerr line too long\nerr faulty line\nskip\n"
     notes = """\
 line 2: 
-line 2, column 1: the line is empty, and spells no command
+line 2, column 1: the line is empty (`--comments` ignores such lines)
 line 3: put p9 1
-line 3, skip: p9 was never given
+line 3, skip: p9 doesn't exist
 line 4: node 
-line 4, column 5: a space stands behind the last word
+line 4, column 5: a space after the last word
 line 5: xxxxxxxxxxxxxxxxxxxxxxxxxxxxxxxxxxxxxxxxxxxxxxxxxxxxxxxxxxxxxxxxxxxxxxxxxxxxxxxx ..
 line 5, column 1025: the line has 2000 bytes, and 1024 are the most
 line 6: \\x1b[2J
-line 6, column 1: "\\x1b[2J" is no command
+line 6, column 1: "\\x1b[2J" isn't a command
 line 7: release m1
-line 7, skip: m1 was never given
+line 7, skip: m1 doesn't exist
 """
     for words in (["--numbers"], ["--numbers", "--model"]):
         Ran(*words, given=given).expect(0, replies, notes.encode())
@@ -118,7 +122,7 @@ def quiet_says_nothing_of_lines():
 def numbers_keep_pace_with_a_long_script():
     given = b"node\n" * 100_000 + b"put p1 1\n"
     ran = Ran("--numbers", given=given)
-    notes = b"line 100001: put p1 1\nline 100001, skip: p1 was never given\n"
+    notes = b"line 100001: put p1 1\nline 100001, skip: p1 doesn't exist\n"
     expect((ran.status, ran.out.count(b"\n"), ran.err), (0, 100_001, notes))
 
 
@@ -128,7 +132,7 @@ def a_terminal_is_greeted_and_prompted():
     expect((status, out), (0, b"ok n1\nskip\n"))
     greeting, _, rest = screen.partition(b"\n")
     expect_in(b"Kohepuri 0.1.0", greeting)
-    expect(rest, b"iox> node\niox> put p1 1\nline 2, skip: p1 was never given\niox> \n")
+    expect(rest, b"iox> node\niox> put p1 1\nline 2, skip: p1 doesn't exist\niox> \n")
 
 
 @case_of_program
@@ -185,7 +189,7 @@ def a_random_script_gets_the_models_replies():
         Ran("-q", out.with_suffix(".iox")).expect(0, replies)
         # By the launcher in the middle, too, which pairs each line with its reply.
         ran = Ran(out.with_suffix(".iox"))
-        expect((ran.status, ran.out, ran.err.count(b"so one of the two is at fault")), (0, replies, 0))
+        expect((ran.status, ran.out, ran.err.count(b"so the program or the model is at fault")), (0, replies, 0))
 
 
 @case_of_program

@@ -554,7 +554,7 @@ class Machine:
 
     def get(self, letter, number):
         if not 1 <= number <= len(self.made[letter]):
-            raise Skip(f"{letter}{number} was never given")
+            raise Skip(f"{letter}{number} doesn't exist")
         if self.made[letter][number - 1] is None:
             raise Skip(f"{letter}{number} {self.ends[letter, number]}")
         return self.made[letter][number - 1]
@@ -604,7 +604,7 @@ class Machine:
         users += [("l", it, it.message.publisher.factory) for it in self.living("l")] + [("m", it, it.factory) for it in self.living("m")]
         keepers = [self.name_of(letter, it) for letter, it, user in users if user is factory]
         if keepers:
-            raise Refused("CloseError::StillInUse", f"f{number} is kept by {', '.join(keepers)}")
+            raise Refused("CloseError::StillInUse", f"f{number} is still used by {', '.join(keepers)}")
         self.spend("f", number, "was closed")
         life = factory.life
         if not [it for it in self.living("f") if it.life is life]:

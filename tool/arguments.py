@@ -1,15 +1,88 @@
-"""The launcher's arguments. Its help, its manual page and the completion of shells are made from them."""
+"""The launcher's arguments. Its help, its manual page and the completions of shells are made from them."""
+from __future__ import annotations
+
 import argparse
 
 from tool.progress import MISUSED, stop
 
 ABOUT = """\
-Serves FILE, or standard input where there is none or it is `-`, with a prompt
-on a terminal. One command a line, one reply a line."""
+Answers FILE, or standard input if FILE is missing or `-`: one command a line,
+one reply a line. It has a prompt on a terminal."""
 STATUSES = """\
 status: 0 end of the input; 1 read or write fault; 2 out of memory; 3 not built
-  or not proved; 64 wrong arguments; 66 FILE can't be read; 128+N signal N
+  or not proved; 4 --strict failed; 5 --expect or --against failed; 64 wrong
+  arguments; 128+N signal N;
+  66 FILE or REPLIES can't be read, OUT can't be written
 `./iox --commands` lists the commands; first script: ./iox examples/first.iox"""
+
+
+def version() -> str:
+    import shutil
+    import subprocess
+
+    from tool import VERSION
+
+    toolchain = "no Rattle toolchain: there is no rt on the path"
+    if shutil.which("rt"):
+        toolchain = subprocess.run(["rt", "version"], stdout=subprocess.PIPE, text=True).stdout.strip()
+    return f"Kohepuri {VERSION}\n{toolchain}"
+
+
+def commands() -> str:
+    from tool.grammar import help_on_all
+
+    return help_on_all()
+
+
+class Print(argparse.Action):
+    """Prints what a function returns, and ends."""
+
+    def __init__(self, option_strings, dest, const, help):
+        super().__init__(option_strings, dest, nargs=0, const=const, help=help)
+
+    def __call__(self, made, *_):
+        print(self.const())
+        made.exit()
+
+
+# The options in the order of the help: names, help, and how argparse reads them. Those of an inner list exclude each other.
+FLAG: dict = {"action": "store_true"}
+OUT: dict = {"metavar": "OUT", "nargs": "?", "const": ""}
+OPTIONS: list = [
+    [
+        (["--proved"], "use the proved program; prove it first if needed", FLAG),
+        (["--unproved"], "use the build without proofs, even beside a proved one", FLAG),
+        (["--model"], "use the Python model: no build, no toolchain", FLAG),
+    ],
+    [
+        (["--json"], "write a JSON object for each reply", {"action": "store_const", "const": "numbers"}),
+        (["--json=strings"], "the same, messages' numbers as strings", {"dest": "json", "action": "store_const", "const": "strings"}),
+    ],
+    (["--svg"], "draw the conversation (default OUT: FILE.svg)", OUT),
+    (["--html"], "write a page that plays it (default OUT: FILE.html)", OUT),
+    (["--force"], "replace an OUT that ./iox didn't write", FLAG),
+    (["--expect"], "compare the replies with the file REPLIES", {"metavar": "REPLIES"}),
+    (["--strict"], "fail if a reply is err or skip", FLAG),
+    (["--comments"], "skip blank lines and lines that begin with #", FLAG),
+    (["--listen"], "serve one hub to all who connect by TCP", {"metavar": "[HOST:]PORT"}),
+    (["--against"], "hold another program's replies against the model", {"metavar": "CMD"}),
+    (["--random"], "with --against: N random scripts, or N,PROFILE,SEED", {"metavar": "N"}),
+    (["--time"], "print the time taken at the end", FLAG),
+    (["--numbers"], "repeat each line that got err or skip", FLAG),
+    [
+        (["-q", "--quiet"], "no messages about lines on standard error", FLAG),
+        (["-v", "--verbose"], "also explain each err, and what to do", FLAG),
+    ],
+    (["--path"], "print the program's path; build it first if needed", FLAG),
+    (["--commands"], "list the commands of a script", {"action": Print, "const": commands}),
+    (["--version"], "print the versions of Kohepuri and the toolchain", {"action": Print, "const": version}),
+    (["-h", "--help"], "print this", {"action": "help"}),
+]
+# What an option can't be given with, beside those that argparse excludes.
+APART = {
+    "listen": ("file", "svg", "html", "expect", "strict", "time", "path"),
+    "path": ("svg", "html", "expect"),
+}
 
 
 class Parser(argparse.ArgumentParser):
@@ -17,7 +90,7 @@ class Parser(argparse.ArgumentParser):
         stop(MISUSED, f"{message}: see ./iox --help")
 
 
-def parser():
+def parser() -> Parser:
     made = Parser(
         prog="./iox",
         usage="./iox [OPTION ..] [FILE]",
@@ -25,26 +98,23 @@ def parser():
         epilog=STATUSES,
         add_help=False,
         allow_abbrev=False,
-        formatter_class=lambda prog: argparse.RawDescriptionHelpFormatter(prog, max_help_position=22, width=80),
+        formatter_class=lambda prog: argparse.RawDescriptionHelpFormatter(prog, max_help_position=24, width=80),
     )
-    add = made.add_argument
-    add("file", metavar="FILE", nargs="?", help=argparse.SUPPRESS)
-    who = made.add_mutually_exclusive_group()
-    who.add_argument("--proved", action="store_true", help="answer by the proved program, and prove it where it isn't yet")
-    who.add_argument("--unproved", action="store_true", help="answer by the build without proofs, even beside a proved one")
-    who.add_argument("--model", action="store_true", help="answer by the plain model in Python: at once, no toolchain")
-    add("--json", action="store_true", help="write a line of JSON for each reply")
-    add("--svg", metavar="OUT", help="draw the conversation as a picture into OUT")
-    add("--html", metavar="OUT", help="write a page into OUT that plays it step by step")
-    add("--against", metavar="CMD", help="hold the replies of another program against the model")
-    add("--random", metavar="N", help="with --against: N random scripts, or N,PROFILE,SEED")
-    add("--time", action="store_true", help="say at the end how long it took")
-    add("--numbers", action="store_true", help="show the line itself, too, behind err and skip")
-    how = made.add_mutually_exclusive_group()
-    how.add_argument("-q", "--quiet", action="store_true", help="say nothing about lines on standard error")
-    how.add_argument("-v", "--verbose", action="store_true", help="say of each err what it means and what to do, too")
-    add("--path", action="store_true", help="print where the program lies, built where it isn't yet")
-    add("--commands", action="store_true", help="list the commands of a script")
-    add("--version", action="store_true", help="print our version, and the toolchain's")
-    add("-h", "--help", action="store_true", help="print this")
+    made.add_argument("file", metavar="FILE", nargs="?", help=argparse.SUPPRESS)
+    for row in OPTIONS:
+        place = made.add_mutually_exclusive_group() if isinstance(row, list) else made
+        for names, meaning, how in row if isinstance(row, list) else [row]:
+            place.add_argument(*names, help=meaning, **how)
     return made
+
+
+def read_arguments() -> argparse.Namespace:
+    """Returns the options, with None for a FILE that is standard input."""
+    made = parser()
+    options = made.parse_args()
+    options.file = None if options.file == "-" else options.file
+    for name, others in APART.items():
+        found = [it for it in others if getattr(options, it) not in (None, False)]
+        if getattr(options, name) not in (None, False) and found:
+            made.error(f"--{name} can't be given with {'FILE' if found[0] == 'file' else f'--{found[0]}'}")
+    return options

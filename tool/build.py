@@ -1,4 +1,6 @@
-"""The proved program: proves and builds it where that wasn't done yet, and shows how far it is."""
+"""The proved program: proves and builds it if that wasn't done yet, and shows how far it is."""
+from __future__ import annotations
+
 import contextlib
 import fcntl
 import os
@@ -6,10 +8,11 @@ import re
 import shutil
 import subprocess
 import time
+from pathlib import Path
 
 from tool import TOP
 from tool.progress import NOT_BUILT, Progress, say, stop
-from tool.sources import OUT, Wanted, crates_of_program, sources
+from tool.sources import OUT, Wanted, can_make, crates_of_program, sources
 
 # How many lines of code, definitions and proofs the toolchain checks in a minute, as measured on four cores with other work.
 LINES_A_MINUTE = 1200
@@ -21,9 +24,15 @@ def need_toolchain():
     if not shutil.which("rt"):
         stop(
             NOT_BUILT,
-            "the program isn't built yet, and that needs the Rattle toolchain: there is no rt on the path"
-            " (`./iox --model FILE` answers without it, by the plain model)",
+            "the program isn't built from these sources yet, and that needs the Rattle toolchain: there is no rt on the path"
+            " (`./iox --model FILE` answers without it)",
         )
+
+
+def first_error(log: Path) -> str:
+    """The first error that a log of the toolchain has, or what it ends with."""
+    lines = [it.strip() for it in log.read_text(encoding="utf-8", errors="replace").splitlines() if it.strip()]
+    return next((it for it in lines if re.search(r"\berror\b", it)), lines[-1] if lines else "the log is empty")
 
 
 def run_rt(words, crate, log, tell=lambda line: None):
@@ -60,7 +69,7 @@ def forecast(wanted):
             old.append(crate)
     minutes = max(1, round(sum(count_lines(it) for crate in old for it in sources(crate)) / LINES_A_MINUTE))
     say(
-        f"proving and building the program: {len(old)} of {len(wanted.crates)} crates, some {minutes} min on four idle cores"
+        f"proving and building the program: {len(old)} of {len(wanted.crates)} crates, about {minutes} min on four idle cores"
         " (`./iox FILE` answers within two minutes, unproved)"
     )
 
@@ -104,7 +113,6 @@ def prove_in_turn(crates, first, progress, log):
 
 def build(wanted):
     """Proves the crates without their tests, and again only what changed, and builds the program into out/iox."""
-    need_toolchain()
     forecast(wanted)
     crates = wanted.crates
     below = {it: crates_of_program(wanted.libraries, it) for it in crates}
@@ -120,15 +128,16 @@ def build(wanted):
     finally:
         progress.end()
     if status:
-        stop(NOT_BUILT, f"{at} is not proved or not built: {OUT / 'build.log'} says why")
+        log = OUT / "build.log"
+        stop(NOT_BUILT, f"{at} is not proved or not built: {first_error(log)} ({log} has all of it)")
     say(f"proved and built in {round(time.monotonic() - started)} s")
 
 
-def put_in_place(built, program):
+def put_in_place(built: Path, program: Path):
     """Gives a built program its name at one stroke. A program that runs meanwhile stays as it is."""
     fresh = program.with_suffix(".new")
     shutil.copy2(built, fresh)
-    for old in OUT.glob(f"{program.name.partition('-')[0]}-*"):
+    for old in program.parent.glob(f"{program.name.partition('-')[0]}-*"):
         if old != fresh:
             old.unlink()
     fresh.rename(program)
@@ -139,17 +148,16 @@ def take_built(wanted):
     OUT.mkdir(exist_ok=True)
     with open(OUT / "lock", "w", encoding="utf-8") as lock:
         fcntl.flock(lock, fcntl.LOCK_EX)
-        if Wanted().proved != wanted.proved or not (OUT / "iox").exists():
+        if Wanted().total != wanted.total or not (OUT / "iox").exists():
             return False
         put_in_place(OUT / "iox", wanted.proved)
     return True
 
 
 @contextlib.contextmanager
-def alone(name, what):
+def alone(lock_file: Path, what: str):
     """Waits until no other launcher builds the same, and lets none begin."""
-    OUT.mkdir(exist_ok=True)
-    with open(OUT / name, "w", encoding="utf-8") as lock:
+    with open(lock_file, "w", encoding="utf-8") as lock:
         try:
             fcntl.flock(lock, fcntl.LOCK_EX | fcntl.LOCK_NB)
         except BlockingIOError:
@@ -158,14 +166,19 @@ def alone(name, what):
         yield
 
 
-def proved_program(wanted):
+def proved_program(wanted: Wanted) -> Path:
     """Returns the proved program of the wanted sources. Its name has their sum, so that no other is taken for it."""
+    if not wanted.proved.exists():
+        need_toolchain()
+        if not can_make(OUT):
+            why = "the toolchain proves only where it can write (`./iox FILE` answers unproved, `./iox --model FILE` without a build)"
+            stop(NOT_BUILT, f"{OUT} can't be written: {why}")
     while not wanted.proved.exists():
-        with alone("lock", "the program"):
+        with alone(OUT / "lock", "the program"):
             if not wanted.proved.exists():
                 build(wanted)
                 # An edit during the build may or may not be in what was built, so that is built again.
-                if Wanted().proved == wanted.proved:
+                if Wanted().total == wanted.total:
                     put_in_place(OUT / "iox", wanted.proved)
         wanted = Wanted()
     return wanted.proved

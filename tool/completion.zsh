@@ -2,21 +2,27 @@
 # Completion of ./iox in zsh, written by tool/manual.py: `source tool/completion.zsh`, behind `compinit`
 _iox() {
     _arguments \
-        '(--proved --unproved --model)'--proved'[answer by the proved program, and prove it where it isn'\''t yet]' \
-        '(--proved --unproved --model)'--unproved'[answer by the build without proofs, even beside a proved one]' \
-        '(--proved --unproved --model)'--model'[answer by the plain model in Python\: at once, no toolchain]' \
-        '(--json)'--json'[write a line of JSON for each reply]' \
-        '(--svg)'--svg'[draw the conversation as a picture into OUT]:OUT:_files' \
-        '(--html)'--html'[write a page into OUT that plays it step by step]:OUT:_files' \
-        '(--against)'--against'[hold the replies of another program against the model]:CMD:_files' \
+        '(--proved --unproved --model)'--proved'[use the proved program; prove it first if needed]' \
+        '(--proved --unproved --model)'--unproved'[use the build without proofs, even beside a proved one]' \
+        '(--proved --unproved --model)'--model'[use the Python model\: no build, no toolchain]' \
+        '(--json --json=strings)'--json'[write a JSON object for each reply]' \
+        '(--json --json=strings)'--json=strings'[the same, messages'\'' numbers as strings]' \
+        '(--svg)'--svg'[draw the conversation (default OUT\: FILE.svg)]:OUT:_files' \
+        '(--html)'--html'[write a page that plays it (default OUT\: FILE.html)]:OUT:_files' \
+        '(--force)'--force'[replace an OUT that ./iox didn'\''t write]' \
+        '(--expect)'--expect'[compare the replies with the file REPLIES]:REPLIES:_files' \
+        '(--strict)'--strict'[fail if a reply is err or skip]' \
+        '(--comments)'--comments'[skip blank lines and lines that begin with #]' \
+        '(--listen)'--listen'[serve one hub to all who connect by TCP]:[HOST:]PORT:_files' \
+        '(--against)'--against'[hold another program'\''s replies against the model]:CMD:_files' \
         '(--random)'--random'[with --against\: N random scripts, or N,PROFILE,SEED]:N:_files' \
-        '(--time)'--time'[say at the end how long it took]' \
-        '(--numbers)'--numbers'[show the line itself, too, behind err and skip]' \
-        '(-q --quiet -v --verbose)'{-q,--quiet}'[say nothing about lines on standard error]' \
-        '(-q --quiet -v --verbose)'{-v,--verbose}'[say of each err what it means and what to do, too]' \
-        '(--path)'--path'[print where the program lies, built where it isn'\''t yet]' \
+        '(--time)'--time'[print the time taken at the end]' \
+        '(--numbers)'--numbers'[repeat each line that got err or skip]' \
+        '(-q --quiet -v --verbose)'{-q,--quiet}'[no messages about lines on standard error]' \
+        '(-q --quiet -v --verbose)'{-v,--verbose}'[also explain each err, and what to do]' \
+        '(--path)'--path'[print the program'\''s path; build it first if needed]' \
         '(--commands)'--commands'[list the commands of a script]' \
-        '(--version)'--version'[print our version, and the toolchain'\''s]' \
+        '(--version)'--version'[print the versions of Kohepuri and the toolchain]' \
         '(-h --help)'{-h,--help}'[print this]' \
         '::FILE:_files -g "*.iox(-.)"'
 }

@@ -3,6 +3,7 @@ from __future__ import annotations
 
 import contextlib
 import os
+import subprocess
 import sys
 import time
 from collections import namedtuple
@@ -11,49 +12,63 @@ from pathlib import Path
 
 from script_model import LONGEST_LINE, Machine
 
-# A piece of input fits into a pipe that is empty but for a part of a line.
+# A piece of input fits into an empty pipe, with a line that began before it.
 PIECE = 16384
-
-
 # A line as it came: its number, its text up to one byte past the longest, and its whole size.
 Line = namedtuple("Line", "number text size")
 
 
 class Lines:
-    """Cuts pieces of input into lines, and keeps of a line that goes on no more than is looked at."""
+    """Cuts pieces of input into lines, and keeps no more of a line than is looked at."""
 
     def __init__(self):
         self.number, self.rest, self.size = 0, b"", 0
 
-    def next(self, text):
+    def next(self, text: bytes) -> Line:
         self.number += 1
         line = Line(self.number, (self.rest + text)[: LONGEST_LINE + 1], self.size + len(text))
         self.rest, self.size = b"", 0
         return line
 
-    def cut(self, piece):
+    def cut(self, piece: bytes) -> list[Line]:
         *whole, rest = piece.split(b"\n")
         lines = [self.next(it) for it in whole]
         self.rest, self.size = (self.rest + rest)[: LONGEST_LINE + 1], self.size + len(rest)
         return lines
 
-    def last(self):
+    def last(self) -> list[Line]:
         """The line that the end of the input ends, if it isn't empty."""
         return [self.next(b"")] if self.size else []
 
 
+def is_comment(line: Line) -> bool:
+    return line.text.strip()[:1] in (b"", b"#")
+
+
+def lines_of(pieces: Iterator[bytes], skips_comments: bool = False) -> Iterator[list[Line]]:
+    """Yields the lines that each piece of input ends, and at last the one that the end of the input ends."""
+    cut = Lines()
+    for piece in pieces:
+        yield [it for it in cut.cut(piece) if not (skips_comments and is_comment(it))]
+    yield [it for it in cut.last() if not (skips_comments and is_comment(it))]
+
+
+def whole(lines: list[Line]) -> bytes:
+    return b"".join(it.text + b"\n" for it in lines)
+
+
 class Model:
-    """The plain model as who answers."""
+    """The Python model as who answers."""
 
     def __init__(self):
         self.machine, self.status = Machine(), 0
 
-    def replies(self, _piece: bytes, lines: list[Line]) -> Iterator[bytes]:
+    def replies(self, lines: list[Line]) -> Iterator[bytes]:
         for it in lines:
             yield self.machine.answer(it.text).encode("latin-1") + b"\n"
 
-    def end(self, lines: list[Line]) -> Iterator[bytes]:
-        return self.replies(b"", lines)
+    def end(self):
+        pass
 
     def close(self):
         pass
@@ -62,42 +77,39 @@ class Model:
 class Program:
     """A built program as who answers.
 
-    It answers all whole lines that it was given before it reads again, so neither side waits for the other.
+    It answers all lines that it was given before it reads again, so neither side waits for the other.
     """
 
     def __init__(self, program: Path):
-        import subprocess
-
         # Control keys are the prompt's; the program sees the end of its input.
-        how = {"stdin": subprocess.PIPE, "stdout": subprocess.PIPE, "start_new_session": True}
-        self.child = subprocess.Popen([program], **how)
+        self.child = subprocess.Popen([program], stdin=subprocess.PIPE, stdout=subprocess.PIPE, start_new_session=True)
+        assert self.child.stdin and self.child.stdout
+        self.given, self.taken = self.child.stdin, self.child.stdout
 
-    def read(self, count: int) -> Iterator[bytes]:
-        for _ in range(count):
-            reply = self.child.stdout.readline()
+    def replies(self, lines: list[Line]) -> Iterator[bytes]:
+        with contextlib.suppress(BrokenPipeError):
+            self.given.write(whole(lines))
+            self.given.flush()
+        for _ in lines:
+            reply = self.taken.readline()
             if not reply:
                 return
             yield reply
 
-    def replies(self, piece: bytes, lines: list[Line]) -> Iterator[bytes]:
+    def end(self):
         with contextlib.suppress(BrokenPipeError):
-            self.child.stdin.write(piece)
-            self.child.stdin.flush()
-        return self.read(len(lines))
-
-    def end(self, lines: list[Line]) -> Iterator[bytes]:
-        with contextlib.suppress(BrokenPipeError):
-            self.child.stdin.close()
-        return self.read(len(lines))
+            self.given.close()
 
     def close(self):
-        with contextlib.suppress(BrokenPipeError):
-            self.child.stdin.close()
-        self.child.stdout.close()
+        """Ends the program, where it hasn't ended by itself, before it finds that nobody reads its replies."""
+        if self.child.poll() is None:
+            self.child.kill()
+        self.end()
+        self.taken.close()
         self.child.wait()
 
     @property
-    def status(self):
+    def status(self) -> int:
         code = self.child.wait()
         return code if code >= 0 else 128 - code
 
@@ -108,12 +120,12 @@ class Said:
     def __init__(self, status: int, replies: bytes):
         self.status, self.left = status, replies.splitlines(True)
 
-    def replies(self, _piece: bytes, lines: list[Line]) -> Iterator[bytes]:
+    def replies(self, lines: list[Line]) -> Iterator[bytes]:
         now, self.left = self.left[: len(lines)], self.left[len(lines) :]
         return iter(now)
 
-    def end(self, lines: list[Line]) -> Iterator[bytes]:
-        return self.replies(b"", lines)
+    def end(self):
+        pass
 
     def close(self):
         pass
@@ -122,9 +134,15 @@ class Said:
 class ReadFault(Exception):
     """Standard input can't be read."""
 
+    def __str__(self):
+        return "read fault"
+
 
 class WriteFault(Exception):
     """Standard output takes nothing more."""
+
+    def __str__(self):
+        return "write fault"
 
 
 def pieces_of_input() -> Iterator[bytes]:
@@ -143,6 +161,17 @@ def pieces_of(script: bytes) -> Iterator[bytes]:
     return (script[at : at + PIECE] for at in range(0, len(script), PIECE))
 
 
+def write_all(text: bytearray):
+    """Writes to standard output, and takes from the text what was written."""
+    while text:
+        try:
+            del text[: os.write(1, text)]
+        except BrokenPipeError:
+            raise
+        except OSError:
+            raise WriteFault from None
+
+
 class Output:
     """Standard output, to which what is held goes at once."""
 
@@ -153,13 +182,7 @@ class Output:
         self.held += text
 
     def flush(self):
-        while self.held:
-            try:
-                del self.held[: os.write(1, self.held)]
-            except BrokenPipeError:
-                raise
-            except OSError:
-                raise WriteFault from None
+        write_all(self.held)
 
 
 class Plain:
@@ -182,44 +205,36 @@ def tell(asked: list[Line], replies: Iterator[bytes], takers: list) -> bool:
     return count == len(asked)
 
 
-def converse(answers, pieces: Iterator[bytes], takers: list, out: Output) -> int:
-    """Hands pieces of input to who answers, and each line with its reply to who takes them. Returns the status."""
-    lines = Lines()
+def converse(answers, asked: Iterator[list[Line]], takers: list, out: Output) -> int:
+    """Hands lines to who answers, and each with its reply to who takes them. Returns the status."""
     try:
-        for piece in pieces:
-            asked = lines.cut(piece)
-            goes_on = tell(asked, answers.replies(piece, asked), takers)
+        for lines in asked:
+            goes_on = tell(lines, answers.replies(lines), takers)
             out.flush()
             if not goes_on:
                 return answers.status
-        last = lines.last()
-        tell(last, answers.end(last), takers)
-        out.flush()
-    except ReadFault:
-        print("read fault", file=sys.stderr)
-        return 1
-    except WriteFault:
-        print("write fault", file=sys.stderr)
+        answers.end()
+        return answers.status
+    except (ReadFault, WriteFault) as fault:
+        print(fault, file=sys.stderr)
         return 1
     finally:
         answers.close()
-    return answers.status
 
 
 class Clock:
     """Says at the end how long it took."""
 
     def __init__(self, begun: float):
-        self.begun, self.first, self.count = begun, None, 0
+        self.begun, self.first, self.count = begun, 0.0, 0
 
     def take(self, _line: Line, _reply: bytes):
         self.count += 1
-        if self.first is None:
-            self.first = time.monotonic()
+        self.first = self.first or time.monotonic()
 
     def tell(self):
         now = time.monotonic()
         first = f", the first reply after {self.first - self.begun:.3f} s" if self.first else ""
-        each = f", {(now - self.first) / self.count * 1e6:.0f} µs a line behind that" if self.count > 1 else ""
+        each = f", {(now - self.first) / self.count * 1e6:.0f} µs a line after that" if self.count > 1 else ""
         lines = f"{self.count} line{'s' * (self.count != 1)}"
         print(f"iox: {lines} in {now - self.begun:.3f} s{first}{each}", file=sys.stderr)

@@ -3,6 +3,7 @@ from __future__ import annotations
 
 from xml.sax.saxutils import escape
 
+from tool import outputs
 from tool.state import KINDS, message_shown
 from tool.trace import Conversation, Delivery
 
@@ -197,5 +198,6 @@ def svg(told: Conversation, title: str) -> str:
         draw(sheet)
     height = sheet.bottom + 52
     size = f'width="{sheet.width}" height="{height}" viewBox="0 0 {sheet.width} {height}"'
-    head = [f'<svg xmlns="http://www.w3.org/2000/svg" {size} role="img">', f"<title>{escape(title)}</title>", f"<style>{STYLE}</style>"]
+    head = [f'<svg xmlns="http://www.w3.org/2000/svg" {size} role="img">', outputs.KINDS["svg"][1], f"<title>{escape(title)}</title>"]
+    head += [f"<style>{STYLE}</style>"]
     return "\n".join([*head, MARKERS, '<rect width="100%" height="100%" fill="#fff"/>', *sheet.parts, "</svg>"]) + "\n"

@@ -77,13 +77,13 @@ def check_number(word: Word):
     if not word.text:
         raise Fault(word.column, "a number is missing")
     why = ": numbers are decimal, with no sign and no point" if re.match(rb"[-+.0-9]", word.text) else ""
-    raise Fault(word.column, f'"{word.shown}" is no number{why}')
+    raise Fault(word.column, f'"{word.shown}" isn\'t a number{why}')
 
 
 def check_made(kind: Kind, word: Word):
     letter = word.text[:1].decode("latin-1")
     if not letter or letter not in LETTERS[kind] or not word.text[1:2].isdigit():
-        raise Fault(word.column, f'"{word.shown}" stands where {kind.words} is wanted, as {kind.example}')
+        raise Fault(word.column, f'expected {kind.words} such as {kind.example}, not "{word.shown}"')
     check_number(word.after(1))
 
 
@@ -108,24 +108,24 @@ def check_name(word: Word):
 
 def check_pattern(word: Word):
     if word.text.decode("latin-1") not in PATTERNS:
-        raise Fault(word.column, f'"{word.shown}" is no pattern: ps, ev or rr{meant(word.text, PATTERNS)}')
+        raise Fault(word.column, f'"{word.shown}" isn\'t a pattern: ps, ev or rr{meant(word.text, PATTERNS)}')
 
 
 def check_value(key: str, kind, word: Word):
     value = word.text.decode("latin-1")
     if not value:
-        raise Fault(word.column, f"{key}= wants {kind_in_words(kind)}")
+        raise Fault(word.column, f"{key}= needs {kind_in_words(kind)}")
     if kind == SWITCH and value not in ("0", "1"):
         raise Fault(word.column, f'{key} is 0 or 1, and "{word.shown}" is neither')
     if isinstance(kind, tuple) and value not in kind:
-        raise Fault(word.column, f'{key} is {kind_in_words(kind)}, and not "{word.shown}"{meant(word.text, kind)}')
+        raise Fault(word.column, f'{key} is {kind_in_words(kind)}, not "{word.shown}"{meant(word.text, kind)}')
     if kind == SWITCH or isinstance(kind, tuple) or (kind == PERHAPS and value == "off"):
         return
     check_number(word)
 
 
 def elsewhere(key: str) -> str:
-    """Where an option of this key may stand, if it may."""
+    """Which services or ports have an option of this key, if any."""
     places = [f"{it} services" for it in PATTERNS if key in settings_of(it)]
     places += [f"a {verb}" for verb, options in PORT_OPTIONS.items() if key in options]
     return f": it is one of {' and of '.join(places)}" if places else ""
@@ -138,12 +138,12 @@ def check_options(words: list[Word], kinds: dict, of: str):
         name = key.decode("latin-1")
         if not equals:
             hint = f"; did you mean {name}=..?" if name in kinds else meant(key, kinds)
-            raise Fault(word.column, f'"{word.shown}" stands where an option KEY=VALUE of {of} may stand{hint}')
+            raise Fault(word.column, f'expected an option KEY=VALUE of {of}, not "{word.shown}"{hint}')
         if name not in kinds:
-            raise Fault(word.column, f'"{Word(key, 0).shown}" is no option of {of}{elsewhere(name) or meant(key, kinds)}')
+            raise Fault(word.column, f'"{Word(key, 0).shown}" isn\'t an option of {of}{elsewhere(name) or meant(key, kinds)}')
         if name in seen:
             is_same = sum(it.text == word.text for it in words) > 1
-            raise Fault(word.column, f"{word.shown if is_same else f'{name}='} stands twice")
+            raise Fault(word.column, f"{word.shown if is_same else f'{name}='} is given twice")
         seen.add(name)
         check_value(name, kinds[name], word.after(len(key) + 1))
 
@@ -159,7 +159,7 @@ def check_attribute(verb: str, word: Word):
         raise Fault(at, f"the value of an attribute has {len(value)} bytes, and {LONGEST_VALUE} are the most")
     check_visible(word, "an attribute")
     if not equals and verb == "create":
-        raise Fault(word.column, f"{word.shown} requires a key, and create only defines: write {word.shown}=VALUE")
+        raise Fault(word.column, f"{word.shown} requires a key, and create defines attributes: write {word.shown}=VALUE")
 
 
 def check_attributes(verb: str, words: list[Word]):
@@ -167,7 +167,7 @@ def check_attributes(verb: str, words: list[Word]):
     for word in words:
         if word.text[:1] != b"@":
             what = "an option" if b"=" in word.text else f'"{word.shown}"'
-            raise Fault(word.column, f"{what} stands behind an attribute: options come first, then attributes, then lists of steps")
+            raise Fault(word.column, f"{what} after an attribute: options come first, then attributes, then lists of steps")
         check_attribute(verb, word)
         is_pair = b"=" in word.text
         counts[is_pair] += 1
@@ -179,15 +179,15 @@ def check_step(pattern: str, word: Word):
     what, *parts = word.parts(b":")
     if what.text.decode("latin-1") not in STEP_VERBS:
         known = f"{', '.join(STEP_VERBS[:-1])} or {STEP_VERBS[-1]}"
-        raise Fault(word.column, f'"{what.shown}" is no step: {known}{meant(what.text, STEP_VERBS)}')
+        raise Fault(word.column, f'"{what.shown}" isn\'t a step: {known}{meant(what.text, STEP_VERBS)}')
     verb = what.text.decode()
     if not parts:
-        raise Fault(word.column + len(word.text), f"the step wants a foreign node, as {verb}:x1")
+        raise Fault(word.column + len(word.text), f"the step needs a foreign node: {verb}:x1")
     if len(parts) > (2 if verb in PUBLISHING else 1):
-        raise Fault(parts[-1].column, f"a colon too many in a step of {verb}")
+        raise Fault(parts[-1].column, f"one colon too many in the step {verb}")
     node = parts[0]
     if node.text[:1] != b"x" or not node.text[1:2].isdigit():
-        raise Fault(node.column, f'"{node.shown}" stands where a foreign node is wanted, as x1')
+        raise Fault(node.column, f'expected a foreign node such as x1, not "{node.shown}"')
     check_number(node.after(1))
     if len(parts) == 2:
         options = parts[1].parts(b",")
@@ -198,23 +198,23 @@ def check_step(pattern: str, word: Word):
 
 
 def check_lists(pattern: str, words: list[Word]):
-    last, bar, is_empty = 0, None, False
+    last, empty = 0, None
     for word in words:
         if word.text[:1] != b"|":
             check_step(pattern, word)
-            is_empty = False
+            empty = None
             continue
-        if is_empty:
-            raise Fault(bar.column, f"the list {bar.shown} has no step")
+        if empty:
+            raise Fault(empty.column, f"the list {empty.shown} has no step")
         check_number(word.after(1))
         at = int(word.text[1:])
         if at == 0:
-            raise Fault(word.column, "accesses are counted from 1, and not from 0")
+            raise Fault(word.column, "accesses are counted from 1, not from 0")
         if at <= last:
-            raise Fault(word.column, f"the list |{at} stands behind |{last}: each is of a later access")
-        last, bar, is_empty = at, word, True
-    if is_empty:
-        raise Fault(bar.column, f"the list {bar.shown} has no step")
+            raise Fault(word.column, f"the list |{at} comes after |{last}: lists are in rising order")
+        last, empty = at, word
+    if empty:
+        raise Fault(empty.column, f"the list {empty.shown} has no step")
 
 
 def check_service(verb: str, pattern: str, words: list[Word]):
@@ -232,7 +232,7 @@ def check_repeated(verb: Verb, kind: Kind, pattern: str, words: list[Word], end:
             check_number(it)
     elif kind is Kind.STEPS:
         if not words:
-            raise Fault(end, f"{kind.words} is missing, as {kind.example}: {verb.form}")
+            raise Fault(end, f"{kind.words} such as {kind.example} is missing: {verb.form}")
         for it in words:
             check_step(pattern, it)
     elif kind is Kind.SETTINGS:
@@ -251,7 +251,7 @@ def check_operands(verb: Verb, words: list[Word], end: int):
             check_repeated(verb, kind, pattern, words[at:], end)
             return
         if at == len(words):
-            raise Fault(end, f"{kind.words} is missing, as {kind.example}: {verb.form}")
+            raise Fault(end, f"{kind.words} such as {kind.example} is missing: {verb.form}")
         if kind in LETTERS:
             check_made(kind, words[at])
         elif kind in NUMBERS:
@@ -262,8 +262,8 @@ def check_operands(verb: Verb, words: list[Word], end: int):
             pattern = words[at].text.decode()
     if len(words) > len(verb.operands):
         extra = words[len(verb.operands)]
-        hint = ": scripts have no comments" if extra.text[:1] in (b"#", b"/") else f": {verb.form}"
-        raise Fault(extra.column, f'"{extra.shown}" is a word too many{hint}')
+        hint = ": a comment has a line of its own" if extra.text[:1] in (b"#", b"/") else f": {verb.form}"
+        raise Fault(extra.column, f'"{extra.shown}" is one word too many{hint}')
 
 
 def check_spaces(line: bytes, number: int):
@@ -275,17 +275,17 @@ def check_spaces(line: bytes, number: int):
         hint = "the file has Windows line ends (CRLF); `sed 's/\\r$//' FILE` makes them plain"
         raise Fault(len(line), f"a carriage return ends the line: {hint}")
     if not line:
-        raise Fault(1, "the line is empty, and spells no command")
+        raise Fault(1, "the line is empty (`--comments` ignores such lines)")
     if b"\t" in line:
         raise Fault(line.index(b"\t") + 1, "a tab: words are separated by one space")
     if line.startswith((b"#", b"//")):
-        raise Fault(1, "scripts have no comments")
+        raise Fault(1, "scripts have no comments (`--comments` ignores lines that begin with #)")
     if line.startswith(b" "):
-        raise Fault(1, "a space stands before the first word")
+        raise Fault(1, "a space before the first word")
     if b"  " in line:
         raise Fault(line.index(b"  ") + 2, "two spaces: words are separated by one")
     if line.endswith(b" "):
-        raise Fault(len(line), "a space stands behind the last word")
+        raise Fault(len(line), "a space after the last word")
 
 
 def check_line(line: bytes, size: int, number: int):
@@ -295,7 +295,7 @@ def check_line(line: bytes, size: int, number: int):
     verb, *words = Word(line, 1).parts(b" ")
     name = verb.text.decode("latin-1")
     if name not in VERBS:
-        raise Fault(1, f'"{verb.shown}" is no command{meant(verb.text, VERBS)}')
+        raise Fault(1, f'"{verb.shown}" isn\'t a command{meant(verb.text, VERBS)}')
     check_operands(VERBS[name], words, len(line) + 1)
 
 

@@ -175,7 +175,7 @@ def options_of(verb: str, pattern: str | None) -> dict:
     """The options that may stand in a line of this verb and pattern, each with its kind."""
     if verb in PORT_OPTIONS:
         return PORT_OPTIONS[verb]
-    return settings_of(pattern) if VERBS[verb].operands == SERVICE and pattern in PATTERNS else {}
+    return settings_of(pattern) if VERBS[verb].operands == SERVICE and pattern and pattern in PATTERNS else {}
 
 
 def values_of(kind) -> list[str]:

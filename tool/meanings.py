@@ -3,17 +3,17 @@ from __future__ import annotations
 
 import re
 from collections import namedtuple
+from functools import cache
 
 from tool import TOP
 
 PAGE = TOP / "docs" / "ERRORS.md"
-
-
-# Under which headings the errors of builders are, by how the name of their type ends; the longest first.
+# The headings under which the errors of builders are, by how the name of their type ends; the longest first.
 HEADINGS = (("OpenOrCreateError", "Opening or creating"), ("CreateError", "Creating"), ("OpenError", "Opening:"))
 Meaning = namedtuple("Meaning", "heading errors when what_to_do")
 
 
+@cache
 def meanings() -> list[Meaning]:
     """The rows of the page. Where a table has a column for the pattern, it says what the service has in the place of when."""
     heading, found = "", []
@@ -39,10 +39,15 @@ def fits(it: Meaning, error: str) -> list[bool]:
     return [f"`err {error}`" in it.errors, f"{kind}::{word}`" in it.errors, has_word and is_below, has_word]
 
 
-def meaning_of(reply: str) -> list[str]:
+def plain(text: str) -> str:
+    """The text without marks of code and links."""
+    return re.sub(r"\[([^]]*)\]\([^)]*\)", r"\1", text).replace("`", "")
+
+
+def meaning_of(reply: str) -> Meaning | None:
     """When the error of a reply comes and what to do, by the row that fits it best."""
-    best = max(meanings(), key=lambda it: fits(it, reply.partition(" ")[2]))
-    if not any(fits(best, reply.partition(" ")[2])):
-        return []
-    told = f"{best.when}: {best.what_to_do}" if best.what_to_do else best.when
-    return [told.replace("`", "")]
+    error = reply.partition(" ")[2]
+    best = max(meanings(), key=lambda it: fits(it, error))
+    if not any(fits(best, error)):
+        return None
+    return best._replace(when=plain(best.when), what_to_do=plain(best.what_to_do))

@@ -1,18 +1,21 @@
 """What the launcher says on standard error, beside replies: its own lines, and how far a build is."""
+from __future__ import annotations
+
 import sys
 import time
+from typing import NoReturn
 
 # The statuses of the launcher; those of the program are 0, 1 and 2.
-NOT_BUILT, MISUSED, NO_INPUT = 3, 64, 66
-# What is said where the program was built without its proofs.
-UNPROVED = "unproved: what answers was built without its proofs (`./iox --proved` makes them first)"
+NOT_BUILT, NOT_STRICT, DIFFERS, MISUSED, NO_INPUT = 3, 4, 5, 64, 66
+# What is said if the program was built without its proofs.
+UNPROVED = "unproved: the program that answers was built without its proofs (`./iox --proved` proves it first)"
 
 
-def say(text):
+def say(text: str):
     print(f"iox: {text}", file=sys.stderr, flush=True)
 
 
-def stop(status, why):
+def stop(status: int, why: str) -> NoReturn:
     say(why)
     sys.exit(status)
 
@@ -23,7 +26,7 @@ class Progress:
     def __init__(self):
         self.is_terminal, self.said = sys.stderr.isatty(), 0.0
 
-    def tell(self, text, is_new=False):
+    def tell(self, text: str, is_new: bool = False):
         if self.is_terminal:
             print(f"\r\033[Kiox: {text}", end="", file=sys.stderr, flush=True)
         elif is_new or time.monotonic() - self.said > 30:

@@ -1,4 +1,6 @@
-"""What the program is made of, and where a program that was built of it lies."""
+"""What the program is made of, and where a program that was built of it is."""
+from __future__ import annotations
+
 import contextlib
 import hashlib
 import os
@@ -10,16 +12,32 @@ from pathlib import Path
 from tool import TOP
 
 OUT = TOP / "crates" / "iox" / "out"
-# The sum of all sources, beside how the files looked when it was taken.
-KEPT_SUM = OUT / "sum"
 # A file that changed so shortly before may change again and look the same, in nanoseconds.
 TOO_FRESH = 2_000_000_000
 
 
-def libraries_of_crates():
+def cache() -> Path:
+    """The folder of the user's for what is built if the repository can't be written."""
+    home = os.environ.get("XDG_CACHE_HOME") or Path.home() / ".cache"
+    return Path(home) / "kohepuri" / hashlib.sha256(os.fsencode(TOP)).hexdigest()[:16]
+
+
+def can_make(folder: Path) -> bool:
+    """Makes a folder if it isn't there, and returns whether files can be written in it."""
+    with contextlib.suppress(OSError):
+        folder.mkdir(parents=True, exist_ok=True)
+        return os.access(folder, os.W_OK)
+    return False
+
+
+def place() -> Path | None:
+    """The folder for what is built without proofs; None if neither can be written."""
+    return next((it for it in (OUT, cache()) if can_make(it)), None)
+
+
+def libraries_of_crates() -> tuple[dict, dict]:
     """Returns what crates.txt says: the line of each crate, and the crates of the repository that it names."""
-    rows = (TOP / "crates.txt").read_text(encoding="utf-8").splitlines()
-    rows = [re.findall(r"[^\s,:]+", row.partition("#")[0]) for row in rows]
+    rows = [re.findall(r"[^\s,:]+", row.partition("#")[0]) for row in (TOP / "crates.txt").read_text(encoding="utf-8").splitlines()]
     lines = {row[0]: row for row in rows if row}
     return lines, {name: [it for it in row[1:] if it in lines] for name, row in lines.items()}
 
@@ -55,59 +73,74 @@ def sources(crate):
     return sorted(found, key=lambda it: it.path)
 
 
-def toolchain():
-    """Returns the file that says which toolchain is on the path. Where there is none, no such file exists."""
-    return Path(shutil.which("rt") or "").resolve().parent.parent / "WHAT"
+def toolchain() -> str | None:
+    """Returns a sum of the file that says which toolchain is on the path, or None if there is none."""
+    rt = shutil.which("rt")
+    if rt is None:
+        return None
+    made_of = hashlib.sha256()
+    with contextlib.suppress(OSError):
+        made_of.update((Path(rt).resolve().parent.parent / "WHAT").read_bytes())
+    return made_of.hexdigest()[:8]
 
 
-def look_of(path, it):
+def look_of(path: str, it: os.stat_result) -> str:
     return f"{path} {it.st_size} {it.st_mtime_ns} {it.st_ctime_ns} {it.st_ino}"
 
 
-def looks(crates, found):
+def looks(crates, found) -> tuple[str, int]:
     """Returns how all files look from outside, in one sum, and when the last of them changed."""
     files = [(it.path, it.stat()) for crate in crates for it in found[crate]]
-    for it in (TOP / "crates.txt", toolchain()):
-        with contextlib.suppress(OSError):
-            files.append((str(it), it.stat()))
+    with contextlib.suppress(OSError):
+        files.append((str(TOP / "crates.txt"), (TOP / "crates.txt").stat()))
     seen = "\n".join(look_of(*it) for it in files)
     return hashlib.sha256(seen.encode(errors="surrogateescape")).hexdigest(), max(max(it.st_mtime_ns, it.st_ctime_ns) for _, it in files)
 
 
-def sum_of_texts(crates, found, lines):
-    """Returns a sum of all that the program is made of: its crates, their lines of crates.txt, and the toolchain."""
+def sum_of_texts(crates, found, lines) -> str:
+    """Returns a sum of all sources: those of the program's crates, and their lines of crates.txt."""
     made_of = hashlib.sha256()
-    for file in [toolchain(), *(Path(it.path) for crate in crates for it in found[crate])]:
+    for file in [Path(it.path) for crate in crates for it in found[crate]]:
         with contextlib.suppress(FileNotFoundError):
             made_of.update(f"{file.name} {hashlib.sha256(file.read_bytes()).hexdigest()}\n".encode())
     made_of.update(repr([lines[it] for it in crates]).encode())
     return made_of.hexdigest()[:16]
 
 
-def fingerprint(crates, lines):
-    """Returns that sum. The texts are read only where a file looks otherwise than when the sum was taken: by size, times and number."""
+def fingerprint(crates, lines) -> str:
+    """Returns that sum. The texts are read only if a file's size, times or inode differ from when the sum was taken."""
     found = {it: sources(it) for it in crates}
-    now = time.time_ns()
+    now, kept = time.time_ns(), place()
     look, changed = looks(crates, found)
+    if kept is None:
+        return sum_of_texts(crates, found, lines)
     with contextlib.suppress(OSError, ValueError):
-        old, total = KEPT_SUM.read_text(encoding="ascii").split()
+        old, total = (kept / "sum").read_text(encoding="ascii").split()
         if old == look:
             return total
     total = sum_of_texts(crates, found, lines)
     if changed < now - TOO_FRESH:
         with contextlib.suppress(OSError):
-            OUT.mkdir(exist_ok=True)
-            fresh = OUT / f"sum-{os.getpid()}"
+            fresh = kept / f"sum-{os.getpid()}"
             fresh.write_text(f"{look} {total}\n", encoding="ascii")
-            fresh.replace(KEPT_SUM)
+            fresh.replace(kept / "sum")
     return total
 
 
 class Wanted:
-    """The program that the present sources make: its crates, what each depends on, and where it lies once it is built."""
+    """The program that the present sources make: its crates, what each depends on, and its files, which exist once they are built."""
 
     def __init__(self):
         lines, self.libraries = libraries_of_crates()
         self.crates = crates_of_program(self.libraries)
-        total = fingerprint(self.crates, lines)
-        self.proved, self.unproved = OUT / f"served-{total}", OUT / f"unproved-{total}"
+        self.total, self.toolchain = fingerprint(self.crates, lines), toolchain()
+        self.proved, self.unproved = self.file("served", OUT), self.file("unproved", place() or OUT)
+
+    def file(self, kind: str, to: Path) -> Path:
+        """The newest build of this kind, or the file that will be it. No other sources or toolchain make a program of its name.
+
+        Without a toolchain on the path any build of these sources is as good.
+        """
+        name = f"{kind}-{self.total}-{self.toolchain}"
+        found = [it for folder in (OUT, cache()) for it in folder.glob(name if self.toolchain else f"{kind}-{self.total}-*")]
+        return max((it for it in found if not it.suffix), key=lambda it: it.stat().st_mtime, default=to / name)

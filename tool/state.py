@@ -1,6 +1,8 @@
 """What lives on a hub, as the plain model has it: for `:state`, for the page and for the picture."""
 from __future__ import annotations
 
+from typing import Any
+
 from script_lines import SETTINGS
 from script_model import Life, Machine
 
@@ -27,7 +29,7 @@ class Watched:
         """What something goes by, and whether it has ended."""
         return self.names.get(id(value), "?")
 
-    def living(self, letter: str) -> list[tuple[str, object]]:
+    def living(self, letter: str) -> list[tuple[str, Any]]:
         return [(f"{letter}{at}", it) for at, it in enumerate(self.machine.made[letter], 1) if it is not None]
 
 

@@ -1,13 +1,14 @@
-"""What became of each message of a conversation, as the plain model has it: who sent it, who received it, where it was lost."""
+"""What became of each message of a conversation, by the Python model: who sent it, who received it, where it was lost."""
 from __future__ import annotations
 
+from argparse import Namespace
 from dataclasses import dataclass, field
 from pathlib import Path
 
 from script_model import Life
 
 from tool.converse import Line
-from tool.progress import NO_INPUT, say, stop
+from tool.progress import say
 from tool.state import Watched, snapshot
 
 # A picture of more lines is no picture any more.
@@ -19,7 +20,9 @@ class Row:
     number: int
     line: str
     reply: str
+    # Why it was refused or skipped, and which messages are missing before the one that it received.
     note: str = ""
+    missed: str = ""
 
 
 @dataclass
@@ -69,11 +72,18 @@ class Conversation:
     is_cut: bool = False
 
 
+def missed(it: Delivery) -> str:
+    """Which messages are missing before one that was received, in words."""
+    if not it.missing:
+        return ""
+    return f"{it.missing} {'message' if it.missing == 1 else 'messages'} of {it.publisher} {'is' if it.missing == 1 else 'are'} missing before this one"
+
+
 class Trace:
     """Follows a conversation line by line: the replies are those that came, what became of messages is the model's."""
 
     def __init__(self):
-        self.watched, self.told = Watched(), Conversation()
+        self.watched, self.told, self.lines = Watched(), Conversation(), []
         # By the number of the object: each message that was sent with its row, each connection with what waits or is held there.
         self.sent, self.links = {}, {}
         # By the connection: the number of the message that was received there last.
@@ -81,23 +91,28 @@ class Trace:
         self.living, self.under_way = {}, {}
 
     def take(self, line: Line, reply: bytes):
-        from tool.notes import about, readable
+        from tool.notes import readable
 
         if len(self.told.rows) == MOST_ROWS:
             self.told.is_cut = True
             return
         row = len(self.told.rows)
         answer = reply.decode("latin-1").rstrip("\n")
-        model = self.watched.answer(line.text)
-        note = self.watched.machine.reason or ""
-        if answer.startswith(("err faulty", "err line")):
-            note = "; ".join(it.text for it in about(line, reply, None))
-        if model != answer:
-            note = f"the plain model answers {model!r}"
-        self.told.rows.append(Row(line.number, readable(line.text), answer, note))
+        self.lines.append(line.text.decode("latin-1"))
+        self.told.rows.append(Row(line.number, readable(line.text), answer, self.note(line, reply)))
         self.follow_lives(row)
         self.follow_messages(row, answer)
         self.told.states.append(snapshot(self.watched))
+
+    def note(self, line: Line, reply: bytes) -> str:
+        """Has the model answer the line, and returns what is said of it."""
+        from tool.notes import about, meaning_behind, reasons
+
+        model = self.watched.answer(line.text)
+        if model.encode("latin-1") != reply.rstrip(b"\n"):
+            return f"the Python model answers {model!r}"
+        told, reason = about(line, reply, None), self.watched.machine.reason
+        return "; ".join([reason] if reason else reasons(told, meaning_behind(reply, told)))
 
     def follow_lives(self, row: int):
         for letter in "nfpsl":
@@ -121,7 +136,7 @@ class Trace:
         return {id(it): it for it in found}
 
     def follow_messages(self, row: int, reply: str):
-        line = self.told.rows[row].line
+        line = self.lines[row]
         is_sent = reply.startswith(("ok", "blocked", "err SendError::UnableToDeliver"))
         if line.startswith(("put ", "send ")) and is_sent:
             self.note_origin(row, line)
@@ -140,6 +155,7 @@ class Trace:
                 if is_new and it.sequence is not None:
                     it.missing = it.sequence - self.last_received.get(key, it.sequence - 1) - 1
                     self.last_received[key] = it.sequence
+                    self.told.rows[row].missed = missed(it)
                 if it.released is not None or it.lost is not None:
                     del there[each]
         if line.startswith(("put ", "send ", "retry ", "giveup ")) and is_sent and reply != "blocked":
@@ -181,28 +197,22 @@ class Trace:
         origin = self.under_way.get(id(publisher), row)
         if any(it.sent == origin for it in self.told.deliveries):
             return
-        words = self.told.rows[origin].line.split(" ")
+        words = self.lines[origin].split(" ")
         values = [int(it) for it in words[2:]] if words[0] == "put" else list(self.watched.all["l"][int(words[1][1:]) - 1].message.values)
         self.told.untaken.append(Untaken(values, origin, self.watched.name(publisher), publisher.last_sequence))
 
+    def write(self, options: Namespace):
+        """Writes the picture and the page that are asked for, and says if the conversation was too long for all of it."""
+        from tool.outputs import write_output
 
-def write_picture(file: str, text: str):
-    try:
-        Path(file).write_text(text, encoding="utf-8")
-    except OSError as error:
-        stop(NO_INPUT, f"{file}: {error.strerror}")
+        title = Path(options.file).name if options.file else "standard input"
+        if self.told.is_cut:
+            say(f"the picture has the first {MOST_ROWS} lines")
+        if options.svg:
+            from tool.draw import svg
 
+            write_output("svg", svg(self.told, title), options)
+        if options.html:
+            from tool.page import html
 
-def write_pictures(trace: Trace, options):
-    """Writes the pictures that are asked for, and says where the conversation was too long for all of it."""
-    title = Path(options.file).name if options.file else "standard input"
-    if trace.told.is_cut:
-        say(f"the picture has the first {MOST_ROWS} lines")
-    if options.svg:
-        from tool.draw import svg
-
-        write_picture(options.svg, svg(trace.told, title))
-    if options.html:
-        from tool.page import html
-
-        write_picture(options.html, html(trace.told, title))
+            write_output("html", html(self.told, title), options)

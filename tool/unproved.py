@@ -1,8 +1,10 @@
-"""The unproved program: one build of the same sources, which the toolchain makes in about a minute and throws away, and which is kept here.
+"""The unproved program: one build of the same sources, which the toolchain makes in about a minute and deletes, and which is kept here.
 
-`rt try` runs what it built below its TMPDIR. While it runs there on a script of our own, that file gets a second name. Where the toolchain
-lays its files otherwise, each script is answered by a run of `rt try` itself.
+`rt try` runs what it built below its TMPDIR. While the program runs there on a script of ours, its file gets a second name. If the toolchain
+has its files elsewhere, each script is answered by a run of `rt try` itself.
 """
+from __future__ import annotations
+
 import contextlib
 import os
 import re
@@ -11,26 +13,27 @@ import subprocess
 import sys
 import tempfile
 import time
+from itertools import zip_longest
 from pathlib import Path
 
 from tool import TOP
-from tool.build import alone, need_toolchain, put_in_place
+from tool.build import alone, first_error, need_toolchain, put_in_place
 from tool.progress import NOT_BUILT, Progress, say, stop
-from tool.sources import OUT, Wanted
+from tool.sources import OUT, Wanted, cache, place
 
 FIRST = TOP / "examples" / "first.iox"
-# So many lines behind the first ones keep the program at work for a second.
+# So many lines after the first ones keep the program at work for a second.
 KEPT_AT_WORK = 20_000
 A_LOOK = 0.02
-# The status of `rt try` where the toolchain refuses a crate.
+# The status of `rt try` if the toolchain refuses a crate.
 REFUSED = 1
-LOG = OUT / "unproved.log"
+LOG = "unproved.log"
 # What `rt try` does, in this order.
 STAGES = ("reading its crates", "compiling", "linking")
 READING, COMPILING, LINKING = range(3)
 
 
-def case_to_try(folder):
+def case_to_try(folder: str) -> Path:
     """Writes a script that keeps the program at work for a second, and the replies that it has to give."""
     cases = Path(folder) / "cases"
     cases.mkdir()
@@ -39,28 +42,36 @@ def case_to_try(folder):
     return cases
 
 
-def programs_at_work(folder):
+def programs_at_work(folder: str) -> list[Path]:
     """Returns the programs that `rt try` runs at the moment: it writes their output beside them."""
     return [it for it in Path(folder).glob("*/*/program") if (it.parent / "stdout").exists() and os.access(it, os.X_OK)]
 
 
-def stage(folder):
-    """Returns how far `rt try` is, told by the files that it has at the moment."""
+def stage(folder: str) -> int:
+    """Returns how far `rt try` is, by the files that it has at the moment."""
     with contextlib.suppress(OSError):
         names = {it.name.partition("-")[0].partition(".")[0] for it in Path(folder).glob("*/*/*")}
         return LINKING if names & {"program", "input"} else COMPILING if "module" in names else READING
     return READING
 
 
-def answers_first(program):
-    """Returns whether a program answers the first script as it has to."""
-    with contextlib.suppress(OSError, subprocess.TimeoutExpired):
+def difference_at_first(program: Path) -> str | None:
+    """Says in which line of the first script a program replies otherwise than the file beside it has, if it does."""
+    wanted = FIRST.with_suffix(".replies").read_text(encoding="latin-1").splitlines()
+    name = FIRST.relative_to(TOP)
+    try:
         ran = subprocess.run([program], input=FIRST.read_bytes(), capture_output=True, timeout=60, cwd=program.parent)
-        return (ran.returncode, ran.stdout) == (0, FIRST.with_suffix(".replies").read_bytes())
-    return False
+    except (OSError, subprocess.TimeoutExpired) as error:
+        return f"{name} isn't answered by this build: {error}"
+    replies = ran.stdout.decode("latin-1").splitlines()
+    for at, (found, given) in enumerate(zip_longest(replies, wanted), 1):
+        if found != given:
+            replied = f'replies "{found}"' if found is not None else f"ends with status {ran.returncode}"
+            return f'line {at} of {name}: this build {replied}, and first.replies has "{given}"'
+    return f"{name}: this build ends with status {ran.returncode}" if ran.returncode else None
 
 
-def end(tried):
+def end(tried: subprocess.Popen):
     """Ends a run of `rt try`, which removes its folder."""
     tried.terminate()
     with contextlib.suppress(subprocess.TimeoutExpired):
@@ -69,87 +80,94 @@ def end(tried):
     tried.wait()
 
 
-def give_second_name(at_work, to):
-    """Takes a program that is at work; a copy is made where a file can't have two names. Returns whether it is there and answers."""
+def give_second_name(at_work: Path, to: Path) -> bool:
+    """Takes a program that is at work; a copy is made where a file can't have two names. Returns whether it is taken."""
     to.unlink(missing_ok=True)
     with contextlib.suppress(OSError):
         try:
             os.link(at_work, to)
         except PermissionError:
             shutil.copy2(at_work, to)
-    return to.exists() and answers_first(to)
+    return to.exists()
 
 
-def try_once(folder):
+def try_once(folder: str, log_file: Path) -> tuple[Path | None, int | None]:
     """Has `rt try` build the program. Returns the program, taken while it was at work, or else None, and the status of the run."""
     caught = Path(folder) / "caught"
     words = ["rt", "try", "--steps", "1", "--cases", str(case_to_try(folder))]
     progress, started, last = Progress(), time.monotonic(), (-1, 0)
-    with open(LOG, "wb") as log:
-        how = {"stdin": subprocess.DEVNULL, "stdout": subprocess.DEVNULL, "stderr": log, "env": {**os.environ, "TMPDIR": folder}}
-        with subprocess.Popen(words, cwd=TOP / "crates" / "iox", **how) as tried:
-            try:
-                while tried.poll() is None:
-                    if any(give_second_name(it, caught) for it in programs_at_work(folder)):
-                        return caught, 0
-                    now = max(stage(folder), last[0]), round(time.monotonic() - started)
-                    if now != last:
-                        progress.tell(f"one build without proofs: {STAGES[now[0]]}, {now[1]} s", is_new=now[0] != last[0])
-                        last = now
-                    time.sleep(A_LOOK)
-            finally:
-                end(tried)
-                progress.end()
+    how: dict = {"stdin": subprocess.DEVNULL, "stdout": subprocess.DEVNULL, "env": {**os.environ, "TMPDIR": folder}}
+    with open(log_file, "wb") as log, subprocess.Popen(words, cwd=TOP / "crates" / "iox", stderr=log, **how) as tried:
+        try:
+            while tried.poll() is None:
+                if any(give_second_name(it, caught) for it in programs_at_work(folder)):
+                    return caught, 0
+                now = max(stage(folder), last[0]), round(time.monotonic() - started)
+                if now != last:
+                    progress.tell(f"one build without proofs: {STAGES[now[0]]}, {now[1]} s", is_new=now[0] != last[0])
+                    last = now
+                time.sleep(A_LOOK)
+        finally:
+            end(tried)
+            progress.end()
     return None, tried.returncode
 
 
 @contextlib.contextmanager
-def a_folder():
+def a_folder(out: Path):
     """A folder for a build; those that a build left when it was killed are removed, too."""
-    for old in OUT.glob("trying-*"):
+    for old in out.glob("trying-*"):
         shutil.rmtree(old, ignore_errors=True)
-    with tempfile.TemporaryDirectory(prefix="trying-", dir=OUT) as folder:
+    with tempfile.TemporaryDirectory(prefix="trying-", dir=out) as folder:
         yield folder
 
 
-def build_and_keep(wanted):
+def build_and_keep(wanted: Wanted) -> bool:
     """Builds the unproved program and keeps it. Returns whether there was one to keep."""
-    need_toolchain()
-    started = time.monotonic()
+    started, log = time.monotonic(), wanted.unproved.with_name(LOG)
     say("the program isn't built yet: one build without proofs takes a minute on idle cores, and is kept (`./iox --model` answers at once)")
-    with a_folder() as folder:
-        caught, status = try_once(folder)
+    with a_folder(wanted.unproved.parent) as folder:
+        caught, status = try_once(folder, log)
         if caught is None and status == REFUSED:
-            stop(NOT_BUILT, f"the program can't be built: {LOG} says why")
+            stop(NOT_BUILT, f"the program can't be built: {first_error(log)} ({log} has all of it)")
         # What was edited during the build may or may not be in it, so that is built again.
-        if caught is not None and Wanted().unproved == wanted.unproved:
+        if caught is not None and Wanted().total == wanted.total:
             put_in_place(caught, wanted.unproved)
             say(f"built without proofs in {round(time.monotonic() - started)} s")
+            differs = difference_at_first(wanted.unproved)
+            if differs:
+                say(differs)
+    if caught is None:
+        say(f"the program couldn't be kept ({log} has the run), so this script is answered by a run of its own, in a minute or two")
     return caught is not None
 
 
-def unproved_program(wanted):
-    """Returns the unproved program of the wanted sources, built where it isn't there, or None where it can't be kept."""
+def unproved_program(wanted: Wanted) -> Path | None:
+    """Returns the unproved program of the wanted sources, built if needed, or None where it can't be kept."""
+    if not wanted.unproved.exists():
+        need_toolchain()
+        if place() is None:
+            stop(NOT_BUILT, f"neither {OUT} nor {cache()} can be written (`./iox --model FILE` answers without a build)")
     while not wanted.unproved.exists():
-        with alone("lock-unproved", "the program without proofs"):
+        with alone(wanted.unproved.with_name("lock-unproved"), "the program without proofs"):
             if not wanted.unproved.exists() and not build_and_keep(wanted):
                 return None
         wanted = Wanted()
     return wanted.unproved
 
 
-def replies_of_one_run(script):
+def replies_of_one_run(script: bytes) -> tuple[int, bytes]:
     """Answers a script by a run of `rt try` of its own. Returns the program's status and the replies."""
-    how = {"input": script, "stdout": subprocess.PIPE, "stderr": subprocess.PIPE}
-    ran = subprocess.run(["rt", "try", "--steps", "1"], cwd=TOP / "crates" / "iox", **how)
+    ran = subprocess.run(["rt", "try", "--steps", "1"], cwd=TOP / "crates" / "iox", input=script, capture_output=True)
     ended = re.search(rb"^run=ended status=(\d+) ", ran.stderr, re.M)
     if not ended:
-        LOG.write_bytes(ran.stderr)
-        stop(NOT_BUILT, f"the unproved run came to no end: {LOG} says why")
+        log = (place() or OUT) / LOG
+        log.write_bytes(ran.stderr)
+        stop(NOT_BUILT, f"the unproved run came to no end: {first_error(log)} ({log} has all of it)")
     return int(ended[1]), ran.stdout
 
 
-def read_whole_script():
+def read_whole_script() -> bytes:
     if os.isatty(0):
         say("type the script, then Ctrl-D")
     return sys.stdin.buffer.read()
