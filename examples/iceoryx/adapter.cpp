@@ -15,10 +15,9 @@
 #include <iostream>
 #include <map>
 #include <memory>
-#include <pthread.h>
 #include <sstream>
+#include <sys/syscall.h>
 #include <thread>
-#include <time.h>
 #include <unistd.h>
 
 namespace {
@@ -41,36 +40,35 @@ class RouDi : public iox::roudi::RouDi {
     void connectPorts() { m_prcMgr->run(); }
 };
 
+// How often the publish of this thread has yielded; no other thread has such a count.
+thread_local std::atomic<uint64_t>* yieldsOfPublish{nullptr};
+
 // A publish in a thread of its own: iceoryx waits within the call where a queue is full.
 class Publishing {
   public:
     template <typename Publish>
     explicit Publishing(Publish publish) : m_thread([this, publish] {
+        yieldsOfPublish = &m_yields;
         publish();
         m_isDone.store(true);
     }) {}
 
-    // Whether it waits. A publish that waits spins, and one that doesn't is done long before it took so much processor time.
+    // Whether it waits: it yields once between two tries, so behind two more yields it has tried again in vain.
     bool waits() {
-        constexpr int64_t SPINNING_NS = 2000000;
-        const int64_t until = processorTime() + SPINNING_NS;
-        while (!m_isDone.load() && processorTime() <= until) {
-            std::this_thread::sleep_for(std::chrono::microseconds(50));
+        const uint64_t until = m_yields.load() + 2;
+        while (!m_isDone.load() && m_yields.load() < until) {
+            std::this_thread::sleep_for(PAUSE);
         }
         return !m_isDone.load();
     }
 
     void join() { m_thread.join(); }
 
-  private:
-    int64_t processorTime() {
-        clockid_t clock{};
-        timespec time{};
-        const bool isRunning = pthread_getcpuclockid(m_thread.native_handle(), &clock) == 0 && clock_gettime(clock, &time) == 0;
-        return isRunning ? time.tv_sec * 1000000000LL + time.tv_nsec : 0;
-    }
+    static constexpr std::chrono::microseconds PAUSE{20};
 
+  private:
     std::atomic<bool> m_isDone{false};
+    std::atomic<uint64_t> m_yields{0};
     std::thread m_thread;
 };
 
@@ -193,6 +191,20 @@ std::string withValues(std::string reply, const uint64_t* values) {
     }
     return reply;
 }
+
+} // namespace
+
+// Called by iceoryx in the place of the C library's. A publish that waits is counted, and sleeps rather than spins.
+extern "C" int sched_yield() noexcept {
+    if (yieldsOfPublish == nullptr) {
+        return static_cast<int>(syscall(SYS_sched_yield));
+    }
+    yieldsOfPublish->fetch_add(1);
+    std::this_thread::sleep_for(Publishing::PAUSE);
+    return 0;
+}
+
+namespace {
 
 class Script {
   public:
