@@ -10,7 +10,7 @@ STEPS = {
     "put": 26, "burst": 1.5, "receive": 22, "drain": 1.2, "release": 14, "read": 4, "has": 5, "sequence": 2, "loan": 6, "fill": 5,
     "send": 6, "drop": 1.5, "subscriber": 5, "publisher": 2, "leave_subscriber": 3, "leave_publisher": 0.8, "update": 1.5, "retry": 4,
     "absent": 0.7,
-}  # fmt: skip
+}
 
 
 @dataclass

@@ -1,4 +1,4 @@
-// Answers the lines of docs/FORMATS.md by iceoryx 2.0.3, for `./iox --against` and `examples/iceoryx/hold`: a line in, its reply out.
+// Answers the lines of docs/FORMATS.md by iceoryx 2.0.3, for `./iox --against` and `compare`: a line in, its reply out.
 //
 // "_" in a reply is what iceoryx doesn't tell. A line that asks for what it lacks is answered "unsupported WHY", and changes nothing.
 // ":reset" ends all that was made. RouDi runs within this process, so one process answers many scripts.
@@ -10,15 +10,20 @@
 #include "iceoryx_posh/roudi/iceoryx_roudi_components.hpp"
 #include "iceoryx_posh/runtime/posh_runtime_single_process.hpp"
 
+#include <algorithm>
 #include <atomic>
+#include <chrono>
+#include <cstdio>
 #include <fcntl.h>
 #include <iostream>
 #include <map>
 #include <memory>
 #include <sstream>
+#include <string>
 #include <sys/syscall.h>
 #include <thread>
 #include <unistd.h>
+#include <vector>
 
 namespace {
 
