@@ -250,7 +250,7 @@ def the_picture_and_the_state_show_the_numbers_of_messages_and_what_is_missing()
         drawn = ElementTree.parse(picture).getroot()
         texts = [it.text for it in drawn.iter("{http://www.w3.org/2000/svg}text")]
         expect(sorted(it for it in texts if it and it.startswith("[")), ["[10] #4", "[7] #1", "[8] #2", "[9] #3"])
-        expect([it for it in texts if it and "missing" in it], ["1 missing", "numbers are missing"])
+        expect(sorted(it for it in texts if it and "missing" in it), ["1 missing", "numbers are missing"])
         # One more is in the legend.
         expect([it.get("class") for it in drawn.iter("{http://www.w3.org/2000/svg}path")].count("gap"), 2)
     trace = Trace()
@@ -343,6 +343,7 @@ def completion_offers_what_lives_and_what_the_grammar_has():
         ("foreign ps Sonar re", ["register:x", "remove:x"]),
         ("foreign ps Sonar pub", ["publish:x", "publish1:x"]),
         ("help le", ["leave "]),
+        ("help hi", ["history "]),
         ("nothing ", []),
     ):
         expect((typed, offered(typed)), (typed, wanted))

@@ -7,7 +7,7 @@ PATTERNS = {"ps": "PublishSubscribe", "ev": "Event", "rr": "RequestResponse"}
 SWITCH, NUMBER, PERHAPS = "switch", "number", "number or off"
 TOO_FEW = "DoesNotSupportRequested"
 # Of each pattern, in the order in which an opener tests them: key, kind, default, least, end, the error where it isn't met.
-SETTINGS = {
+SETTINGS: dict[str, list[tuple]] = {
     "ps": [
         ("overflow", SWITCH, True, None, None, "IncompatibleOverflowBehavior"),
         ("sequence", SWITCH, False, None, None, "IncompatibleSequenceNumbers"),

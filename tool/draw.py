@@ -1,14 +1,19 @@
 """A conversation as one picture: a row a line, lifelines of what was made, an arrow for each message from its send to who received it."""
 from __future__ import annotations
 
+from collections import namedtuple
+from collections.abc import Iterator
+from itertools import product
 from xml.sax.saxutils import escape
 
 from tool import outputs
 from tool.state import KINDS, message_shown
-from tool.trace import Conversation, Delivery
+from tool.trace import Conversation, Delivery, Lifeline
 
-# In pixels: a row, a lifeline, a letter of the font, the margin, and what stands above the first row.
+# In pixels: a row, a lifeline, a letter of the font, the margin, and what is above the first row.
 ROW, COLUMN, LETTER, MARGIN, TOP = 24, 64, 7.9, 16, 64
+# A letter of a label, and how far a label reaches above and below its base line.
+SMALL_LETTER, RISES, FALLS = 6.7, 9, 3
 LONGEST_SHOWN = 48
 STYLE = """\
 text{font:13px monospace;fill:#222}.title{font:bold 16px sans-serif}.sub,.legend{font:12px sans-serif;fill:#555}
@@ -36,22 +41,37 @@ def width_of(texts: list[str]) -> int:
     return int(LETTER * max([min(len(it), LONGEST_SHOWN + 2) for it in texts], default=0))
 
 
+Box = namedtuple("Box", "left top right bottom")
+
+
+def overlaps(one: Box, other: Box) -> bool:
+    return one.left < other.right and other.left < one.right and one.top < other.bottom and other.top < one.bottom
+
+
+def box_of(x: float, y: float, text: str, side: int) -> Box:
+    """The box of a label, which begins at x, or ends there where the side is the left one."""
+    wide = SMALL_LETTER * (len(text) + 1)
+    return Box(x if side > 0 else x - wide, y - RISES, x + wide if side > 0 else x, y + FALLS)
+
+
 class Sheet:
-    """Where rows and lifelines lie on the picture, and what is drawn there."""
+    """Where rows and lifelines are on the picture, and what is drawn there."""
 
     def __init__(self, told: Conversation):
-        self.told, self.parts = told, []
+        self.told = told
+        self.parts: list[str] = []
         self.line_at = MARGIN + 32
         self.reply_at = self.line_at + width_of([it.line for it in told.rows]) + 20
         self.lives_at = self.reply_at + width_of([it.reply for it in told.rows]) + 40
         self.x = {life.name: self.lives_at + COLUMN * at for at, life in enumerate(told.lifelines)}
         self.end = len(told.rows) - 1
+        # Where no label may be: the names of what lives, and the labels that are placed.
+        self.taken = [self.box_of_name(it) for it in told.lifelines]
 
     @property
     def width(self) -> int:
-        # What is missing at the last lifeline is told behind it.
-        told = COLUMN * any(it.missing for it in self.told.deliveries)
-        return max(self.lives_at + COLUMN * len(self.told.lifelines) + told, 720)
+        reach = int(max((it.right for it in self.taken), default=0)) + MARGIN
+        return max(self.lives_at + COLUMN * len(self.told.lifelines), reach, 720)
 
     @property
     def bottom(self) -> int:
@@ -59,6 +79,23 @@ class Sheet:
 
     def y(self, row: int) -> int:
         return TOP + ROW * row + ROW // 2
+
+    def box_of_name(self, life: Lifeline) -> Box:
+        x, y, half = self.x[life.name], self.y(life.first), int(LETTER * len(life.name)) // 2 + 5
+        return Box(x - half, y - 9, x + half, y + 9)
+
+    def label(self, text: str, name: str, side: int, places: Iterator[tuple[float, float]]):
+        """Writes a label at the first of some places where it covers no other."""
+        x, y = next(places)
+        box = box_of(x, y, text, side)
+        for place in places:
+            if box.left >= self.lives_at - COLUMN // 2 and not any(overlaps(box, it) for it in self.taken):
+                break
+            x, y = place
+            box = box_of(x, y, text, side)
+        self.taken.append(box)
+        anchor = "start" if side > 0 else "end"
+        self.text(round(x), round(y), escape(text), f"value{name}", f' text-anchor="{anchor}"')
 
     def text(self, x, y, text: str, name: str, more: str = ""):
         self.parts.append(f'<text class="{name}" x="{x}" y="{y}"{more}>{text}</text>')
@@ -76,12 +113,13 @@ def class_of(reply: str) -> str:
 def draw_rows(sheet: Sheet):
     for at, row in enumerate(sheet.told.rows):
         if at % 2 == 0:
-            sheet.parts.append(f'<rect class="band" x="0" y="{TOP + ROW * at}" width="{sheet.width}" height="{ROW}"/>')
+            sheet.parts.append(f'<rect class="band" x="0" y="{TOP + ROW * at}" width="100%" height="{ROW}"/>')
     for at, row in enumerate(sheet.told.rows):
         y = sheet.y(at) + 4
         sheet.text(sheet.line_at - 10, y, str(row.number), "number", ' text-anchor="end"')
         sheet.text(sheet.line_at, y, shown(row.line), "line")
-        hint = f"<title>{escape(row.note)}</title>" if row.note else ""
+        why = "; ".join(filter(None, (row.note, row.missed)))
+        hint = f"<title>{escape(why)}</title>" if why else ""
         sheet.text(sheet.reply_at, y, shown(row.reply) + hint, class_of(row.reply))
 
 
@@ -94,16 +132,17 @@ def draw_lives(sheet: Sheet):
 
 def draw_names(sheet: Sheet):
     for life in sheet.told.lifelines:
-        x, y = sheet.x[life.name], sheet.y(life.first)
-        wide = int(LETTER * len(life.name)) + 10
-        sheet.parts.append(f'<rect x="{x - wide // 2}" y="{y - 9}" width="{wide}" height="18" rx="4" fill="#fff" stroke="#c4c8ce"/>')
+        x, y, box = sheet.x[life.name], sheet.y(life.first), sheet.box_of_name(life)
+        size = f'x="{box.left}" y="{box.top}" width="{box.right - box.left}" height="18"'
+        sheet.parts.append(f'<rect {size} rx="4" fill="#fff" stroke="#c4c8ce"/>')
         more = f' text-anchor="middle"><title>{KINDS[life.name[0]]}</title'
         sheet.text(x, y + 4, life.name, f"name {life.name[0]}", more)
 
 
 def offsets(deliveries: list[Delivery], end: int) -> dict[int, int]:
     """How far aside the bar of each delivery is drawn, so that samples that are held at once lie beside each other."""
-    found, busy = {}, {}
+    found: dict[int, int] = {}
+    busy: dict[str, list[int]] = {}
     for at, it in enumerate(deliveries):
         if it.received is None:
             continue
@@ -129,39 +168,49 @@ def gap(x: int, y: int) -> str:
     return f'<path class="gap" d="M{x - 7} {y + 1}L{x + 7} {y - 5}M{x - 7} {y + 5}L{x + 7} {y - 1}"/>'
 
 
+def places(x1: int, y1: int, x2: int, y2: int) -> Iterator[tuple[float, float]]:
+    """Where the label of a stroke may be: at its end, then further and further back along it, then above and below its end."""
+    for back, aside in product(range(0, 100, 8), (-7, 13)):
+        yield x2 + (x1 - x2) * back / 100, y2 + (y1 - y2) * back / 100 + aside
+    for rows in range(1, 100):
+        yield x2, y2 - 7 - rows * (RISES + FALLS)
+        yield x2, y2 - 7 + rows * (RISES + FALLS)
+
+
 def draw_gap(sheet: Sheet, it: Delivery, side: int):
     """Breaks the lifeline of a subscriber above the row where numbers are missing, and says how many."""
-    x, y = sheet.x[it.subscriber], sheet.y(it.received) - ROW // 2
-    anchor = "start" if side > 0 else "end"
+    x, y = sheet.x[it.subscriber], sheet.y(it.received or 0) - ROW // 2
     sheet.parts.append(gap(x, y))
-    sheet.text(x + side * 12, y + 4, f"{it.missing} missing", "value gone", f' text-anchor="{anchor}"')
+    sheet.label(f"{it.missing} missing", " gone", side, places(x + side * 12, y + 11, x + side * 12, y + 11))
+
+
+def draw_delivery(sheet: Sheet, it: Delivery, aside: int):
+    """The stroke of one message from its publisher to a subscriber, and its bar while it is held."""
+    x1, y1, x2 = sheet.x[it.publisher], sheet.y(it.sent), sheet.x[it.subscriber] + aside
+    side = 1 if x1 > x2 else -1
+    if it.received is not None:
+        foot = sheet.y(sheet.end) + 8 if it.released is None else sheet.y(it.released)
+        sheet.stroke("held", x2, sheet.y(it.received), x2, foot)
+    name, row = fate(it, sheet.end)
+    x3, y3 = x2 + side * (4 if name == "message" else 14), sheet.y(row)
+    sheet.stroke(name, x1, y1, x3, y3 + (8 if name == "waits" else 0))
+    if it.missing:
+        draw_gap(sheet, it, -side)
+    value = message_shown(it.values, it.sequence, 4)
+    sheet.label(value, " gone" if name == "lost" else "", side, places(x1 + side * 10, y1, x3 + side * 10, y3))
 
 
 def draw_messages(sheet: Sheet):
     aside = offsets(sheet.told.deliveries, sheet.end)
     for at, it in enumerate(sheet.told.deliveries):
-        if it.publisher not in sheet.x or it.subscriber not in sheet.x:
-            continue
-        x1, y1, x2 = sheet.x[it.publisher], sheet.y(it.sent), sheet.x[it.subscriber] + aside.get(at, 0)
-        side = 1 if x1 > x2 else -1
-        value = escape(message_shown(it.values, it.sequence, 4))
-        if it.received is not None:
-            foot = sheet.y(sheet.end) + 8 if it.released is None else sheet.y(it.released)
-            sheet.stroke("held", x2, sheet.y(it.received), x2, foot)
-        name, row = fate(it, sheet.end)
-        x3 = x2 + side * (4 if name == "message" else 14)
-        sheet.stroke(name, x1, y1, x3, sheet.y(row) + (8 if name == "waits" else 0))
-        anchor = "start" if side > 0 else "end"
-        gone = " gone" if name == "lost" else ""
-        sheet.text(x3 + side * 10, sheet.y(row) - 7, value, f"value{gone}", f' text-anchor="{anchor}"')
-        if it.missing:
-            draw_gap(sheet, it, -side)
+        if it.publisher in sheet.x and it.subscriber in sheet.x:
+            draw_delivery(sheet, it, aside.get(at, 0))
     reached = {it.sent for it in sheet.told.deliveries}
-    for it in sheet.told.untaken:
-        if it.sent not in reached and it.publisher in sheet.x:
-            x, y = sheet.x[it.publisher], sheet.y(it.sent)
+    for lost in sheet.told.untaken:
+        if lost.sent not in reached and lost.publisher in sheet.x:
+            x, y = sheet.x[lost.publisher], sheet.y(lost.sent)
             sheet.parts.append(cross(x, y))
-            sheet.text(x + 9, y - 5, escape(message_shown(it.values, it.sequence, 4)), "value gone")
+            sheet.label(message_shown(lost.values, lost.sequence, 4), " gone", 1, places(x + 9, y + 2, x + 9, y + 2))
 
 
 def draw_legend(sheet: Sheet):
@@ -179,7 +228,8 @@ def draw_legend(sheet: Sheet):
         sheet.text(x + 44, y, what, "legend")
         x += 44 + 8 * len(what) + 20
     kinds = ", ".join(f"{letter} {kind}" for letter, kind in KINDS.items() if letter != "m")
-    numbered = ", behind # its own number" * any(it.sequence is not None for it in [*sheet.told.deliveries, *sheet.told.untaken])
+    numbers = [it.sequence for it in sheet.told.deliveries] + [it.sequence for it in sheet.told.untaken]
+    numbered = ", after # its own number" * any(it is not None for it in numbers)
     sheet.text(MARGIN, y + 20, f"numbers in brackets are a message's values{numbered}; {kinds}", "legend")
 
 
@@ -196,6 +246,8 @@ def svg(told: Conversation, title: str) -> str:
     sheet.text(MARGIN, 46, counts(told), "sub")
     for draw in (draw_rows, draw_lives, draw_messages, draw_names, draw_legend):
         draw(sheet)
+    # Labels are above all strokes.
+    sheet.parts.sort(key=lambda it: it.startswith('<text class="value'))
     height = sheet.bottom + 52
     size = f'width="{sheet.width}" height="{height}" viewBox="0 0 {sheet.width} {height}"'
     head = [f'<svg xmlns="http://www.w3.org/2000/svg" {size} role="img">', outputs.KINDS["svg"][1], f"<title>{escape(title)}</title>"]

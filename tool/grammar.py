@@ -1,4 +1,4 @@
-"""The lines of a script in one table: help, completion and what is said of a faulty line are all read off it.
+"""The lines of a script in one table: help, completion and what is said of a faulty line are all made from it.
 
 Options, their kinds and their defaults are those of `model/script_lines.py`.
 """
@@ -44,7 +44,7 @@ class Kind(Enum):
         return self.value[2]
 
 
-# The letters by which the numbers of such a word go.
+# The letters that the numbers of such a word follow.
 LETTERS = {
     Kind.NODE: "n",
     Kind.FACTORY: "f",
@@ -73,89 +73,89 @@ class Verb:
 
 
 SERVICE = (Kind.NODE, Kind.PATTERN, Kind.NAME, Kind.SETTINGS)
-IN_USE = "Refused while a port of it is there, a loan of it is out, or a sample that it received is held."
-AS_RECEIVED = "The sample reads the same until it is released, whoever leaves meanwhile."
-NUMBERED = "A publisher numbers what it sends, from 1 on, where the service has sequence=1. What is missing between two was lost."
+IN_USE = "Refused while one of its ports, loans or samples exists."
+AS_RECEIVED = "The sample reads the same until it is released, even if its publisher leaves."
+NUMBERED = "A publisher numbers its messages from 1 on if the service has sequence=1. A gap in the numbers is what was lost."
 FOLLOWS = "A publisher does so at each send, a subscriber at `receive` and `has`."
 VERBS = {
     it.name: it
     for it in (
-        Verb("node", (), "ok nK", "a node"),
-        Verb("create", SERVICE, "ok fK", "a factory, new service", "Later openers have to ask for no more than the numbers named here."),
-        Verb("open", SERVICE, "ok fK", "of one that exists", "What is named has to be met: a number if the service's is as large."),
-        Verb("open_or_create", SERVICE, "ok fK", "the one or the other", "Opens the service where there is one, and else creates it."),
-        Verb("foreign", (Kind.PATTERN, Kind.NAME, Kind.STEPS), "ok", "others' nodes act", "A step that doesn't fit changes nothing."),
-        Verb("close", (Kind.FACTORY,), "ok", "ends a factory", IN_USE),
-        Verb("publisher", (Kind.FACTORY, Kind.PUBLISHER_OPTIONS), "ok pK", "a publisher"),
-        Verb("subscriber", (Kind.FACTORY, Kind.SUBSCRIBER_OPTIONS), "ok sK", "a subscriber"),
-        Verb("put", (Kind.PUBLISHER, Kind.VALUES), "ok N, blocked", "sends these numbers", "N counts the mailboxes that took them."),
-        Verb("loan", (Kind.PUBLISHER, Kind.COUNT), "ok lK", "lends N numbers, all 0"),
-        Verb("loan_uninit", (Kind.PUBLISHER, Kind.COUNT), "ok lK", "the same, not written", "It can't be sent before `fill`."),
+        Verb("node", (), "ok nK", "creates a node"),
+        Verb("create", SERVICE, "ok fK", "creates a service", "Whoever opens it later may ask for no more than the numbers named here."),
+        Verb("open", SERVICE, "ok fK", "opens a service", "The service has to meet each option named here: its number is as large or larger."),
+        Verb("open_or_create", SERVICE, "ok fK", "opens or creates one", "Opens the service if it exists, and creates it otherwise."),
+        Verb("foreign", (Kind.PATTERN, Kind.NAME, Kind.STEPS), "ok", "nodes elsewhere act", "A step that doesn't fit changes nothing."),
+        Verb("close", (Kind.FACTORY,), "ok", "closes a factory", IN_USE),
+        Verb("publisher", (Kind.FACTORY, Kind.PUBLISHER_OPTIONS), "ok pK", "creates a publisher"),
+        Verb("subscriber", (Kind.FACTORY, Kind.SUBSCRIBER_OPTIONS), "ok sK", "creates a subscriber"),
+        Verb("put", (Kind.PUBLISHER, Kind.VALUES), "ok N, blocked", "sends these numbers", "N is the number of mailboxes that took them."),
+        Verb("loan", (Kind.PUBLISHER, Kind.COUNT), "ok lK", "loans N numbers, all 0"),
+        Verb("loan_uninit", (Kind.PUBLISHER, Kind.COUNT), "ok lK", "loans N, not written", "The loan can't be sent before `fill`."),
         Verb("set", (Kind.LOAN, Kind.PLACE, Kind.VALUE), "ok", "writes one number"),
         Verb("fill", (Kind.LOAN, Kind.VALUES), "ok", "writes all numbers"),
-        Verb("send", (Kind.LOAN,), "ok N, blocked", "sends a loan", "Its number is spent then. N counts the mailboxes that took it."),
-        Verb("drop", (Kind.LOAN,), "ok", "gives a loan back"),
-        Verb("retry", (Kind.PUBLISHER, Kind.COUNT), "ok N, blocked", "goes on: blocked send", "N is the nanoseconds that passed."),
-        Verb("giveup", (Kind.PUBLISHER,), "ok N", "ends a blocked send", "N counts the mailboxes that took it so far."),
-        Verb("receive", (Kind.SUBSCRIBER,), "ok mK V .., none", "the oldest message", AS_RECEIVED),
+        Verb("send", (Kind.LOAN,), "ok N, blocked", "sends a loan", "The loan is gone then. N is the number of mailboxes that took it."),
+        Verb("drop", (Kind.LOAN,), "ok", "drops a loan"),
+        Verb("retry", (Kind.PUBLISHER, Kind.COUNT), "ok N, blocked", "retries a blocked send", "N nanoseconds have passed."),
+        Verb("giveup", (Kind.PUBLISHER,), "ok N", "ends a blocked send", "N is the number of mailboxes that took it before."),
+        Verb("receive", (Kind.SUBSCRIBER,), "ok mK V .., none", "receives a message", AS_RECEIVED),
         Verb("read", (Kind.SAMPLE,), "ok V ..", "reads a sample again"),
         Verb("sequence", (Kind.SAMPLE,), "ok N, ok none", "its message's number", NUMBERED),
-        Verb("release", (Kind.SAMPLE,), "ok", "lets a sample go"),
-        Verb("has", (Kind.SUBSCRIBER,), "ok true, ok false", "whether one waits"),
-        Verb("update", (Kind.PORT,), "ok", "follows who came, left", FOLLOWS),
-        Verb("leave", (Kind.PORT,), "ok", "ends a port", "What others hold of it stays as it is."),
+        Verb("release", (Kind.SAMPLE,), "ok", "releases a sample"),
+        Verb("has", (Kind.SUBSCRIBER,), "ok true, ok false", "does a message wait?"),
+        Verb("update", (Kind.PORT,), "ok", "updates connections", FOLLOWS),
+        Verb("leave", (Kind.PORT,), "ok", "closes a port", "What others hold of it stays as it is."),
     )
 }
 
-# What each option is, in words. A key of several patterns is told once for all of them where it means the same.
-PORT_OPTIONS = {"publisher": PUBLISHER_OPTIONS, "subscriber": SUBSCRIBER_OPTIONS}
+# What each option is, in words. A key of several patterns has one text if it means the same in all of them.
+PORT_OPTIONS: dict[str, dict] = {"publisher": PUBLISHER_OPTIONS, "subscriber": SUBSCRIBER_OPTIONS}
 MEANINGS = {
-    "overflow": "a full mailbox drops its oldest message, and doesn't hold the publisher up",
-    "sequence": "each message has a number, which tells what was missed",
-    "publishers": "as many publishers may be there at once",
-    "subscribers": "as many subscribers may be there at once",
-    "buffer": "as many messages may wait in a mailbox",
-    "history": "as many messages a publisher keeps for subscribers to come",
-    "borrowed": "as many samples of one publisher a subscriber may hold",
-    "nodes": "as many nodes may have the service open",
-    "deadline": "nanoseconds",
-    "notifiers": "as many notifiers may be there at once",
-    "listeners": "as many listeners may be there at once",
+    "overflow": "a full mailbox drops its oldest message, and doesn't block the publisher",
+    "sequence": "messages are numbered, so that subscribers see what they missed",
+    "publishers": "maximum number of publishers",
+    "subscribers": "maximum number of subscribers",
+    "buffer": "maximum number of waiting messages in a mailbox",
+    "history": "number of messages that a publisher keeps for later subscribers",
+    "borrowed": "maximum number of samples that a subscriber holds of one publisher",
+    "nodes": "maximum number of nodes that have the service open",
+    "deadline": "the deadline in nanoseconds",
+    "notifiers": "maximum number of notifiers",
+    "listeners": "maximum number of listeners",
     "maxid": "the greatest event id",
     "created": "the event id when a notifier is created",
     "dropped": "the event id when a notifier is dropped",
     "dead": "the event id when a notifier is found dead",
     "overflow_requests": "safe overflow of requests",
     "overflow_responses": "safe overflow of responses",
-    "fire": "requests that want no response",
-    "loans": "as many loans may be out",
-    "active": "as many requests of a client may be active",
-    "servers": "as many servers may be there at once",
-    "clients": "as many clients may be there at once",
-    "slots": "as many messages may be in memory (if not named: those of the worst case)",
-    "slice": "the length of the slices that are lent (if not named: 1)",
-    "alloc": "whether longer slices may come: static no; best, power yes",
-    "strategy": "what a send does at a full mailbox that drops nothing: retry blocks, discard passes it over",
-    "handler": "the same by a handler: follow does as the strategy says, fail makes the send fail",
-    "degrade": "whether a connection that isn't made fails the call",
+    "fire": "requests that expect no response",
+    "loans": "maximum number of loans at once",
+    "active": "maximum number of active requests of a client",
+    "servers": "maximum number of servers",
+    "clients": "maximum number of clients",
+    "slots": "number of messages that fit in memory (default: enough for the worst case)",
+    "slice": "number of values in the slices that are loaned (default 1)",
+    "alloc": "whether longer slices can be loaned: static no; best, power yes",
+    "strategy": "what a send does at a full mailbox without overflow: retry blocks, discard skips that mailbox",
+    "handler": "the same by a handler: follow does what the strategy says, fail makes the send fail",
+    "degrade": "whether a call fails if a connection can't be made: only with fail",
 }
-# Where a key means something else at another pattern.
+# What a key means that is another thing at another pattern.
 OWN_MEANINGS = {
-    ("rr", "loans"): "as many requests of a client may be on loan",
-    ("rr", "buffer"): "as many responses may wait",
-    ("rr", "borrowed"): "as many responses may be held",
+    ("rr", "loans"): "maximum number of loaned requests of a client",
+    ("rr", "buffer"): "maximum number of waiting responses",
+    ("rr", "borrowed"): "maximum number of held responses",
 }
 STEP_MEANINGS = {
     "lock": "locks the name",
-    "giveup": "gives the lock back",
-    "publish": "publishes a service; options of it, as buffer=3, stand behind a second colon",
+    "giveup": "gives up the lock",
+    "publish": "publishes a service; its options, such as buffer=3, follow a second colon",
     "publish1": "the same in version 1, which has no switch for numbers",
-    "register": "comes in",
-    "leave": "leaves",
-    "remove": "removes what it was the last to leave",
+    "register": "joins the service",
+    "leave": "leaves the service",
+    "remove": "removes the service that it was the last to leave",
 }
 STEP_VERBS = tuple(STEP_MEANINGS)
-# Those behind whose node options may stand.
+# Those that may have options after the node.
 PUBLISHING = ("publish", "publish1")
 PORT_DEFAULTS = {"loans": "2", "strategy": "retry", "alloc": "static", "handler": "follow", "degrade": "warn"}
 
@@ -165,14 +165,18 @@ def settings_of(pattern: str) -> dict:
     return {key: kind for key, kind, *_ in SETTINGS[pattern]}
 
 
+def meaning_in(pattern: str, key: str) -> str:
+    return OWN_MEANINGS.get((pattern, key), MEANINGS[key])
+
+
 def least_of(pattern: str, key: str) -> int | None:
-    """What a smaller number counts as, if it doesn't count as it is."""
+    """What a smaller number counts as, if it counts as another one."""
     found = [least for name, _, _, least, _, _ in SETTINGS[pattern] if name == key]
     return found[0] if found else None
 
 
 def options_of(verb: str, pattern: str | None) -> dict:
-    """The options that may stand in a line of this verb and pattern, each with its kind."""
+    """The options that a line of this verb and pattern may have, each with its kind."""
     if verb in PORT_OPTIONS:
         return PORT_OPTIONS[verb]
     return settings_of(pattern) if VERBS[verb].operands == SERVICE and pattern and pattern in PATTERNS else {}
@@ -202,23 +206,38 @@ def default_in_words(default) -> str:
 
 
 def help_on_verb(verb: Verb) -> str:
-    """What `help VERB` says: the form, the reply, what it asks, and each option."""
+    """What `help VERB` says: the form, the reply, what it does, and each option."""
     told = [verb.form, f"  {verb.meaning}: {verb.reply}"]
-    told += [f"  {it.shown}: {it.words}, as {it.example}" for it in verb.operands]
+    told += [f"  {it.shown}: {it.words}, such as {it.example}" for it in verb.operands]
     if verb.details:
         told.append(f"  {verb.details}")
     if Kind.STEPS in verb.operands:
         told += [f"    {f'{name}:x1':<16} {meaning}" for name, meaning in STEP_MEANINGS.items()]
     if verb.name in PORT_OPTIONS:
         for key, kind in PORT_OPTIONS[verb.name].items():
-            default = f"; if not named {PORT_DEFAULTS[key]}" if key in PORT_DEFAULTS else ""
+            default = f"; default {PORT_DEFAULTS[key]}" if key in PORT_DEFAULTS else ""
             told.append(f"    {f'{key}=' + ('|'.join(values_of(kind)) or 'N'):<36} {MEANINGS[key]}{default}")
     if verb.operands == SERVICE:
         for pattern in PATTERNS:
-            told.append(f"  options of {pattern}, with what counts if they aren't named")
+            told.append(f"  options of {pattern} services, with their defaults")
             for key, kind, default, *_ in SETTINGS[pattern]:
-                told.append(f"    {f'{key}={default_in_words(default)}':<24} {OWN_MEANINGS.get((pattern, key), MEANINGS[key])}")
+                told.append(f"    {f'{key}={default_in_words(default)}':<24} {meaning_in(pattern, key)}")
     return "\n".join(told)
+
+
+def help_on_option(key: str) -> str | None:
+    """What `help OPTION` says: what the option is, of which services and ports, and its default."""
+    told = []
+    for pattern in PATTERNS:
+        for name, kind, default, *_ in SETTINGS[pattern]:
+            if name == key:
+                what = f"{kind_in_words(kind)}, default {default_in_words(default)}"
+                told.append(f"  of {pattern} services (create, open, open_or_create): {meaning_in(pattern, key)}; {what}")
+    for verb, kinds in PORT_OPTIONS.items():
+        if key in kinds:
+            default = f", default {PORT_DEFAULTS[key]}" if key in PORT_DEFAULTS else ""
+            told.append(f"  of a {verb}: {MEANINGS[key]}; {kind_in_words(kinds[key])}{default}")
+    return "\n".join([f"{key}=", *told]) if told else None
 
 
 def help_on_all() -> str:

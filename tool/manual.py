@@ -12,7 +12,7 @@ from script_lines import SETTINGS
 from tool.arguments import ABOUT, STATUSES, parser
 from tool.grammar import MEANINGS, PORT_OPTIONS, VERBS, default_in_words
 
-WITHOUT_PROOFS = "one build of the same sources without proofs, which is made once and kept"
+WITHOUT_PROOFS = "a build of the same sources without proofs, which is made once and kept"
 PAGE, COMPLETION = TOP / "docs" / "iox.1", TOP / "tool" / "completion"
 
 
@@ -33,7 +33,7 @@ def roff(text):
 def manual():
     lines = [f'.TH IOX 1 "" "Kohepuri {VERSION}" "User commands"', ".SH NAME", "iox \\- publish\\-subscribe conversations by lines"]
     lines += [".SH SYNOPSIS", ".B ./iox", "[OPTION ..] [FILE]", ".SH DESCRIPTION", roff(plain(ABOUT))]
-    lines += [roff(f"The proved program answers where it stands, else {WITHOUT_PROOFS}.")]
+    lines += [roff(f"The proved program answers if it is built, and otherwise {WITHOUT_PROOFS}.")]
     lines += [".SH OPTIONS"]
     for it in options():
         names = ", ".join(it.option_strings) + (f" {it.metavar}" if it.metavar else "")
@@ -44,12 +44,12 @@ def manual():
     lines += [".SH OPTIONS OF COMMANDS"]
     for pattern, settings in SETTINGS.items():
         told = ", ".join(f"{key}={default_in_words(default)}" for key, _, default, *_ in settings)
-        lines += [".TP", f".B create, open, open_or_create {pattern}", roff(f"with what counts if they aren't named: {told}")]
+        lines += [".TP", f".B create, open, open_or_create {pattern}", roff(f"options with their defaults: {told}")]
     for verb, kinds in PORT_OPTIONS.items():
         told = "; ".join(f"{key}: {MEANINGS[key]}" for key in kinds)
         lines += [".TP", f".B {verb}", roff(told)]
     lines += [".SH EXIT STATUS", roff(plain(STATUSES.partition("\n`")[0]).replace("status: ", ""))]
-    lines += [".SH FILES", roff("crates/iox/out keeps what is built; $XDG_STATE_HOME/kohepuri/history the lines typed at the prompt.")]
+    lines += [".SH FILES", roff("crates/iox/out has what is built, or $XDG_CACHE_HOME/kohepuri if that can't be written; $XDG_STATE_HOME/kohepuri/history the lines typed at the prompt.")]
     return "\n".join(lines) + "\n"
 
 

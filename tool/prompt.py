@@ -10,18 +10,34 @@ from pathlib import Path
 from script_lines import PATTERNS
 
 from tool import VERSION
-from tool.grammar import LETTERS, SERVICE, STEP_VERBS, VERBS, Kind, help_on_all, help_on_verb, options_of, values_of
+from tool.explain import meant
+from tool.grammar import (
+    LETTERS,
+    PORT_OPTIONS,
+    SERVICE,
+    STEP_VERBS,
+    VERBS,
+    Kind,
+    help_on_all,
+    help_on_option,
+    help_on_verb,
+    options_of,
+    settings_of,
+    values_of,
+)
 
 PROMPT = "iox> "
 KEPT_LINES = 1000
 WORDS = """\
 words of the prompt:
-  help, help COMMAND    the commands; one of them with its options
+  help or ?             the commands
+  help WORD             a command with its options, or an option
   :state                nodes, services, ports with what waits and is held, loans, samples
   :why                  why the last line was skipped, refused or faulty
-  exit, quit, Ctrl-D    ends; what the hub held is gone
+  exit, quit, Ctrl-D    ends the hub with all that it holds
 keys: Tab completes, Up and Ctrl-R find earlier lines, Ctrl-C drops the line, Ctrl-L clears the screen"""
 OWN_WORDS = ("help", "exit", "quit", ":state", ":why")
+OPTIONS = tuple(dict.fromkeys([*(key for it in PATTERNS for key in settings_of(it)), *(key for it in PORT_OPTIONS.values() for key in it)]))
 
 
 def history_file() -> Path:
@@ -29,8 +45,15 @@ def history_file() -> Path:
     return Path(state) / "kohepuri" / "history"
 
 
+def help_on(word: str) -> str:
+    if not word:
+        return f"{help_on_all()}\n{WORDS}"
+    told = help_on_verb(VERBS[word]) if word in VERBS else help_on_option(word.rstrip("="))
+    return told or f'no command or option "{word}"{meant(word.encode(), [*VERBS, *OPTIONS])}'
+
+
 class Completion:
-    """What may stand at the end of a line that is being typed, by the grammar and by what lives."""
+    """What a line that is being typed may go on with, by the grammar and by what lives."""
 
     def __init__(self, follower):
         self.follower = follower
@@ -40,7 +63,7 @@ class Completion:
         return [name for letter in letters for name, _ in watched.living(letter)]
 
     def names(self) -> list[str]:
-        """The names of services that there are."""
+        """The names of the services that exist."""
         return sorted({name.decode("latin-1") for _, name in self.follower.catch_up().machine.names.phases})
 
     def of_options(self, verb: str, pattern: str | None, words: list[str], begun: str) -> list[str]:
@@ -69,7 +92,7 @@ class Completion:
         if not words:
             found = [*VERBS, *OWN_WORDS]
         elif words[0] == "help":
-            found = list(VERBS) if len(words) == 1 else []
+            found = [*VERBS, *OPTIONS] if len(words) == 1 else []
         elif words[0] in VERBS:
             operands = VERBS[words[0]].operands
             kind = operands[min(len(words), len(operands)) - 1] if operands else None
@@ -93,7 +116,7 @@ class Prompt:
         self.tell(f"Kohepuri {VERSION}: one command a line; `help` lists them, Tab completes, Ctrl-D ends")
 
     def begin(self):
-        """Takes readline, where both ends are a terminal and Python has it."""
+        """Uses readline, if both ends are a terminal and Python has it."""
         if not (sys.stdin.isatty() and sys.stdout.isatty()):
             return
         with contextlib.suppress(ImportError):
@@ -124,7 +147,7 @@ class Prompt:
     def read(self) -> bytes | None:
         """The next line with its newline, or what there is of it at the end of the input; None at the end."""
         if self.readline:
-            # A word that was completed has a space behind it, which would make the line faulty.
+            # A word that was completed has a space after it, which would make the line faulty.
             return os.fsencode(input(PROMPT).strip(" ")) + b"\n"
         print(PROMPT, end="", file=sys.stderr, flush=True)
         return sys.stdin.buffer.readline() or None
@@ -132,16 +155,17 @@ class Prompt:
     def answer(self, line: str) -> bool:
         """Answers a line that is the prompt's own, and returns whether it was."""
         word, _, of = line.partition(" ")
-        if word == "help" and of in VERBS:
-            self.tell(help_on_verb(VERBS[of]))
-        elif word == "help":
-            self.tell(f"{help_on_all()}\n{WORDS}" if not of else f"no command {of}: `help` lists them")
+        near = meant(word.encode(), [*VERBS, *OWN_WORDS]) if word not in VERBS else ""
+        if word in ("help", "?"):
+            self.tell(help_on(of.strip()))
         elif line == ":state":
             from tool.state import snapshot, told
 
             self.tell(told(snapshot(self.follower.catch_up())))
         elif line == ":why":
             self.tell(self.notes.last or "no line was skipped, refused or faulty so far")
+        elif any(f'"{it}"' in near for it in OWN_WORDS):
+            self.tell(f'no command "{word}"{near}')
         elif line.startswith(":"):
             self.tell(WORDS)
         else:

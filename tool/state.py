@@ -1,4 +1,4 @@
-"""What lives on a hub, as the plain model has it: for `:state`, for the page and for the picture."""
+"""What lives on a hub, by the Python model: for `:state`, for the page and for the picture."""
 from __future__ import annotations
 
 from typing import Any
@@ -10,7 +10,7 @@ KINDS = {"n": "node", "f": "factory", "p": "publisher", "s": "subscriber", "l": 
 
 
 class Watched:
-    """A plain model of which all that was ever made keeps its name, also what has ended."""
+    """A Python model of which all that was ever made keeps its name, also what has ended."""
 
     def __init__(self):
         self.machine = Machine()
@@ -26,7 +26,7 @@ class Watched:
         return reply
 
     def name(self, value) -> str:
-        """What something goes by, and whether it has ended."""
+        """The name of something that was made, also after its end."""
         return self.names.get(id(value), "?")
 
     def living(self, letter: str) -> list[tuple[str, Any]]:
@@ -50,11 +50,11 @@ def setting(value) -> str:
 
 
 def services(watched: Watched) -> list[dict]:
-    """Each service with its settings, who is in, and the factories by which the script has it open."""
+    """Each service with its settings, its nodes, and the factories by which the script has it open."""
     factories = watched.living("f")
     found = []
     for (pattern, name), phase in watched.machine.names.phases.items():
-        told = {"pattern": pattern, "name": text_of(name)}
+        told: dict = {"pattern": pattern, "name": text_of(name)}
         if isinstance(phase, Life):
             told["phase"] = f"emptied by {node_name(phase.emptied_by)}" if phase.emptied_by else "open"
             told["settings"] = {key: setting(phase.agreed[key]) for key, *_ in SETTINGS[pattern]}
@@ -195,7 +195,7 @@ def told(state: dict) -> str:
         lines += service_told(it)
     lines += [publisher_told(it) for it in state["publishers"]]
     for it in state["subscribers"]:
-        lines.append(f"{it['name']} of {it['factory']}, {it['service']}: room for {it['buffer']} in each mailbox")
+        lines.append(f"{it['name']} of {it['factory']}, {it['service']}: capacity {it['buffer']} per mailbox")
         lines += [f"  {mailbox_told(box, it['buffer'])}" for box in it["mailboxes"]]
     lines += [f"{it['name']} of {it['publisher']}: {values_shown(it['values'])}" for it in state["loans"]]
     for it in state["samples"]:

@@ -1,0 +1,150 @@
+"""The picture and the page that plays a conversation, and the prompt's help. By the Python model."""
+import json
+import re
+import shutil
+import subprocess
+import sys
+import tempfile
+import xml.etree.ElementTree as ElementTree
+from itertools import combinations
+from pathlib import Path
+
+from cases.kit import LONG, TOP, NotHere, Ran, case, expect, expect_in, talk
+
+# Many messages in few rows, of long values, to two subscribers; some are lost, some no mailbox took, some still wait.
+DENSE = """node
+create n1 ps A buffer=2 sequence=1
+subscriber f1
+subscriber f1
+publisher f1 slice=6
+publisher f1 slice=6
+put p1 4 5 6
+put p1 7 8 9
+put p1 10 11 12
+put p1 13 14 15 16 17 18
+receive s1
+receive s2
+receive s1
+receive s2
+put p1 1 2 3
+put p2 1 2 3
+put p2 4 4 4
+put p2 5 5 5
+put p1 7 7 7
+put p1 8 8 8
+leave s1
+leave s2
+put p1 9 9 9 9 9 9
+put p2 18446744073709551615 18446744073709551615 18446744073709551615
+subscriber f1
+put p1 5
+put p1 5
+put p2 5
+put p2 5
+"""
+# A letter of a label in a browser, in pixels.
+LETTER = 6.6
+MISSED = TOP / "examples" / "rows" / "what-was-missed-shows-in-the-numbers.iox"
+
+
+def labels(picture):
+    """The text and the box of each message's label."""
+    for it in ElementTree.fromstring(picture).iter("{http://www.w3.org/2000/svg}text"):
+        if it.get("class", "").startswith("value"):
+            x, y, wide = float(it.get("x")), float(it.get("y")), LETTER * len(it.text)
+            left = x - wide if it.get("text-anchor") == "end" else x
+            yield it.text, left, y - 9, left + wide, y + 2
+
+
+@case
+def labels_of_dense_rows_do_not_overlap():
+    ran = Ran("--model", "-q", "--svg", "-", given=DENSE.encode())
+    found = [*labels(ran.out)]
+    width = int(ElementTree.fromstring(ran.out).get("width"))
+    expect((len(found) >= 20, sum(it[0].startswith("[") for it in found) >= 20), (True, True))
+    expect([it for it in found if it[1] < 0 or it[3] > width], [])
+    overlapping = [(a[0], b[0]) for a, b in combinations(found, 2) if a[1] < b[3] and b[1] < a[3] and a[2] < b[4] and b[2] < a[4]]
+    expect(overlapping, [])
+
+
+@case
+def the_page_has_reasons_and_what_was_missed():
+    given = MISSED.read_bytes() + b"put p9 1\nnonsense\nopen n1 ps B\n"
+    page = Ran("--model", "-q", "--html", "-", given=given).out.decode()
+    told = json.loads(re.search(r'<script id="told" type="application/json">(.*?)</script>', page, re.S)[1])
+    notes = {row["line"]: row["note"] for row in told["rows"][-3:]}
+    expect([notes["put p9 1"], notes["nonsense"]], ["p9 doesn't exist", '"nonsense" isn\'t a command'])
+    expect(len(notes["open n1 ps B"]) > 5, True)
+    expect([row["missed"] for row in told["rows"] if row["missed"]], ["1 message of p1 is missing before this one"])
+
+
+# What a reader does, and what is to be seen then: `seen` is what the page's title becomes.
+PROBE = """<script>
+addEventListener("load", () => setTimeout(() => {
+  const seen = [location.hash];
+  for (const id of ["first", "on", "on", "last"]) { get(id).click(); seen.push(location.hash); }
+  location.hash = "#5";
+  setTimeout(() => {
+    seen.push(get("count").textContent);
+    get("last").click();
+    seen.push([...document.querySelectorAll("#script li:not(.later) .why")].map(it => it.textContent).join(" / "));
+    seen.push(document.querySelector(".reply.bad wbr") !== null);
+    seen.push(document.documentElement.scrollWidth <= innerWidth);
+    const list = get("script").getBoundingClientRect(), state = get("state").getBoundingClientRect();
+    seen.push(innerWidth > 760 || (list.top >= 0 && state.bottom <= innerHeight + 1 && state.height > 100 && list.height > 100));
+    seen.push(getComputedStyle(document.body).backgroundColor);
+    document.title = seen.join("; ");
+  }, 100);
+}, 100));
+</script>"""
+
+
+@case
+def the_page_plays_in_a_browser():
+    browser = next(filter(None, map(shutil.which, ("chromium", "chromium-browser", "google-chrome"))), None)
+    if browser is None:
+        raise NotHere("no Chromium")
+    given = MISSED.read_bytes() + b"open n1 ps ALongNameOfAServiceThatIsNotThere\n"
+    page = Ran("--model", "-q", "--html", "-", given=given).out.decode()
+    with tempfile.TemporaryDirectory(prefix="iox-check-") as folder:
+        file = Path(folder) / "page.html"
+        file.write_text(page.replace("</body>", f"{PROBE}</body>"), encoding="utf-8")
+        for width, is_dark in ((500, True), (1440, False)):
+            words = ["--headless", "--no-sandbox", "--disable-gpu", f"--user-data-dir={folder}/user", f"--window-size={width},800"]
+            words += ["--virtual-time-budget=5000", f"--blink-settings=preferredColorScheme={0 if is_dark else 1}", "--dump-dom"]
+            seen = subprocess.run([browser, *words, f"{file.as_uri()}#3"], capture_output=True, text=True, timeout=LONG).stdout
+            title = re.search(r"<title>(.*?)</title>", seen)
+            why = "1 message of p1 is missing before this one / "
+            ground = "rgb(22, 24, 28)" if is_dark else "rgb(255, 255, 255)"
+            expect(title and re.sub(r"(?<= / ).*?(?=; true)", "..", title[1]), f"#3; #1; #2; #3; #14; line 5 of 14; {why}..; true; true; true; {ground}")
+
+
+@case
+def the_prompt_helps_with_options_and_near_words():
+    typed = [b"?\n", b"help history\n", b"help slots\n", b"help histry\n", b"quitt\n", b":stat\n", b"node\n", b"quit\n"]
+    with tempfile.TemporaryDirectory(prefix="iox-check-") as folder:
+        status, screen = talk([sys.executable, TOP / "iox", "--model"], typed, {"XDG_STATE_HOME": folder})
+        expect(status, 0)
+        for it in (
+            "iox> ?\nOne command a line, one reply a line.",
+            "words of the prompt:\n",
+            "iox> help history\nhistory=\n  of ps services (create, open, open_or_create): number of messages that a publisher keeps",
+            "; a number, default 0\n",
+            "iox> help slots\nslots=\n  of a publisher: number of messages that fit in memory",
+            'iox> help histry\nno command or option "histry"; did you mean "history"?\n',
+            'iox> quitt\nno command "quitt"; did you mean "quit"?\n',
+            'iox> :stat\nno command ":stat"; did you mean ":state"?\n',
+            "iox> node\nok n1\n",
+        ):
+            expect_in(it, screen)
+
+
+@case
+def help_on_each_option_is_there():
+    from tool.grammar import MEANINGS, help_on_option
+    from tool.prompt import OPTIONS
+
+    expect(sorted(OPTIONS), sorted(MEANINGS))
+    for it in OPTIONS:
+        expect_in("default" if it not in ("buffer", "slice", "slots") else f"{it}=", help_on_option(it))
+    expect(help_on_option("nothing"), None)
