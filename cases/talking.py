@@ -21,6 +21,7 @@ from cases.kit import (
     expect,
     expect_in,
     on_terminal,
+    takes_long,
     tries_unproved,
 )
 
@@ -152,6 +153,7 @@ def a_read_fault_ends_with_status_1():
 
 
 @case
+@takes_long
 def each_read_or_write_of_an_example_that_fails_leaves_the_replies_before_it():
     given, wanted = [], []
     for script in sorted((TOP / "examples").rglob("*.iox")):
@@ -193,6 +195,7 @@ def a_random_script_gets_the_models_replies():
 
 
 @case_of_program
+@takes_long
 def scripts_with_foreign_steps_before_each_access_get_the_models_replies():
     with tempfile.TemporaryDirectory(prefix="iox-check-") as folder:
         made = [TOP / "model" / "hostile_scripts.py", "54", "200", Path(folder) / "hostile"]
