@@ -80,7 +80,7 @@ def each_public_item_is_on_the_page_of_its_crate():
 
 @case
 def each_crate_has_an_api_page_that_the_index_leads_to():
-    expect({it.split(".")[0] for it in pages() if it.count(".") == 1 and it.endswith(".html")}, {*libraries(), "index"})
+    expect({it.split(".")[0] for it in pages() if it.count(".") == 1 and it.endswith(".html")}, {*libraries(), "contracts", "index"})
     expect({it for it in re.findall(r'<td><a href="(\w+)\.html"', pages()["index.html"])}, libraries())
 
 

@@ -5,7 +5,7 @@ Usage: docs/api.py [FOLDER]    writes the pages into a folder, `out/api` where n
        docs/api.py --lacking   lists the public functions of ports, builders and hubs without an example, and counts them;
                                status 1 where an example calls what isn't there
 
-It reads crates.txt, the sources and definitions of crates/, docs/CRATES.md, docs/DEFINITIONS.md and docs/CONTRACTS.md. The pages need no
+It reads crates.txt, the sources and definitions of crates/, docs/CRATES.md, docs/DEFINITIONS.md and docs/notes/WORDS.md. The pages need no
 network, and can be copied anywhere. A folder that has other files is left alone.
 """
 
@@ -16,6 +16,7 @@ from pathlib import Path
 
 sys.dont_write_bytecode = True
 
+from api.contracts import contracts_page
 from api.examples import faults, lacking
 from api.library import TOP, Library
 from api.pages import CratePage, definitions_page, index_page
@@ -58,9 +59,13 @@ def write_pages(folder):
         if of_words:
             names.append((f"{crate.name}.definitions.html", of_words))
             (folder / f"{crate.name}.definitions.html").write_text(html, encoding="utf-8")
+    html, of_contracts = contracts_page(words)
+    names.append(("contracts.html", [("Definitions that contracts name", "mod", "page-content")]))
+    (folder / "contracts.html").write_text(html, encoding="utf-8")
     write_names(folder, names)
     (folder / "index.html").write_text(index_page(library, counts), encoding="utf-8")
-    print(f"{folder / 'index.html'}: {len(counts)} crates, {sum(counts.values())} items, {sum(len(of_it) for _, of_it in names)} names")
+    of_names = sum(len(of_it) for _, of_it in names)
+    print(f"{folder / 'index.html'}: {len(counts)} crates, {sum(counts.values())} items, {of_names} names, {of_contracts} definitions")
 
 
 def main(words):

@@ -1,9 +1,10 @@
 #!/usr/bin/env python3
-"""Compares docs/DEFINITIONS.md and docs/CONTRACTS.md with the definitions that the clauses of public functions reach.
+"""Compares docs/DEFINITIONS.md and docs/notes/WORDS.md with the definitions that the clauses of public functions reach.
 
-Usage: docs/definitions.py             says what the pages lack, and what they name that isn't reached or isn't there
-       docs/definitions.py --rows      prints a row for each definition that the pages lack, from its comment
+Usage: docs/definitions.py             says which definition has no sentence, and what the pages name that isn't reached or isn't there
        docs/definitions.py --counted   prints the rows of the definitions that are counted, in reading order
+
+Each definition that such a clause reaches has a sentence: the comment above it, or a row of WORDS.md. `docs/api.py` writes a page of them.
 
 The clauses are those of `requires` and `ensures`, and the ghost members of traits and of their implementations. Views,
 invariants and functions that aren't public count only for what the pages may name beyond that. A clause reaches what it names by
@@ -24,15 +25,16 @@ from pathlib import Path
 DOCS = Path(__file__).resolve().parent
 CRATES = DOCS.parent / "crates"
 PAGE = DOCS / "DEFINITIONS.md"
-# The definitions of all other contracts.
-OTHERS = DOCS / "CONTRACTS.md"
+# What no comment says: of definitions without one, of several together, and of a crate's definitions.
+WORDS = DOCS / "notes" / "WORDS.md"
+SUBJECTS = "## What the definitions of a crate are about"
 NAME = r"[^\s:(){}\[\],;.`]+"
 USE = re.compile(rf"^\s*(?:pub |ghost )*use (Rattle(?:\.{NAME})+?)(?:\.\{{([^}}]*)\}})?(?: as ({NAME}))?;?$", re.M)
 DEFINITION = re.compile(rf"^ *(?:abbrev pub|unfoldable pub|pub record|pub data|@mutual) ({NAME})", re.M)
 # Definitions that name each other are indented below this line.
 MUTUAL = re.compile(r"^abbrev mutual\n((?:(?:  .*)?\n)*)", re.M)
 VISIBLE = r"(?:pub(?:\(crate\))? )?"
-# In place of a comment: a page lists such a name where it is defined, and needn't where it is handed on.
+# In place of a comment: such a name has its sentence where it is defined.
 HANDED_ON = "handed on"
 # What ties a type to its model: no caller's clause names it.
 OF_MODELS = {"view", "invariant"}
@@ -259,6 +261,11 @@ def counted(known):
     return found, [it for it in (sentence, typed, turns) if it]
 
 
+def crates_in_order():
+    """Returns the crates in the order of crates.txt."""
+    return re.findall(r"(?m)^(\w+)[^:\n]*:", (DOCS.parent / "crates.txt").read_text(encoding="utf-8"))
+
+
 def modules(crate):
     """Returns the spec files of a crate in the order in which it names them."""
     return re.findall(r"(?m)^pub mod (\w+)", (CRATES / crate / "specs" / "Lib.antt").read_text())
@@ -326,12 +333,12 @@ def listed(known):
     """
     found, strange, crate = set(), [], ""
     order = list(known)
-    lines = [(page.name, number, line) for page in (PAGE, OTHERS) for number, line in enumerate(page.read_text().splitlines(), 1)]
+    lines = [(page.name, number, line) for page in (PAGE, WORDS) for number, line in enumerate(page.read_text().splitlines(), 1)]
     for page, number, line in lines:
         head = re.match(r"## .*\(`crates/(\w+)/specs`\)", line)
         crate = head[1] if head else crate
         cells = [it.strip() for it in line.split(" | ")]
-        if not line.startswith("|") or len(cells) != 3 or cells[0] in ("| Definition", "|---|---|---|"):
+        if not line.startswith("|") or len(cells) != 3 or cells[0] in ("| Definition", "| Definitions", "|---|---|---|"):
             continue
         files, crate = files_of(cells[2], crate)
         for first, last in re.findall(r"`([^`]+)`(?: \.\. `([^`]+)`)?", cells[0]):
@@ -348,7 +355,7 @@ def listed(known):
 
 
 def main(words):
-    if words not in ([], ["--rows"], ["--counted"]):
+    if words not in ([], ["--counted"]):
         sys.exit(__doc__)
     known = definitions()
     read, counts = counted(known)
@@ -359,14 +366,10 @@ def main(words):
     wanted = reached(known)
     allowed = wanted | reached(known, all_of_them=True)
     on_page, strange = listed(known)
-    missing = [it for it in known if it in wanted - on_page and known[it][0] != HANDED_ON]
+    missing = [it for it in known if it in wanted - on_page and not known[it][0]]
     extra = [it for it in known if it in on_page - allowed]
-    if words:
-        for it in missing:
-            print(row(known, it))
-        return 0
     for it in missing:
-        print(f"missing: {it[2]} of {it[0]}/specs/{it[1]}.antt")
+        print(f"without a sentence: {it[2]} of {it[0]}/specs/{it[1]}.antt")
     for it in extra:
         print(f"not reached: {it[2]} of {it[0]}/specs/{it[1]}.antt")
     for it in strange:
@@ -379,7 +382,7 @@ def main(words):
         faults.append(f"{len(read)} definitions are counted, and may be {MOST} at most")
     for it in faults:
         print(it)
-    print(f"{len(wanted)} definitions reached, {len(missing)} of them not listed; {len(read)} counted")
+    print(f"{len(wanted)} definitions reached, {len(missing)} of them without a sentence; {len(read)} counted")
     print(f"{len(extra)} listed and not reached, {len(strange)} unknown")
     return 1 if missing or extra or strange or faults else 0
 

@@ -339,7 +339,8 @@ def index_page(library, counts):
     """The crates by their families."""
     parts = [
         "<h1>API</h1><p>Each crate has a page: its items with their signatures, what they do, and the contract that is proved of them. "
-        "A definition that a contract names leads to a sentence that says it in plain words.</p>"
+        "A definition that a contract names leads to a sentence that says it in plain words; "
+        '<a href="contracts.html">one page</a> has them all.</p>'
         "<p>Keys: <kbd>/</kbd> goes to the search box, <kbd>↓</kbd> and <kbd>↑</kbd> choose, <kbd>Enter</kbd> opens, "
         "<kbd>Esc</kbd> closes.</p>"
     ]

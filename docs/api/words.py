@@ -18,15 +18,15 @@ DECLARED = re.compile(
 
 
 def sentences(known):
-    """What docs/DEFINITIONS.md and docs/CONTRACTS.md say of each definition that has a row there."""
+    """What docs/DEFINITIONS.md and docs/notes/WORDS.md say of each definition that has a row there."""
     found, crate, of_file = {}, "", {}
     for it in known:
         of_file.setdefault(it[:2], []).append(it)
-    for line in "\n".join(it.read_text(encoding="utf-8") for it in (definitions.PAGE, definitions.OTHERS)).splitlines():
+    for line in "\n".join(it.read_text(encoding="utf-8") for it in (definitions.PAGE, definitions.WORDS)).splitlines():
         head = re.match(r"## .*\(`crates/(\w+)/specs`\)", line)
         crate = head[1] if head else crate
         cells = [it.strip() for it in line.split(" | ")]
-        if not line.startswith("|") or len(cells) != 3 or cells[0] in ("| Definition", "|---|---|---|"):
+        if not line.startswith("|") or len(cells) != 3 or cells[0] in ("| Definition", "| Definitions", "|---|---|---|"):
             continue
         files, crate = definitions.files_of(cells[2], crate)
         for first, last in re.findall(r"`([^`]+)`(?: \.\. `([^`]+)`)?", cells[0]):
