@@ -14,6 +14,8 @@ from cases.kit import TOP, case, expect, expect_in
 
 SCRIPT = TOP / "docs" / "api.py"
 LOCK = threading.Lock()
+# How many words a page for users may have.
+MOST_WORDS = {"README.md": 900, "docs/TOOL.md": 1400, "docs/USING.md": 4000}
 # A call, what its contract names, and what is said of that: the row on docs/DEFINITIONS.md, and the file.
 SAID = [
     ("iox_hub_base", "hub.Hub.new", "Hubs.IsNewHub", "A hub without nodes and services."),
@@ -109,6 +111,35 @@ def the_search_of_the_api_pages_has_each_item_and_definition():
 
 
 @case
+def what_programs_name_comes_first_on_the_api_pages():
+    first = json.loads(pages()["first.js"].removeprefix("const FIRST=").rstrip(";\n"))
+    for page, places in first.items():
+        ids = [html.unescape(it) for it in re.findall(r' id="([^"]*)"', pages()[page])]
+        expect((page, {*places} - {*ids}), (page, set()))
+    start = re.search(r'<section id="start-here">.*?</section>', pages()["index.html"], re.S)[0]
+    expect(pages()["index.html"].index(start) < pages()["index.html"].index("<table"), True)
+    prelude = (TOP / "crates" / "iox_hub" / "src" / "prelude.rt").read_text(encoding="utf-8")
+    uses = re.findall(r"(?m)^pub use \w+(?:::\w+)*::(?:\{([^}]*)\}|(\w+);)", prelude)
+    handed_on = {it for use in uses for it in re.findall(r"\w+", " ".join(use))}
+    expect(handed_on - {"slice", "Global"} - {*re.findall(r"<code>(\w+)</code>", start)}, set())
+    for page, place in (("iox_delivery.html", "publisher.Publisher"), ("iox_hub_base.html", "hub.Hub")):
+        expect_in(place, first[page])
+    for other in ("iox_lanes_base.html", "iox_domain_ports.html"):
+        expect(other in first, False)
+
+
+@case
+def each_whole_example_stands_at_its_call():
+    sys.path.insert(0, str(TOP / "docs"))
+    from api.whole import whole_examples
+
+    for (crate, place), code in whole_examples().items():
+        of_call = re.search(rf'<section class="call" id="{re.escape(place)}".*?</section>', pages()[f"{crate}.html"], re.S)[0]
+        shown = html.unescape(re.sub(r"<[^>]*>", "", " ".join(re.findall(r'<pre class="example".*?</pre>', of_call, re.S))))
+        expect_in(code, shown)
+
+
+@case
 def a_contract_of_the_api_pages_says_what_its_definitions_mean():
     for crate, call, definition, said in SAID:
         page = pages()[f"{crate}.html"]
@@ -181,18 +212,19 @@ def api_pages_are_not_written_among_other_files():
         expect([it.name for it in Path(folder).iterdir()], ["mine.html"])
 
 
-def sentences(page):
-    """The sentences of a page, without its code: of paragraphs, items of lists and cells of tables."""
-    text = re.sub(r"(?s)```.*?```", "\n\n", page)
-    for block in re.split(r"\n\s*\n|\n(?=[-*|#>] ?|\d+\. )", text):
-        for cell in re.split(r"(?<!\\)\|", " ".join(block.split())):
-            yield from re.split(r"(?<=[.!?])[*`)\"]*\s+(?=[A-Z*`\"(\[0-9])", re.sub(r"^([-*] |#+ |\d+\. )", "", cell))
+@case
+def users_pages_have_no_more_words_than_they_may():
+    """As `wc -w` counts them."""
+    counts = {it: len((TOP / it).read_text(encoding="utf-8").split()) for it in MOST_WORDS}
+    expect({it: count for it, count in counts.items() if count > MOST_WORDS[it]}, {})
+
+
+# Pages for users.
+LINKED = [*MOST_WORDS, *(f"docs/{it}.md" for it in "FAQ ERRORS FORMATS GLOSSARY PREMISES DIFFERENCES".split()), "examples/README.md"]
 
 
 @case
-def the_first_pages_have_short_sentences_and_the_first_few_words():
-    expect(len((TOP / "README.md").read_text(encoding="utf-8").split()) <= 900, True)
-    for page in ("README.md", "docs/USING.md", "docs/TOOL.md", "docs/FAQ.md", "docs/GLOSSARY.md"):
-        for sentence in sentences((TOP / page).read_text(encoding="utf-8")):
-            words = [it for it in sentence.split() if re.search(r"\w", it)]
-            expect((page, sentence * (len(words) > 25)), (page, ""))
+def users_pages_name_other_pages_by_links():
+    for page in LINKED:
+        plain = re.sub(r"(?ms)^```.*?^```$", "", (TOP / page).read_text(encoding="utf-8"))
+        expect((page, re.findall(r"(?<!\[)`((?:docs|examples|bench)/\w+\.md)`", plain)), (page, []))

@@ -154,7 +154,7 @@ def numbers_that_count_as_larger_ones_are_told():
 @case
 def verbose_says_what_an_error_means_and_what_to_do():
     ran = Ran("-v", "--model", given=b"node\nopen n1 ps A\n")
-    expect(ran.err.decode(), "line 2: open n1 ps A\nline 2: a look shows nothing: create it, or open_or_create\n")
+    expect(ran.err.decode(), "line 2: open n1 ps A\nline 2: no service of this name exists: create it, or open_or_create\n")
 
 
 @case
@@ -162,15 +162,15 @@ def each_error_has_the_meaning_of_its_own_row():
     from tool.meanings import meaning_of
 
     for error, meaning in (
-        ("PublishSubscribeCreateError::InternalFailure", "a setting is beyond the limits (then no access is made)"),
-        ("EventOpenError::DoesNotSupportRequestedAmountOfNodes", "the service has room for fewer nodes than asked: ask for fewer"),
+        ("PublishSubscribeCreateError::InternalFailure", "a setting is beyond the limits (the storage isn't used then)"),
+        ("EventOpenError::DoesNotSupportRequestedAmountOfNodes", "the service allows fewer nodes than asked for: ask for fewer"),
         ("EventOpenOrCreateError::EventOpenError(IncompatibleDeadline)", "the service has another deadline: ask for the same"),
         (
             "PublishSubscribeOpenError::IncompatibleSequenceNumbers",
             "the service has another sequence_numbers (option sequence): ask for the same",
         ),
-        ("SendError::LoanError(OutOfMemory)", "each slot is in use, or a longer slice finds no segment"),
-        ("ReceiveError::ExceedsMaxBorrows", "a message waits, and of each connection with one as many samples are held as may be"),
+        ("SendError::LoanError(OutOfMemory)", "every slot is in use, or no segment can be opened for a longer slice"),
+        ("ReceiveError::ExceedsMaxBorrows", "every publisher with a waiting message has reached its limit of held samples"),
     ):
         expect_in(meaning, ": ".join(meaning_of(f"err {error}")[2:]))
     replies = (TOP / "crates" / "iox" / "stdout").read_text(encoding="latin-1").splitlines()

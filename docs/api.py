@@ -44,6 +44,15 @@ def write_names(folder, names):
     (folder / "names.js").write_text(f"const NAMES={json.dumps(rows, ensure_ascii=False, separators=(',', ':'))};\n", encoding="utf-8")
 
 
+def write_first(folder, library):
+    """What the search puts first: by page the places of the items that programs name."""
+    places = {}
+    for it in library.places_of_users():
+        places.setdefault(f"{it.crate}.html", set()).add(it.anchor)
+    rows = {page: sorted(of_page) for page, of_page in places.items()}
+    (folder / "first.js").write_text(f"const FIRST={json.dumps(rows, separators=(',', ':'))};\n", encoding="utf-8")
+
+
 def write_pages(folder):
     for name in (MARK, "style.css"):
         shutil.copyfile(PARTS / name, folder / name)
@@ -63,6 +72,7 @@ def write_pages(folder):
     names.append(("contracts.html", [("Definitions that contracts name", "mod", "page-content")]))
     (folder / "contracts.html").write_text(html, encoding="utf-8")
     write_names(folder, names)
+    write_first(folder, library)
     (folder / "index.html").write_text(index_page(library, counts), encoding="utf-8")
     of_names = sum(len(of_it) for _, of_it in names)
     print(f"{folder / 'index.html'}: {len(counts)} crates, {sum(counts.values())} items, {of_names} names, {of_contracts} definitions")

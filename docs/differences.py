@@ -195,7 +195,7 @@ def lists(names, table):
     """The lists that a table makes, and what it says wrongly."""
     parts, faults = [], []
     for heading, entries in read_table(table).items():
-        parts += [f"### {heading}\n", "| iceoryx2 | here | note |", "|---|---|---|"]
+        parts += [f"### {heading}\n", "| iceoryx2 | Kohepuri | note |", "|---|---|---|"]
         for entry in entries:
             try:
                 compare(names, entry)

@@ -113,6 +113,9 @@ def read_modules(name):
 
 
 class Library:
+    # The crate that programs depend on.
+    FIRST = "iox_hub"
+
     def __init__(self):
         self.families, self.first_calls = families()
         self.crates = {}
@@ -161,6 +164,12 @@ class Library:
         """Where the pages show what a path stands for, if it is public; of `Type::call` the type."""
         found = self.resolve(module, path)
         return self._place_by_item.get(id(found[1])) if isinstance(found, tuple) else None
+
+    def places_of_users(self):
+        """The items that programs name: those of the first crate, and those that it hands on."""
+        crate = self.crates[self.FIRST]
+        handed_on = [self.place(it, path) for it in crate.modules.values() if it.is_public for path in it.handed_on.values()]
+        return [*crate.places, *(it for it in handed_on if it and it.crate != crate.name)]
 
     # ---- places
 

@@ -5,6 +5,7 @@ from html import escape
 
 from api import reading, text
 from api.text import anchor
+from api.whole import whole_examples
 from api.words import clause_html, file_text, href_of, path_of
 
 OF_TYPES = ("struct", "enum", "trait", "type")
@@ -22,6 +23,7 @@ def page(title, body, contents=""):
 <title>{escape(title)}</title>
 <link rel="stylesheet" href="style.css">
 <script src="names.js" defer></script>
+<script src="first.js" defer></script>
 <script src="search.js" defer></script>
 </head>
 <body{' class="with-contents"' * bool(contents)}>
@@ -56,6 +58,7 @@ class CratePage:
         # What the search finds here: its name, its kind, where it is.
         self.names = []
         self.ids = set()
+        self.whole = {place: code for (name, place), code in whole_examples().items() if name == crate.name}
         self.in_crate = self._names_of_crate()
 
     def _names_of_crate(self):
@@ -136,9 +139,15 @@ class CratePage:
         owner = before.rpartition(".")[2]
         self.names.append((f"{owner}::{item.name}" if owner[:1].isupper() else item.name, item.kind, here))
         head = "\n".join([*(it for it in item.attributes if "must_use" in it), item.head])
-        body = self.doc(module, item.doc, owner) + self.contract(item, module, own)
+        body = self.doc(module, item.doc, owner) + self.whole_example(here, module) + self.contract(item, module, own)
         title = f'<h4><a class="here" href="#{here}">{escape(item.name)}</a></h4>'
         return f'<section class="call" id="{here}" data-item="{item.kind}">{title}{self.signature(head, module)}{body}</section>'
+
+    def whole_example(self, here, module):
+        """A whole function with this call, where there is one."""
+        if here not in self.whole:
+            return ""
+        return f'<pre class="example" tabindex="0"><code>{text.code(self.whole[here], self.code_link(module))}</code></pre>'
 
     def entries(self, place):
         """The fields of a struct that are public, or the variants of an enum."""
@@ -344,6 +353,7 @@ def index_page(library, counts):
         "<p>Keys: <kbd>/</kbd> goes to the search box, <kbd>↓</kbd> and <kbd>↑</kbd> choose, <kbd>Enter</kbd> opens, "
         "<kbd>Esc</kbd> closes.</p>"
     ]
+    parts.append(start_here(library))
     for family, of_it in library.families.items():
         rows = []
         for name, said in of_it.items():
@@ -354,6 +364,23 @@ def index_page(library, counts):
         shown = f'<div class="wide"><table class="crates">{head}<tbody>{"".join(rows)}</tbody></table></div>'
         parts.append(f'<section id="{family.lower()}"><h2>{family}</h2>{shown}</section>')
     return page("API of all crates", "\n".join(parts))
+
+
+def start_here(library):
+    """What a program needs first: the names of the prelude, and the other modules of the crate that programs depend on."""
+    users = library.crates[library.FIRST]
+    prelude = users.modules[("prelude",)]
+    named = [(name, library.place(prelude, path)) for name, path in prelude.handed_on.items()]
+    names = "".join(f"<li>{anchor(place.href, f'<code>{escape(name)}</code>')}</li>" for name, place in named if place)
+    modules = [it for it in users.modules.values() if it.is_public and len(it.path) == 1]
+    shown = ", ".join(anchor(f"{users.name}.html#{it.name}", f"<code>{it.name}</code>") for it in modules)
+    crate, of_prelude = (anchor(href, f"<code>{name}</code>") for href, name in (
+        (f"{users.name}.html", users.name), (f"{users.name}.html#prelude", f"{users.name}::prelude"),
+    ))
+    return (
+        f'<section id="start-here"><h2>Start here</h2><p>Programs depend on {crate}. {of_prelude} has what a first program needs:</p>'
+        f'<ul class="names">{names}</ul><p>Modules of {crate}: {shown}.</p></section>'
+    )
 
 
 def item_href(library, crate, name):

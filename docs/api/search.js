@@ -1,4 +1,5 @@
-// Finds names of items and definitions; NAMES of names.js has them by their pages. No network is used.
+// Finds names of items and definitions: NAMES of names.js has them by their pages, and FIRST of first.js what programs name.
+// No network is used.
 "use strict";
 (() => {
   const box = document.getElementById("page-search");
@@ -8,11 +9,20 @@
   // Of names that are equally near, types come first.
   const ORDER = ["crate", "struct", "enum", "trait", "type", "fn", "const", "variant", "mod", "definition"];
   const rows = [];
+
+  // Whether programs name the item at a place, or the item that it is a member of.
+  function isFirst(places, at) {
+    for (let it = at; it; it = it.slice(0, Math.max(it.lastIndexOf("."), 0))) if (places.has(it)) return true;
+    return false;
+  }
+
   for (const [page, names] of NAMES) {
+    const places = new Set(FIRST[page]);
     for (const [name, kind, at] of names) {
       const last = name.slice(name.lastIndexOf(":") + 1);
       const href = page + "#" + (at || name);
-      rows.push({ name, kind, href, page: page.split(".")[0], low: name.toLowerCase(), last: last.toLowerCase() });
+      const near = isFirst(places, at || name) ? -1.5 : 0;
+      rows.push({ name, kind, href, near, page: page.split(".")[0], low: name.toLowerCase(), last: last.toLowerCase() });
     }
   }
   let chosen = -1;
@@ -31,7 +41,7 @@
     const found = [];
     for (const row of rows) {
       const far = words.map((word) => (row.page.includes(word) && words.length > 1 ? 0.5 : distance(row, word)));
-      if (far.every((it) => it >= 0)) found.push([far.reduce((a, b) => a + b, 0) + ORDER.indexOf(row.kind) / 20, row]);
+      if (far.every((it) => it >= 0)) found.push([far.reduce((a, b) => a + b, row.near) + ORDER.indexOf(row.kind) / 20, row]);
     }
     found.sort(([a, one], [b, two]) => a - b || one.name.length - two.name.length || one.name.localeCompare(two.name));
     return found.map((it) => it[1]);

@@ -1,0 +1,186 @@
+"""What `./vendor --struct` writes for a user's own structs, and what it refuses; the whole examples of the API pages."""
+import re
+import subprocess
+import sys
+import tempfile
+from pathlib import Path
+
+from cases.kit import LONG, TOP, case, expect, expect_in, tries_unproved
+from cases.vendoring import vendor
+
+# A struct, what is refused of it, and in which line.
+REFUSED = {
+    "pub struct A {\n    pub x: u64,\n    pub y: [f32; 3],\n}\n": "line 3: a field of type [f32; 3] isn't supported",
+    "pub struct A {\n    // x: u8,\n    pub x: u64,\n    y: u8,\n}\n": "line 4: y is private; write `pub(crate) y`",
+    "pub struct A {\n    pub x u64,\n}\n": "line 2: expected a field such as `pub x: f64`, not `pub x u64`",
+    "struct A(u64);\n": "line 1: A has no named fields",
+    "\nstruct A<T> {\n    pub x: T,\n}\n": "line 2: A has no named fields, or it has type parameters",
+    "struct A {}\n": "line 1: A has no fields",
+    "struct A {\n    pub x: u64,\n": "line 1: A has no closing brace",
+    "#[derive(Clone, Debug)]\nstruct A {\n    pub x: u64,\n}\n": "line 2: A isn't `Copy`; write `#[derive(Clone, Copy)]`",
+    "// struct A {}\n": "it has no struct with named fields",
+}
+# The fields of a struct, with its size and its alignment by `#[repr(C)]`.
+SIZES = {
+    "pub a: u8, pub b: u64, pub c: u8": (24, 8),
+    "pub a: u8, pub b: u16, pub c: u8": (6, 2),
+    "pub a: f32, pub b: char, pub c: bool": (12, 4),
+    "pub a: bool": (1, 1),
+    "pub a: i64, pub b: i32, pub c: i16, pub d: i8, pub e: u8": (16, 8),
+    "pub a: usize, pub b: isize, pub c: f64, pub d: u32": (32, 8),
+}
+# A program over two structs of all kinds: it has each value go through its words. It also runs the whole examples of the API pages.
+PROGRAM = """\
+//! Values of structs go through their words.
+#![tactic(auto)]
+
+mod imu;
+mod imu_words;
+mod whole;
+
+use anyhow::Result;
+use imu::{Imu, Lamp};
+use iox_hub::prelude::*;
+use whole::Bus;
+
+fn copied<T: Words>(value: &T) -> T {
+    let mut words = [0u64; 32];
+    for i in 0..T::WORDS {
+        words[i] = value.word(i);
+    }
+    T::of_words(&words[..T::WORDS])
+}
+
+fn main(rt: HostRuntime) -> Result<()> {
+    println!(rt; "{:?}", whole::run_all(rt.alloc(), &mut Bus::new(rt.alloc(), HubConfig::default()))?)?;
+    let imu = Imu {
+        a: 255, b: 65_535, c: 1 << 31, d: u64::MAX, e: -128, f: -2, g: i32::MIN,
+        h: i64::MIN, i: 7, j: -7, k: 0.5, l: -2.25, m: 'ß', n: true,
+    };
+    println!(rt; "{:?}", copied(&imu))?;
+    println!(rt; "{:?}", copied(&Lamp { is_on: false }))?;
+    let (one, many) = (<Imu as Payload>::type_detail(), <Imu as ZeroCopySend>::type_detail(TypeVariant::Dynamic));
+    Ok(println!(rt; "{} {} {} {}", one.size(), one.alignment(), many.size(), many.type_name().len())?)
+}
+"""
+WHOLE = """\
+//! The whole examples of the API pages, over two services, of single values and of slices.
+use anyhow::{Context, Result};
+use iox_hub::prelude::*;
+
+pub type Bus = Hub<u64, (), Nobody, Nobody>;
+
+EXAMPLES
+pub fn run_all(alloc: Global, hub: &mut Bus) -> Result<(usize, usize, u64, usize)> {
+    let node = hub.new_node()?;
+    let asked = hub.service_builder(&node, ServiceName::new(b"single values")?).publish_subscribe::<u64>();
+    let service = asked.create_in(alloc, hub, Vec::new(alloc))?;
+    let builder = hub.publisher_builder(&service).context("no domain")?;
+    let publisher = builder.set_handlers(Nobody).create(alloc, hub)?;
+    let builder = hub.subscriber_builder(&service).context("no domain")?;
+    let subscriber = builder.set_handler(Nobody).create(alloc, hub)?;
+    let asked = hub.service_builder(&node, ServiceName::new(b"slices")?).publish_subscribe::<Slice<u64>>();
+    let service = asked.create_in(alloc, hub, Vec::new(alloc))?;
+    let builder = hub.publisher_builder(&service).context("no domain")?.initial_max_slice_len(2);
+    let of_slices = builder.set_handlers(Nobody).create_slice(alloc, hub)?;
+    let first = send_value(alloc, hub, publisher, 3)?;
+    let second = send_in_place(alloc, hub, publisher, 4)?;
+    let sum = receive_all(alloc, hub, subscriber)?;
+    Ok((first, second, sum, send_values(alloc, hub, of_slices, &[5, 6])?))
+}
+"""
+STRUCTS = """\
+//! What a sensor measured.
+
+#[derive(Clone, Copy, Debug)]
+pub struct Imu {
+    /// Its comment, with a comma, and `x: y`.
+    pub a: u8,
+    pub b: u16, // and one behind a field
+    pub(crate) c: u32,
+    pub d: u64,
+    pub e: i8,
+    pub f: i16,
+    pub g: i32,
+    pub h: i64,
+    pub i: usize,
+    pub j: isize,
+    pub k: f32,
+    pub l: f64,
+    pub m: char,
+    pub n: bool,
+}
+
+#[derive(Clone, Copy, Debug)]
+pub struct Lamp {
+    pub is_on: bool,
+}
+"""
+OUTPUT = (
+    "(1, 1, 7, 0)\nImu { a: 255, b: 65535, c: 2147483648, d: 18446744073709551615, e: -128, f: -2, g: -2147483648,"
+    " h: -9223372036854775808, i: 7, j: -7, k: 0.5, l: -2.25, m: 'ß', n: true }\nLamp { is_on: false }\n72 8 72 3\n"
+)
+
+
+def written(folder, text):
+    """Returns what the call answered, and the file that it wrote or None."""
+    source = Path(folder) / "own.rt"
+    source.write_text(text, encoding="utf-8")
+    ran, made = vendor("--struct", source), source.with_name("own_words.rt")
+    return ran, made.read_text(encoding="utf-8") if made.exists() else None
+
+
+@case
+def a_struct_that_is_not_supported_is_refused_with_its_line():
+    with tempfile.TemporaryDirectory(prefix="iox-check-") as folder:
+        for text, why in REFUSED.items():
+            ran, made = written(folder, text)
+            expect((text, ran.returncode, ran.stdout, made), (text, 64, "", None))
+            expect_in(f"own.rt: {why}", ran.stderr)
+        misused = {64: (["--struct"], ["--struct", "x", "--list"]), 66: (["--struct", f"{folder}/missing.rt"], ["--struct", folder])}
+        for status, words in ((status, it) for status, calls in misused.items() for it in calls):
+            expect((words, vendor(*words).returncode), (words, status))
+
+
+@case
+def a_file_that_was_written_otherwise_stays():
+    with tempfile.TemporaryDirectory(prefix="iox-check-") as folder:
+        text = "#[derive(Clone, Copy)]\npub struct A {\n    pub x: u64,\n}\n"
+        (Path(folder) / "own_words.rt").write_text("mine\n", encoding="utf-8")
+        ran, made = written(folder, text)
+        expect((ran.returncode, ran.stdout, made), (64, "", "mine\n"))
+        (Path(folder) / "own_words.rt").unlink()
+        for _ in range(2):
+            ran, made = written(folder, text)
+            expect((ran.returncode, ran.stderr), (0, ""))
+        expect(ran.stdout, f"wrote {folder}/own_words.rt: name it beside `mod own;` by `mod own_words;`\n")
+        expect(sorted(it.name for it in Path(folder).iterdir()), ["own.rt", "own_words.rt"])
+
+
+@case
+def a_struct_has_the_size_and_the_alignment_of_repr_c():
+    with tempfile.TemporaryDirectory(prefix="iox-check-") as folder:
+        for fields, sizes in SIZES.items():
+            _, made = written(folder, f"#[derive(Clone, Copy)]\npub struct A {{ {fields} }}\n")
+            told = re.search(r'known\(variant, b"A", (\d+), (\d+)\)', made)
+            expect((fields, (int(told[1]), int(told[2]))), (fields, sizes))
+
+
+@case
+@tries_unproved
+def values_of_own_structs_and_the_whole_examples_run():
+    sys.path.insert(0, str(TOP / "docs"))
+    from api.whole import whole_examples
+
+    with tempfile.TemporaryDirectory(prefix="iox-check-") as folder:
+        expect(vendor(folder, "iox_hub").returncode, 0)
+        src = Path(folder) / "crates" / "own" / "src"
+        src.mkdir(parents=True)
+        (src / "main.rt").write_text(PROGRAM, encoding="utf-8")
+        (src / "imu.rt").write_text(STRUCTS, encoding="utf-8")
+        (src / "whole.rt").write_text(WHOLE.replace("EXAMPLES", "\n\n".join(whole_examples().values())), encoding="utf-8")
+        expect(vendor("--struct", src / "imu.rt").returncode, 0)
+        with open(Path(folder) / "crates.txt", "a", encoding="utf-8") as it:
+            it.write("own: iox_hub anyhow\n")
+        ran = subprocess.run(["rt", "try"], cwd=src.parent, capture_output=True, timeout=LONG)
+        expect((ran.returncode, ran.stdout.decode(), ran.stderr[-300:] * (ran.returncode > 0)), (0, OUTPUT, b""))

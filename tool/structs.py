@@ -1,0 +1,263 @@
+"""Writes what a struct needs to be a payload, `Words`, `ZeroCopySend` and `Payload`, from its fields: `./vendor --struct FILE`.
+
+`rt ci` refuses such blocks if a derive or a macro of the repository writes them, so a script does.
+"""
+from __future__ import annotations
+
+import re
+from dataclasses import dataclass
+from pathlib import Path
+
+# The first words of each file that this writes: no other file is written over.
+WRITTEN = "//! Written by `vendor --struct`"
+PRELUDE = "Rattle.std.specs.Prelude"
+HUB = "Rattle.iox_hub.specs"
+# Where a name of a clause is imported from, in the order of the lines.
+IMPORTS = {
+    PRELUDE: "◌≡◌ ◌∷◌ [] ◌<◌ ◌^◌ ◌==◌ Bool true false codes slice_index T to_bits from_bits FitsSigned refl",
+    "Rattle.std.specs.Float": "binary32 binary64",
+    "Rattle.std.specs.Float.Ieee": "fits",
+    "Rattle.std.specs.Char": "IsScalar",
+    "Rattle.std.specs.Int": "cast_signed cast_unsigned w8 w16 w32 w64",
+    "Rattle.std.proofs.lemmas.Int": "to_z-of_z",
+    f"{HUB}.QueuesBase.Coding": "narrowed narrowed-same word_of_bool char_of",
+    f"{HUB}.QueuesBase.Scalars": "signed-narrowed float-narrowed float-given_back char-given_back",
+    f"{HUB}.DescribeBase.Detail": "detail",
+    f"{HUB}.DescribeBase.declared.type_detail.TypeVariant.TheVariants": "FixedSize",
+}
+
+
+class NotTaken(Exception):
+    """Why a file isn't taken, with the number of its line."""
+
+
+@dataclass(frozen=True)
+class Kind:
+    """A type of one word: its size, and in a clause its word, the value of a word, what holds of each value, and why it comes back.
+
+    `X` stands for the value, `W` for the word, and `H` for what holds of it. Without a reason it comes back as it is.
+    """
+
+    size: int
+    word: str
+    value: str
+    holds: str
+    reason: str = ""
+
+
+def unsigned(bits: int) -> Kind:
+    if bits == 64:
+        return Kind(8, "X", "W", "X < 2 ^ 64")
+    return Kind(bits // 8, "X", f"narrowed {bits} (W)", f"X < 2 ^ {bits}", f"narrowed-same {bits} (X) H")
+
+
+def signed(bits: int) -> Kind:
+    value = "W" if bits == 64 else f"narrowed {bits} (W)"
+    reason = f"to_z-of_z w{bits}" if bits == 64 else f"signed-narrowed w{bits}"
+    return Kind(bits // 8, f"cast_unsigned w{bits} X", f"cast_signed w{bits} ({value})", f"FitsSigned w{bits} X", f"{reason} (X) H")
+
+
+KINDS = {
+    **{f"u{it}": unsigned(it) for it in (8, 16, 32, 64)},
+    **{f"i{it}": signed(it) for it in (8, 16, 32, 64)},
+    "usize": unsigned(64),
+    "isize": signed(64),
+    "f32": Kind(4, "to_bits binary32 X", "from_bits binary32 (narrowed 32 (W))", "T (fits binary32 X)", "float-narrowed (X) H"),
+    "f64": Kind(8, "to_bits binary64 X", "from_bits binary64 (W)", "T (fits binary64 X)", "float-given_back (X) H"),
+    "char": Kind(4, "X", "char_of (narrowed 32 (W))", "IsScalar X", "char-given_back (X) H"),
+    "bool": Kind(1, "word_of_bool X", "W == 1", "Unit {0}", "flag (X)"),
+}
+FLAG = "let flag : (b : Bool) → (word_of_bool b == 1) ≡ b = elim [ true ↦ refl | false ↦ refl ] in "
+
+
+@dataclass(frozen=True)
+class Field:
+    name: str
+    type: str
+
+    def kind(self) -> Kind:
+        return KINDS[self.type]
+
+
+@dataclass(frozen=True)
+class Struct:
+    name: str
+    fields: tuple[Field, ...]
+
+    def alignment(self) -> int:
+        return max(it.kind().size for it in self.fields)
+
+    def size(self) -> int:
+        """Returns its bytes by `#[repr(C)]`, as in iceoryx2: each field is at a multiple of its size, and the end at one of the alignment."""
+        end = 0
+        for it in self.fields:
+            end += -end % it.kind().size + it.kind().size
+        return end + -end % self.alignment()
+
+
+# The attributes of a struct, its name, and what follows.
+STRUCT = re.compile(r"(?m)^[ \t]*((?:#\[[^\]]*\]\s*)*)(?:pub(?:\([^)]*\))?\s+)?struct\s+(\w+)\s*([^\s\w])")
+FIELD = re.compile(r"(pub(?:\([^)]*\))?\s+)?(\w+)\s*:\s*(.+)", re.S)
+
+
+def without_comments(text: str) -> str:
+    """Returns a text with blanks in the place of its comments, so that each character keeps its line."""
+    return re.sub(r"//[^\n]*|/\*.*?\*/", lambda it: re.sub(r"[^\n]", " ", it[0]), text, flags=re.S)
+
+
+def read_fields(inside: str, line: int) -> tuple[Field, ...]:
+    fields, behind = [], 0
+    for part in inside.split(","):
+        at = line + inside[: behind + len(part) - len(part.lstrip())].count("\n")
+        behind += len(part) + 1
+        if not part.strip():
+            continue
+        found = FIELD.fullmatch(re.sub(r"#\[[^\]]*\]", "", part).strip())
+        if not found:
+            raise NotTaken(f"line {at}: expected a field such as `pub x: f64`, not `{part.strip()}`")
+        name, kind = found[2], found[3].strip()
+        if not found[1]:
+            raise NotTaken(f"line {at}: {name} is private; write `pub(crate) {name}`, since what is written lies in another module")
+        if kind not in KINDS:
+            raise NotTaken(f"line {at}: a field of type {kind} isn't supported; these are: {', '.join(KINDS)}")
+        fields.append(Field(name, kind))
+    return tuple(fields)
+
+
+def read_structs(text: str) -> list[Struct]:
+    """Returns the structs of a Rattle source file. A file without one, or with one that can't be written for, is refused."""
+    plain, structs = without_comments(text), []
+    for it in STRUCT.finditer(plain):
+        attributes, name, opening = it.groups()
+        line = plain[: it.start(2)].count("\n") + 1
+        if opening != "{":
+            raise NotTaken(f"line {line}: {name} has no named fields, or it has type parameters")
+        inside, brace, _ = plain[it.end() :].partition("}")
+        if not brace:
+            raise NotTaken(f"line {line}: {name} has no closing brace")
+        fields = read_fields(inside, plain[: it.end()].count("\n") + 1)
+        if not fields:
+            raise NotTaken(f"line {line}: {name} has no fields")
+        if not re.search(r"\bCopy\b", attributes):
+            raise NotTaken(f"line {line}: {name} isn't `Copy`; write `#[derive(Clone, Copy)]` above it")
+        structs.append(Struct(name, fields))
+    if not structs:
+        raise NotTaken("it has no struct with named fields")
+    return structs
+
+
+def filled(text: str, value: str, word: str = "", holds: str = "") -> str:
+    """Returns a clause of a kind with the value, the word and what holds of it in their places."""
+    places = {"X": value, "W": word, "H": holds}
+    return re.sub(r"\b[XWH]\b", lambda it: places[it[0]], text)
+
+
+def words_block(struct: Struct) -> str:
+    """Returns the block by which a struct is copied: one word for each field, in their order."""
+    fields = [*enumerate(struct.fields)]
+    count, alone = len(fields), len(fields) == 1
+    parts = " ∷ ".join([filled(it.kind().word, f"p.{it.name}") for _, it in fields] + ["[]"])
+    values = "".join(f"\n      {it.name} = {filled(it.kind().value, '', f'slice_index ws {at}')};" for at, it in fields)
+    holds = [filled(it.kind().holds, f"p.{it.name}") for _, it in fields]
+    holds = holds[0] if alone else " × ".join(f"({it})" if "<" in it else it for it in holds)
+    reasons = [filled(it.kind().reason, f"p.{it.name}", holds="h" if alone else f"h.{at}") for at, it in fields if it.kind().reason]
+    flag = FLAG if any(it.type == "bool" for it in struct.fields) else ""
+    back = flag + "".join(f"rw ({it}) " for it in reasons) + "refl"
+    arms = "".join(f"\n            {at} => self.{it.name}.word(0)," for at, it in fields)
+    made = "".join(f"\n            {it.name}: {it.type}::of_words(&words[{at}..{at + 1}])," for at, it in fields)
+    shown = "".join(f"\n        self.{it.name}.shows();" for _, it in fields)
+    return f"""\
+/// One word for each field.
+impl Words for {struct.name} {{
+    ghost parts = {{ λ p. {parts} }};
+
+    ghost of_parts = {{ λ ws. record {{{values}
+    }} }};
+
+    ghost is_value = {{ λ p. {holds} }};
+
+    const WORDS: usize = {count};
+
+    ghost WORDS = {{ {count} }};
+
+    fn word(&self, i: usize) -> u64 {{
+        match i {{{arms}
+            _ => 0,
+        }}
+    }}
+
+    fn of_words(words: &[u64]) -> {struct.name} {{
+        {struct.name} {{{made}
+        }}
+    }}
+
+    fn shows(&self) {{{shown}
+    }}
+
+    ghost as_many = {{ λ p. refl }};
+
+    ghost given_back = {{ λ p h. {back} }};
+}}
+"""
+
+
+def detail_blocks(struct: Struct) -> str:
+    """Returns the blocks that both ends agree on: the name, the size and the alignment, as an element of slices and as a single value."""
+    name, size, alignment = struct.name, struct.size(), struct.alignment()
+    return f"""\
+impl ZeroCopySend for {name} {{
+    ghost name = {{ codes "{name}" }};
+
+    ghost size = {{ {size} }};
+
+    ghost alignment = {{ {alignment} }};
+
+    fn type_detail(variant: TypeVariant) -> TypeDetail {{
+        TypeDetail::known(variant, b"{name}", {size}, {alignment})
+    }}
+}}
+
+impl Payload for {name} {{
+    ghost detail = {{ detail FixedSize (codes "{name}") {size} {alignment} }};
+
+    fn type_detail() -> TypeDetail {{
+        <{name} as ZeroCopySend>::type_detail(TypeVariant::FixedSize)
+    }}
+}}
+"""
+
+
+def import_lines(blocks: str) -> str:
+    """Returns the lines that import the names of the clauses, those alone that stand there."""
+    used = {*re.findall(r"[^\s(){};,]+", re.sub(r"(?m)^.*\bfn .*$", "", blocks))}
+    lines = []
+    for module, names in IMPORTS.items():
+        wanted = [it for it in names.split() if it == "◌≡◌" or it.strip("◌") in used or it in used]
+        if [it for it in wanted if it != "◌≡◌"]:
+            lines.append(f"ghost use {module}.{{{', '.join(wanted)}}};\n")
+    return "".join(lines)
+
+
+def written(module: str, structs: list[Struct]) -> str:
+    """Returns the file that is written for the structs of a module."""
+    blocks = "\n".join(f"{words_block(it)}\n{detail_blocks(it)}" for it in structs)
+    names = ", ".join(sorted(it.name for it in structs))
+    names = names if len(structs) == 1 else f"{{{names}}}"
+    head = f"{WRITTEN} from the fields in `{module}.rt`: write it again when they change.\n"
+    return f"{head}{import_lines(blocks)}\nuse super::{module}::{names};\nuse iox_hub::prelude::*;\n\n{blocks}"
+
+
+def write_for(source: Path) -> Path:
+    """Writes what the structs of a file need into a file beside it, and returns that file."""
+    made = source.with_name(f"{source.stem}_words.rt")
+    text = written(source.stem, read_structs(source.read_text(encoding="utf-8")))
+    if made.exists() and not made.read_text(encoding="utf-8").startswith(WRITTEN):
+        raise NotTaken(f"{made} exists and wasn't written by `vendor --struct`: move it away")
+    # Written beside it first, so that a full disk leaves the old one.
+    beside = made.with_name(f".vendor-{made.name}")
+    try:
+        beside.write_text(text, encoding="utf-8")
+        beside.replace(made)
+    finally:
+        beside.unlink(missing_ok=True)
+    return made
