@@ -43,7 +43,7 @@ use Rattle.iox_domain.proofs.Allowing.{as_spare, updates_allows, departed_spares
 use Rattle.iox_domain.proofs.Lending.{loans_spare, changed_spares, given_up_spares, updates_spare, sends_spare, retries_spare}
 use Rattle.iox_domain.proofs.Lending.{gives_up_spares}
 use Rattle.iox_domain.proofs.Sums.{left_among, put_left, with_left, settled_left, changed_left, added_left}
-use Rattle.iox_domain.proofs.Walking.{left_walks, left_takes, released_left}
+use Rattle.iox_domain.proofs.Walking.{left_walks, left_leaving, left_takes, released_left}
 
 -- nothing happened, or the publishers alone changed
 same_left : {T U : Type 0} (old new : ServicePorts T U) → new ≡ old → loans_left new ≤ loans_left old
@@ -243,7 +243,7 @@ subscriber_leaves_if : {T U : Type 0} (stands : Bool) (number : ℕ) (port : Sub
 subscriber_leaves_if false number port old new answer leaves = same_left old new leaves.1
 subscriber_leaves_if true number port old new answer leaves =
     let same : loans_left new ≡ left_among (left_all port.connections.values old.publishers) = ap loans_left leaves.1 in
-    let few = left_all_walk (left_walks port.number) port.connections.values old.publishers in
+    let few = left_all_walk (left_walks port.number) left_leaving port.connections.values old.publishers in
     omega (arith, same, few)
 
 subscriber_leaves_at : {T U : Type 0} (number : ℕ) (found : Option SubscriberPort) (old new : ServicePorts T U) (answer : Bool)

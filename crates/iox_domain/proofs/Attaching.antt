@@ -21,8 +21,8 @@ use Rattle.iox_domain.specs.DomainValues.declared.port_error.ReceiveError.{Recei
 use Rattle.iox_domain.specs.DomainValues.declared.port_error.ReceiveError.TheVariants as receiving
 use Rattle.iox_domain.specs.DomainValues.declared.port_owner.PortIdentity.{PortIdentity}
 use Rattle.iox_domain.specs.Container.SlotTable.{value_at}
-use Rattle.iox_domain.specs.DomainPorts.Places.{leads_to, left}
-use Rattle.iox_domain.specs.DomainPorts.Ports.{connection_to, ended_at, detached_at, attached_at, Joins}
+use Rattle.iox_domain.specs.DomainPorts.Places.{leads_to}
+use Rattle.iox_domain.specs.DomainPorts.Ports.{connection_to, ended_at, attached_at, Joins}
 use Rattle.iox_domain.specs.DomainPorts.PublisherUpdating.{first_failure, no_memory, update_answer}
 use Rattle.iox_domain.specs.DomainPorts.declared.publisher_port.PublisherPort.{PublisherPort}
 use Rattle.iox_domain.specs.DomainPorts.declared.reader.Reader.{Reader}
@@ -173,18 +173,6 @@ attach_stays {T} {U} subscriber number limit (Some port) old new (Some (Ok index
     rw (attaches.2) (one_stays subscriber number old port after there
     (attached_stays subscriber _ index (connection_to subscriber port) port attaches.1.0 after refl attaches.1.1 attaches.1.2))
 
--- the subscriber leaves a connection
-left_leads : (subscriber : ℕ) (reader : Option Reader) → leads_to subscriber (left reader) ≡ leads_to subscriber reader
-left_leads subscriber None = refl
-left_leads subscriber (Some reader) = refl
-
-detached_stays : {T U : Type 0} (subscriber index : ℕ) (port : PublisherPort T U)
-    → StaysAt subscriber (Some port) (Some (detached_at index port))
-detached_stays subscriber index port stands =
-    same_lacks subscriber port (detached_at index port) refl
-    (same_leads subscriber index (left (get_or port.readers index None)) port.readers
-    (left_leads subscriber (get_or port.readers index None))) stands
-
 -- so it is with each step of a subscriber
 stays_walks : {T U : Type 0} (subscriber : ℕ)
     → Walks subscriber (λ (old : List (ℕ × PublisherPort T U)) (new : List (ℕ × PublisherPort T U)). Stays subscriber old new)
@@ -198,8 +186,6 @@ stays_walks subscriber = record {
       (settled_stays subscriber attached.publisher
       (is_over_in attached.publisher (changed attached.publisher (ended_if_left attached.index) ports))
       (changed attached.publisher (ended_if_left attached.index) ports) refl);
-  detach = λ attached ports. step_stays subscriber attached.publisher (detached_at attached.index) (port_of attached.publisher ports)
-      ports refl (detached_stays subscriber attached.index);
 }
 
 -- a place that is untied has none

@@ -12,6 +12,9 @@ use Rattle.iox_domain.specs.DomainPorts.Messages.{Message}
 use Rattle.iox_domain.specs.DomainPorts.Leaving.{parted_at, parted_from, departed}
 use Rattle.iox_domain.specs.DomainPorts.Places.{leads_to, left, is_attached}
 use Rattle.iox_domain.specs.DomainPorts.Ports.{connection_of, connection_to, goes_on, is_live, with_connection_of, detached_at, ended_at}
+use Rattle.iox_domain.specs.DomainPorts.Ports.{unread_at}
+use Rattle.iox_domain.specs.DomainPorts.Ties.{has_tie}
+use Rattle.iox_domain.proofs.DomainPorts.Untied.{none_tied}
 use Rattle.iox_domain.specs.DomainPorts.Ports.{Joins, attached_at}
 use Rattle.iox_domain.specs.DomainPorts.declared.publisher_port.PublisherPort.{PublisherPort}
 use Rattle.iox_domain.specs.DomainPorts.declared.reader.Reader.{Reader}
@@ -165,11 +168,11 @@ by_parts index subscriber old new live leads
     = ap (λ b. b && leads_to subscriber (get_or new.readers index None)) live ∙ ap (λ b. is_live index old && b) leads
 
 -- nobody reads there any longer
-pub detached_steady : {T U : Type 0} (index subscriber at : ℕ) (port : PublisherPort T U)
-    → Steady index subscriber port (detached_at at port)
-detached_steady index subscriber at port =
-    steady_alike index subscriber port (detached_at at port) refl refl refl refl refl refl
-    (by_parts index subscriber port (detached_at at port) refl (left_leads subscriber at index port.readers)) refl
+unread_steady : {T U : Type 0} (index subscriber at : ℕ) (port : PublisherPort T U)
+    → Steady index subscriber port (unread_at at port)
+unread_steady index subscriber at port =
+    steady_alike index subscriber port (unread_at at port) refl refl refl refl refl refl
+    (by_parts index subscriber port (unread_at at port) refl (left_leads subscriber at index port.readers)) refl
 
 -- a connection ends, where the publisher left
 ended_waits : {T U : Type 0} (limit : ℕ) (borrowed : List (Message T U)) → (settled stage.Ended limit [] borrowed).waiting ≡ []
@@ -234,6 +237,74 @@ pub if_left_steady : {T U : Type 0} (index subscriber at : ℕ) (stands : Bool) 
     → Steady index subscriber port (if stands then port else ended_at at port)
 if_left_steady index subscriber at true port is = steady_is index subscriber port port refl
 if_left_steady index subscriber at false port is = ended_steady_by index subscriber at (is_live at port) port is
+
+-- What is kept of a publisher through a step by which a connection may go while the publisher stands.
+abbrev pub PortKept : {T U : Type 0} → ℕ → ℕ → PublisherPort T U → PublisherPort T U → Type 0
+PortKept {T} {U} index subscriber old new = (sent taken : List (Message T U)) → Books index subscriber sent taken old
+    → Missing index subscriber sent taken old → Books index subscriber sent taken new × Missing index subscriber sent taken new
+
+-- nothing was taken from a connection to which no place is tied, so nothing is missing where it ends
+gone_kept : {T U : Type 0} (index subscriber at : ℕ) (port : PublisherPort T U)
+    → ((place : ℕ) → get_or port.ties.items place None ≢ Some at)
+    → PortKept index subscriber port (record (with_connection_of at (ended (connection_of at port)) port)
+    { readers = set port.readers at None })
+gone_kept {T} {U} index subscriber at port untied sent taken books missing =
+    let new : PublisherPort T U = record (with_connection_of at (ended (connection_of at port)) port)
+    { readers = set port.readers at None } in
+    elim (cases_eq index at) [
+      | inl same ↦
+          let dead : leads_at index subscriber new ≡ false
+          = ap (λ n. leads_at n subscriber new) same ∙ and_false (is_live at new) _
+          (ap (λ reader. leads_to subscriber reader) (gone_there port.readers at)) in (
+            record {
+              history = books.history;
+              numbered = books.numbered;
+              last = books.last;
+              left = books.left;
+              part = λ led. let no : false ≡ true = sym dead ∙ led in absurd (cc);
+              due = λ led message before sending is place from tie. let no : false ≡ true = sym dead ∙ led in absurd (cc);
+              idle = λ led stands none. let no : false ≡ true = sym dead ∙ led in absurd (cc);
+            },
+            λ off. nothing same (leads_at index subscriber port) refl port.stands refl,
+          )
+      | inr not ↦
+          let same : connection_of index new ≡ connection_of index port
+          = get_or-set_other port.sender.uses.connections at index (ended (connection_of at port)) nobody not in
+          (steady_port index subscriber port new
+          (steady_alike index subscriber port new refl refl refl refl refl refl
+          (by_parts index subscriber port new (ap (λ one. goes_on one.stage) same)
+          (ap (λ reader. leads_to subscriber reader) (get_or-set_other port.readers at index None None not)))
+          (ap (λ one. one.waiting) same))).keeps sent taken books missing
+    ]
+  where
+    first_none : (xs ys : List (Message T U)) → xs ++ ys ≡ [] → xs ≡ []
+    first_none [] ys is = refl
+    first_none (x ∷ xs) ys is = cc
+
+    nothing : index ≡ at → (led : Bool) → leads_at index subscriber port ≡ led → (stands : Bool) → port.stands ≡ stands
+        → (taken ≡ []) ⊎ ((port.stands ≡ false) × IsPartOf taken sent)
+    nothing same false led stands standing = missing led
+    nothing same true led false standing
+        = inr (standing, part_first taken (connection_of index port).waiting sent (books.part led))
+    nothing same true led true standing = inl (first_none taken (connection_of index port).waiting
+        (books.idle led standing (λ place tie. untied place (tie ∙ ap (λ n. Some n) same))))
+
+ended_kept : {T U : Type 0} (index subscriber at : ℕ) (live : Bool) (port : PublisherPort T U)
+    → ((place : ℕ) → get_or port.ties.items place None ≢ Some at)
+    → PortKept index subscriber port (if live then record (with_connection_of at (ended (connection_of at port)) port)
+    { readers = set port.readers at None } else port)
+ended_kept index subscriber at true port untied = gone_kept index subscriber at port untied
+ended_kept index subscriber at false port untied = λ sent taken books missing. (books, missing)
+
+detached_by : {T U : Type 0} (index subscriber at : ℕ) (tied : Bool) (port : PublisherPort T U) → has_tie at port.ties ≡ tied
+    → PortKept index subscriber port (if tied then unread_at at port else ended_at at port)
+detached_by index subscriber at true port is
+    = (steady_port index subscriber port (unread_at at port) (unread_steady index subscriber at port)).keeps
+detached_by index subscriber at false port is = ended_kept index subscriber at (is_live at port) port (none_tied at port.ties is)
+
+pub detached_kept : {T U : Type 0} (index subscriber at : ℕ) (port : PublisherPort T U)
+    → PortKept index subscriber port (detached_at at port)
+detached_kept index subscriber at port = detached_by index subscriber at (has_tie at port.ties) port refl
 
 -- a message is given back
 settled_waits : {T U : Type 0} (now : Stage) (limit : ℕ) (waiting borrowed : List (Message T U))

@@ -11,11 +11,11 @@ use Rattle.iox_domain.specs.DomainPorts.Publishers.{port_of, port_stands, with_p
 use Rattle.iox_domain.specs.DomainPorts.Publishers.{connection_at_port, is_over_in, removed, ended_if_left, released, AttachesAtPort}
 use Rattle.iox_domain.specs.DomainPorts.Reading.{given_back_at}
 use Rattle.iox_domain.specs.Order.{leads_at, leads_at_port}
-use Rattle.iox_domain.proofs.Booked.{PortBooks, steady_port, attaches_steady, detached_steady, if_left_steady, given_back_steady}
+use Rattle.iox_domain.proofs.Booked.{PortBooks, PortKept, steady_port, attaches_steady, detached_kept, if_left_steady, given_back_steady}
 use Rattle.iox_domain.proofs.Books.{Books, Missing}
 use Rattle.iox_domain.proofs.Numbered.{at_number, other_fails, other_set, same_set, other_gone}
 use Rattle.iox_domain.proofs.Sole.{IsSole, sole_set, sole_gone, none_left}
-use Rattle.iox_domain.proofs.Walks.{Walks}
+use Rattle.iox_domain.proofs.Walks.{Walks, WalksLeaving}
 
 -- what is kept of the publisher of a number, if it is found, of which there is one at most
 pub record Booked {T U : Type 0} (publisher index subscriber : ℕ) (sent taken : List (Message T U))
@@ -236,9 +236,75 @@ book_walks publisher index subscriber reading = record {
   attach = λ number limit old new answer attaches. lists_attach publisher index subscriber number reading limit (port_of number old) old
       new answer refl attaches;
   end = λ attached ports. lists_ended publisher index subscriber attached.publisher attached.index ports;
-  detach = λ attached ports. lists_changed publisher index subscriber attached.publisher (detached_at attached.index) ports
-      (λ port. steady_port index subscriber port (detached_at attached.index port) (detached_steady index subscriber attached.index port));
 }
+
+-- What is left of it where a subscriber leaves: a connection may go while its publisher stands.
+pub record ListKept {T U : Type 0} (publisher index subscriber : ℕ) (old new : List (ℕ × PublisherPort T U)) : Type 0 where
+  pub keeps : (sent taken : List (Message T U)) → Booked publisher index subscriber sent taken old
+      → Booked publisher index subscriber sent taken new
+  pub sole : IsSole publisher old → IsSole publisher new
+
+pub kept_lists : {T U : Type 0} (publisher index subscriber : ℕ) (old new : List (ℕ × PublisherPort T U))
+    → ListBooks publisher index subscriber old new → ListKept publisher index subscriber old new
+kept_lists publisher index subscriber old new lists = record { keeps = lists.keeps; sole = lists.sole }
+
+kept_with : {T U : Type 0} (publisher index subscriber number : ℕ) (ports : List (ℕ × PublisherPort T U))
+    (port after : PublisherPort T U) → port_of number ports ≡ Some port → PortKept index subscriber port after
+    → ListKept publisher index subscriber ports (with_port number ports after)
+kept_with {T} {U} publisher index subscriber number ports port after there step = elim (cases_eq publisher number) [
+  | inl same ↦
+      let before : port_of publisher ports ≡ Some port = ap (λ n. port_of n ports) same ∙ there in
+      let now : port_of publisher (with_port number ports after) ≡ Some after
+      = ap (λ n. port_of n (with_port number ports after)) same ∙ same_set (at_number number) ports after port there in
+      record {
+        keeps = λ sent taken booked.
+            let kept = step sent taken (booked.books port before) (booked.missing port before) in
+            record {
+              sole = sole_set publisher (at_number number) ports after booked.sole;
+              books = λ found is. subst (λ (one : PublisherPort T U). Books index subscriber sent taken one)
+                  (one_port after found _ now is) kept.0;
+              missing = λ found is. subst (λ (one : PublisherPort T U). Missing index subscriber sent taken one)
+                  (one_port after found _ now is) kept.1;
+            };
+        sole = sole_set publisher (at_number number) ports after;
+      }
+  | inr other ↦ kept_lists publisher index subscriber ports (with_port number ports after)
+      (lists_found publisher index subscriber ports (with_port number ports after)
+      (other_set (at_number number) (at_number publisher) ports after (other_fails publisher number other))
+      (sole_set publisher (at_number number) ports after))
+]
+
+kept_changed : {T U : Type 0} (publisher index subscriber number : ℕ) (step : PublisherPort T U → PublisherPort T U)
+    (found : Option (PublisherPort T U)) (ports : List (ℕ × PublisherPort T U))
+    → ((port : PublisherPort T U) → PortKept index subscriber port (step port))
+    → port_of number ports ≡ found → ListKept publisher index subscriber ports (changed_at_port number step found ports)
+kept_changed publisher index subscriber number step None ports kept there
+    = kept_lists publisher index subscriber ports ports (lists_stay publisher index subscriber ports)
+kept_changed publisher index subscriber number step (Some port) ports kept there
+    = kept_with publisher index subscriber number ports port (step port) there (kept port)
+
+pub kept_walks : {T U : Type 0} (publisher index subscriber reading : ℕ)
+    → Walks reading (λ (old : List (ℕ × PublisherPort T U)) (new : List (ℕ × PublisherPort T U)). ListKept publisher index subscriber
+    old new)
+kept_walks publisher index subscriber reading =
+    let walks = book_walks publisher index subscriber reading in
+    record {
+      stays = λ ports. kept_lists publisher index subscriber ports ports (walks.stays ports);
+      on = λ old between new one two. record {
+        keeps = λ sent taken booked. two.keeps sent taken (one.keeps sent taken booked);
+        sole = λ sole. two.sole (one.sole sole);
+      };
+      attach = λ number limit old new answer attaches. kept_lists publisher index subscriber old new
+          (walks.attach number limit old new answer attaches);
+      end = λ attached ports. kept_lists publisher index subscriber ports _ (walks.end attached ports);
+    }
+
+pub kept_leaving : {T U : Type 0} (publisher index subscriber : ℕ)
+    → WalksLeaving (λ (old : List (ℕ × PublisherPort T U)) (new : List (ℕ × PublisherPort T U)). ListKept publisher index subscriber
+    old new)
+kept_leaving publisher index subscriber attached ports =
+    kept_changed publisher index subscriber attached.publisher (detached_at attached.index) (port_of attached.publisher ports) ports
+    (λ port. detached_kept index subscriber attached.index port) refl
 
 -- a message is given back
 pub lists_released : {T U : Type 0} (publisher index subscriber number at place : ℕ) (ports : List (ℕ × PublisherPort T U))

@@ -349,7 +349,6 @@ sole_walks publisher index subscriber reading =
       on = λ old between new one two sole. two (one sole);
       attach = λ number limit old new answer attaches. (walks.attach number limit old new answer attaches).sole;
       end = λ attached ports. (walks.end attached ports).sole;
-      detach = λ attached ports. (walks.detach attached ports).sole;
     }
 
 sole_taken : {T U : Type 0} (publisher number : ℕ) (step : PublisherPort T U → PublisherPort T U) (found : Option (PublisherPort T U))

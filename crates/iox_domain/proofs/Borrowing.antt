@@ -9,9 +9,10 @@ use Rattle.iox_domain.specs.PortsPublishing as publishing
 use Rattle.iox_domain.specs.Rolls.{RollState}
 use Rattle.iox_domain.specs.DomainPorts.Leaving.{parted_at, parted_from, departed}
 use Rattle.iox_domain.specs.DomainPorts.Places.{is_attached}
-use Rattle.iox_domain.specs.DomainPorts.Ports.{connection_of, connection_to, is_live, ended_at, greeted_at, welcomed_at, Joins, Attaches}
+use Rattle.iox_domain.specs.DomainPorts.Ports.{connection_of, connection_to, is_live, ended_at, detached_at, unread_at, greeted_at}
+use Rattle.iox_domain.specs.DomainPorts.Ports.{welcomed_at, Joins, Attaches}
 use Rattle.iox_domain.specs.DomainPorts.Sending.{ready_loan}
-use Rattle.iox_domain.specs.DomainPorts.Ties.{tie_put}
+use Rattle.iox_domain.specs.DomainPorts.Ties.{tie_put, has_tie}
 use Rattle.iox_domain.specs.DomainPorts.PublisherUpdating.{is_tie_to, let_go_of, untied, untied_from, within_reach, tied, Ties, FollowsTo}
 use Rattle.iox_domain.specs.DomainPorts.PublisherUpdating.{Follows, FollowsAll, UpdatesIf, Updates}
 use Rattle.iox_domain.specs.DomainPorts.declared.meeting.Sent.{Sent}
@@ -93,6 +94,11 @@ borrows_ended index port =
 
 pub borrows_ended_if : {T U : Type 0} (index : ℕ) (port : PublisherPort T U) → Borrows port (ended_if_left index port)
 borrows_ended_if index port = borrows_if port.stands port port (ended_at index port) (borrows_is port port refl) (borrows_ended index port)
+
+-- the reader of one left
+pub borrows_detached : {T U : Type 0} (index : ℕ) (port : PublisherPort T U) → Borrows port (detached_at index port)
+borrows_detached index port = borrows_if (has_tie index port.ties) port (unread_at index port) (ended_at index port)
+    (borrows_same port (unread_at index port) refl) (borrows_ended index port)
 
 -- a connection is made
 append_borrows : {X : Type 0} (connections : List (Connection X)) (connection : Connection X) (other : ℕ)

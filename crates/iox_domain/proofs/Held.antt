@@ -45,7 +45,7 @@ use Rattle.iox_domain.specs.declared.ports.service_ports.ServicePorts.{ServicePo
 use Rattle.iox_domain.specs.DomainPorts.declared.publisher_entry.PublisherEntry.{PublisherEntry}
 use Rattle.iox_domain.proofs.PortLawsKeeping.{PortKeeps, nobody_within}
 use Rattle.iox_domain.proofs.ListKeeps.{ListKeeps, list_stays, list_on, list_with, list_changed, list_settled, tidy_after, number_found}
-use Rattle.iox_domain.proofs.ListKeeps.{held_walks, held_takes}
+use Rattle.iox_domain.proofs.ListKeeps.{held_walks, held_takes, held_leaving}
 use Rattle.iox_domain.proofs.Numbered.{other_came, all_came, all_then}
 use Rattle.iox_domain.proofs.PublisherKeeps.{port_updates, port_loans, port_changed, port_given_up, port_departed, port_updates_one}
 use Rattle.iox_domain.proofs.PublisherKeeps.{port_sends_one, port_retries, port_gives_up}
@@ -241,7 +241,7 @@ subscriber_leaves : {T U : Type 0} (spared : Taken → Type 0) (stands : Bool) (
 subscriber_leaves spared false number port old new answer leaves = call_same spared old new leaves.1
 subscriber_leaves spared true number port old new answer leaves =
     call_to spared old new _ leaves.1 (call_list spared old _ refl
-    (left_all_walk (held_walks port.number) port.connections.values old.publishers))
+    (left_all_walk (held_walks port.number) held_leaving port.connections.values old.publishers))
 
 subscriber_leaves_at : {T U : Type 0} (spared : Taken → Type 0) (number : ℕ) (found : Option SubscriberPort)
     (old new : ServicePorts T U) (answer : Bool) → subscribing.LeavesAt number found old answer new → CallKeeps spared old new

@@ -54,7 +54,7 @@ use Rattle.iox_domain.specs.declared.ports.service_ports.ServicePorts.{ServicePo
 use Rattle.iox_domain.proofs.PortLawsApart.{new_apart, new_well, stays_apart}
 use Rattle.iox_domain.proofs.Booked.{departed_books}
 use Rattle.iox_domain.proofs.BookedLists.{Booked, ListBooks, lists_stay, lists_on, lists_found, lists_changed, lists_settled}
-use Rattle.iox_domain.proofs.BookedLists.{lists_released, book_walks, settled_found}
+use Rattle.iox_domain.proofs.BookedLists.{lists_released, book_walks, settled_found, ListKept, kept_lists, kept_walks, kept_leaving}
 use Rattle.iox_domain.proofs.BookedSends.{PortSends, sends_none, sent_so, port_loans, port_changed, port_given_up, port_updates}
 use Rattle.iox_domain.proofs.BookedSends.{port_retries, port_gives_up, port_sends}
 use Rattle.iox_domain.proofs.BookedTakes.{taken_so, receives_books, receives_sole, receives_slot}
@@ -80,11 +80,11 @@ record CallBooks {T U : Type 0} (publisher index subscriber : ℕ) (led : Bool) 
       → Books index subscriber (sent ++ sends) (taken ++ takes) port
 
 -- only the publishers changed
-call_lists : {T U : Type 0} (publisher index subscriber : ℕ) (led : Bool) (sends takes : List (Message T U))
+call_kept : {T U : Type 0} (publisher index subscriber : ℕ) (led : Bool) (sends takes : List (Message T U))
     (old new : ServicePorts T U) → sends ≡ [] → takes ≡ [] → old.next_port ≤ new.next_port
-    → ListBooks publisher index subscriber old.publishers new.publishers
+    → ListKept publisher index subscriber old.publishers new.publishers
     → CallBooks publisher index subscriber led sends takes old new
-call_lists {T} {U} publisher index subscriber led sends takes old new no_sends no_takes next lists = record {
+call_kept {T} {U} publisher index subscriber led sends takes old new no_sends no_takes next lists = record {
   next = next;
   sole = lists.sole;
   books = λ sent taken fresh untaken booked is_led port there.
@@ -94,6 +94,14 @@ call_lists {T} {U} publisher index subscriber led sends takes old new no_sends n
       (subst (λ (all : List (Message T U)). Books index subscriber sent all port)
       (sym (ap (λ all. taken ++ all) no_takes ∙ append-nil taken)) kept);
 }
+
+call_lists : {T U : Type 0} (publisher index subscriber : ℕ) (led : Bool) (sends takes : List (Message T U))
+    (old new : ServicePorts T U) → sends ≡ [] → takes ≡ [] → old.next_port ≤ new.next_port
+    → ListBooks publisher index subscriber old.publishers new.publishers
+    → CallBooks publisher index subscriber led sends takes old new
+call_lists publisher index subscriber led sends takes old new no_sends no_takes next lists
+    = call_kept publisher index subscriber led sends takes old new no_sends no_takes next
+    (kept_lists publisher index subscriber old.publishers new.publishers lists)
 
 call_same : {T U : Type 0} (publisher index subscriber : ℕ) (led : Bool) (sends takes : List (Message T U)) (old new : ServicePorts T U)
     → sends ≡ [] → takes ≡ [] → new ≡ old → CallBooks publisher index subscriber led sends takes old new
@@ -408,8 +416,9 @@ call_left publisher index subscriber led false number port old new answer leaves
     = call_same publisher index subscriber led [] [] old new refl refl leaves.1
 call_left publisher index subscriber led true number port old new answer leaves =
     call_to publisher index subscriber led [] [] old new _ leaves.1
-    (call_lists publisher index subscriber led [] [] old _ refl refl (omega arith)
-    (left_all_walk (book_walks publisher index subscriber port.number) port.connections.values old.publishers))
+    (call_kept publisher index subscriber led [] [] old _ refl refl (omega arith)
+    (left_all_walk (kept_walks publisher index subscriber port.number) (kept_leaving publisher index subscriber)
+    port.connections.values old.publishers))
 
 call_left_at : {T U : Type 0} (publisher index subscriber : ℕ) (led : Bool) (number : ℕ) (found : Option SubscriberPort)
     (old new : ServicePorts T U) (answer : Bool) → subscribing.LeavesAt number found old answer new

@@ -15,7 +15,8 @@ use Rattle.iox_domain.specs.DomainValues.declared.connection_failure.ZeroCopyCre
 use Rattle.iox_domain.specs.DomainValues.declared.degradation.DegradationAction.{DegradationAction}
 use Rattle.iox_domain.specs.DomainValues.declared.degradation.DegradationInfo.{DegradationInfo}
 use Rattle.iox_domain.specs.DomainValues.declared.port_error.ReceiveError.{ReceiveError}
-use Rattle.iox_domain.specs.DomainPorts.Ports.{connection_to, ended_at, detached_at}
+use Rattle.iox_domain.specs.DomainPorts.Ports.{connection_to, ended_at, detached_at, unread_at}
+use Rattle.iox_domain.specs.DomainPorts.Ties.{has_tie}
 use Rattle.iox_domain.specs.DomainPorts.Ties.{tie_put}
 use Rattle.iox_domain.specs.DomainPorts.declared.publisher_port.PublisherPort.{PublisherPort}
 use Rattle.iox_domain.specs.DomainPorts.Following.{PartsFor, PartsBorrowed, PartsOver, PartsIf, Parts, ConnectsBy, Connects, FollowsFreed}
@@ -399,6 +400,11 @@ pub has_samples_keeps : {T U : Type 0} (may : DegradationInfo → DegradationAct
 has_samples_keeps may listed changes port ports answer new new_ports (updated, updates, after)
     = updates_keeps may listed changes port ports updated new new_ports updates
 
+detached_life : {T U : Type 0} (tied : Bool) (index : ℕ) (port : PublisherPort T U)
+    → life_of (if tied then unread_at index port else ended_at index port) ≡ life_of port
+detached_life true index port = refl
+detached_life false index port = ended_life index port
+
 left_at_keeps : {T U : Type 0} (attached : Option Attached) (ports : List (ℕ × PublisherPort T U))
     → KeepsPorts ports (left_at attached ports)
 left_at_keeps None ports = kept ports ports refl
@@ -406,7 +412,8 @@ left_at_keeps {T} {U} (Some attached) ports = at (stands_in attached.publisher p
   where
     at : (stands : Bool) → KeepsPorts ports
         (if stands then changed attached.publisher (detached_at attached.index) ports else ended_ports (Some attached) ports)
-    at true = changed_keeps attached.publisher (detached_at attached.index) ports (λ port. refl)
+    at true = changed_keeps attached.publisher (detached_at attached.index) ports
+        (λ port. detached_life (has_tie attached.index port.ties) attached.index port)
     at false = ended_keeps (Some attached) ports
 
 -- a subscriber that leaves leaves what lives of the publishers

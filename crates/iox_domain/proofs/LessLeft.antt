@@ -67,7 +67,7 @@ use Rattle.iox_domain.specs.Samples.{received_by, released_by, if_came, brought_
 use Rattle.iox_domain.specs.Roomy.{AreRoomy}
 use Rattle.iox_domain.proofs.Borrowing.{Borrows, borrows_carries, borrows_departed, borrows_updates_one, borrows_sends_one}
 use Rattle.iox_domain.proofs.GivingBack.{one_if, names_one, names_of, released_few, borrowed_of_back}
-use Rattle.iox_domain.proofs.SamplesLending.{few_stepped, lends_on, lends_stepped, lends_changed, lends_settled, lends_walks}
+use Rattle.iox_domain.proofs.SamplesLending.{few_stepped, lends_on, lends_stepped, lends_changed, lends_settled, lends_walks, lends_leaving}
 use Rattle.iox_domain.proofs.Naming.{few_names}
 use Rattle.iox_domain.proofs.Sparing.{More, Spared, borrowed_of_more, spared_updates}
 use Rattle.iox_domain.proofs.StayRoomy.{entry_found, stay_roomy}
@@ -419,7 +419,7 @@ subscriber_leaves {T} {U} number (Some port) old new answer there sound leaves =
         let most = old.sizes.subscriber_max_borrowed_samples in
         let ports_after : List (ℕ × PublisherPort T U) = left_all port.connections.values old.publishers in
         let after : SubscriberPort = record port { stands = false } in
-        let lends = left_all_walk (lends_walks port.number) port.connections.values old.publishers in
+        let lends = left_all_walk (lends_walks port.number) lends_leaving port.connections.values old.publishers in
         omega (
           arith,
           ap (λ ports. samples_left ports) leaves.1,

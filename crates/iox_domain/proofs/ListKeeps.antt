@@ -21,7 +21,7 @@ use Rattle.iox_domain.proofs.PortLawsKeeping.{PortKeeps, port_stays, port_if, po
 use Rattle.iox_domain.proofs.Numbered.{at_number, number_is, other_fails, other_set, same_set, other_gone, FoundEntry, found_of_all}
 use Rattle.iox_domain.proofs.Numbered.{all_set, all_gone}
 use Rattle.iox_domain.proofs.PublisherKeeps.{port_attaches, port_detached, port_taken}
-use Rattle.iox_domain.proofs.Walks.{Walks, WalksTaking}
+use Rattle.iox_domain.proofs.Walks.{Walks, WalksTaking, WalksLeaving}
 
 -- publishers stay sound, what is held of them stays so, and they are made for what they were made for
 pub record ListKeeps {T U : Type 0} (old new : List (ℕ × PublisherPort T U)) : Type 0 where
@@ -209,8 +209,11 @@ held_walks subscriber = record {
   end = λ attached ports. list_on ports (changed attached.publisher (ended_if_left attached.index) ports) _
       (list_changed attached.publisher (ended_if_left attached.index) ports (port_ended_if attached.index))
       (list_settled attached.publisher (changed attached.publisher (ended_if_left attached.index) ports));
-  detach = λ attached ports. list_changed attached.publisher (detached_at attached.index) ports (port_detached attached.index);
 }
+
+pub held_leaving : {T U : Type 0} → WalksLeaving
+    (λ (old : List (ℕ × PublisherPort T U)) (new : List (ℕ × PublisherPort T U)). ListKeeps old new)
+held_leaving attached ports = list_changed attached.publisher (detached_at attached.index) ports (port_detached attached.index)
 
 pub held_takes : {T U : Type 0} → WalksTaking
     (λ (old : List (ℕ × PublisherPort T U)) (new : List (ℕ × PublisherPort T U)). ListKeeps old new)

@@ -47,7 +47,7 @@ use Rattle.iox_domain.proofs.Numbered.{bool_false, all_came, all_then}
 use Rattle.iox_domain.proofs.TiedWell.{updates_well}
 use Rattle.iox_domain.proofs.Walks.{walked_updates, walked_receives, left_all_walk}
 use Rattle.iox_domain.proofs.WellKept.{Goes, goes_carries, told_same, goes_updates_one, goes_sends_one, goes_departed, ListWell}
-use Rattle.iox_domain.proofs.WellKept.{wells_stay, wells_on, wells_with, wells_changed, wells_settled, well_walks, well_takes}
+use Rattle.iox_domain.proofs.WellKept.{wells_stay, wells_on, wells_with, wells_changed, wells_settled, well_walks, well_takes, well_leaving}
 use Rattle.iox_domain.proofs.WellKept.{wells_released}
 
 -- What each step at the publishers does to a service whose lists and numbers stay.
@@ -347,7 +347,8 @@ subscriber_leaves_apart {T} {U} true number port old new answer leaves =
     let next = old.next_port in
     let places = old.subscriber_list.places in
     let fewer : Fewer places (left port.place old.subscriber_list).places = left_fewer port.place old.subscriber_list in
-    let walked = left_all_walk (well_walks {T = T} {U = U} next places port.number) port.connections.values old.publishers in
+    let walked = left_all_walk (well_walks {T = T} {U = U} next places port.number) (well_leaving next places) port.connections.values
+    old.publishers in
     apart_to old new _ leaves.1 (record {
       apart = λ apart. record {
         places = fewer.long ∙ apart.places;

@@ -15,6 +15,8 @@ use Rattle.iox_domain.specs.DomainPorts.Messages.{Message, Loan}
 use Rattle.iox_domain.specs.DomainPorts.Leaving.{parted_at, parted_from, departed}
 use Rattle.iox_domain.specs.DomainPorts.Places.{is_attached}
 use Rattle.iox_domain.specs.DomainPorts.Ports.{connection_of, connection_to, is_live, greeted_at, welcomed_at, Joins, Attaches, detached_at}
+use Rattle.iox_domain.specs.DomainPorts.Ports.{ended_at, unread_at}
+use Rattle.iox_domain.specs.DomainPorts.Ties.{has_tie}
 use Rattle.iox_domain.specs.DomainPorts.Sending.{ready_loan}
 use Rattle.iox_domain.specs.DomainPorts.Ties.{tie_put}
 use Rattle.iox_domain.specs.DomainPorts.PublisherUpdating.{let_go_of, untied, untied_from, within_reach, tied, is_tie_to, Ties, Follows}
@@ -179,7 +181,8 @@ port_departed {T} {U} port =
 
 -- a subscriber reads there, or no longer
 pub port_detached : {T U : Type 0} (index : ℕ) (port : PublisherPort T U) → PortKeeps port (detached_at index port)
-port_detached index port = port_same port _ refl refl
+port_detached index port = port_if (has_tie index port.ties) port (unread_at index port) (ended_at index port)
+    (λ tied. port_same port (unread_at index port) refl refl) (λ untied. port_ended index port)
 
 taken_within : {X : Type 0} (sizes : MadeFor) (connection : Connection X) → length connection.borrowed < sizes.most_borrowed
     → IsWithin sizes connection → IsWithin sizes (taken connection)

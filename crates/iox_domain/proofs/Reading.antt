@@ -8,6 +8,8 @@ use Rattle.std.specs.declared.alloc.AllocError.{AllocError}
 use Rattle.iox_domain.specs.DomainPorts.Leaving.{parted_at, parted_from, departed}
 use Rattle.iox_domain.specs.DomainPorts.Places.{leads_to, is_attached}
 use Rattle.iox_domain.specs.DomainPorts.Ports.{connection_of, connection_to, goes_on, is_live, ended_at, detached_at, with_connection_of}
+use Rattle.iox_domain.specs.DomainPorts.Ports.{unread_at}
+use Rattle.iox_domain.specs.DomainPorts.Ties.{has_tie}
 use Rattle.iox_domain.specs.DomainPorts.Ports.{attached_at, Joins, Attaches}
 use Rattle.iox_domain.specs.DomainPorts.declared.publisher_port.PublisherPort.{PublisherPort}
 use Rattle.iox_domain.specs.DomainPorts.declared.reader.Reader.{Reader}
@@ -102,13 +104,24 @@ lead_if_left true at port lead = lead
 lead_if_left false at port lead = lead_ended at port lead
 
 -- its reader left another connection
+read_detached_by : {T U : Type 0} (tied : Bool) (subscriber index at : ℕ) (port : PublisherPort T U) → index ≢ at
+    → IsReadBy subscriber index port → IsReadBy subscriber index (if tied then unread_at at port else ended_at at port)
+read_detached_by true subscriber index at port not reads
+    = record { live = reads.live; reader = get_or-set_other port.readers at index _ None not ∙ reads.reader }
+read_detached_by false subscriber index at port not reads = read_ended subscriber index at port not reads
+
 read_detached : {T U : Type 0} (subscriber index at : ℕ) (port : PublisherPort T U) → index ≢ at → IsReadBy subscriber index port
     → IsReadBy subscriber index (detached_at at port)
-read_detached subscriber index at port not reads
-    = record { live = reads.live; reader = get_or-set_other port.readers at index _ None not ∙ reads.reader }
+read_detached subscriber index at port not reads = read_detached_by (has_tie at port.ties) subscriber index at port not reads
+
+lead_detached_by : {T U : Type 0} (tied : Bool) (at : ℕ) (port : PublisherPort T U) → LeadsOn port
+    → LeadsOn (if tied then unread_at at port else ended_at at port)
+lead_detached_by true at port lead = λ subscriber index leads.
+    lead subscriber index (sym (left_leads subscriber at index port.readers) ∙ leads)
+lead_detached_by false at port lead = lead_ended at port lead
 
 lead_detached : {T U : Type 0} (at : ℕ) (port : PublisherPort T U) → LeadsOn port → LeadsOn (detached_at at port)
-lead_detached at port lead subscriber index leads = lead subscriber index (sym (left_leads subscriber at index port.readers) ∙ leads)
+lead_detached at port lead = lead_detached_by (has_tie at port.ties) at port lead
 
 -- a connection is joined or made, and its subscriber reads there
 pub read_joins : {T U : Type 0} (subscriber index reading limit at : ℕ) (found : Option ℕ) (old joined : PublisherPort T U)

@@ -18,10 +18,10 @@ use Rattle.iox_domain.specs.DomainPorts.declared.attached.Attached.{Attached}
 use Rattle.iox_domain.specs.PortLawsLaws.{IsTidy, IsSoundEntry}
 use Rattle.iox_domain.proofs.PortLawsKeeping.{PortKeeps, port_stays, port_if, port_ended}
 use Rattle.iox_domain.proofs.ListKeeps.{ListKeeps, list_stays, list_on, list_with, list_changed, list_settled, tidy_found, none_there}
-use Rattle.iox_domain.proofs.ListKeeps.{last_of, held_walks, held_takes}
+use Rattle.iox_domain.proofs.ListKeeps.{last_of, held_walks, held_takes, held_leaving}
 use Rattle.iox_domain.proofs.Numbered.{at_number, other_fails, other_set, same_set, other_gone}
-use Rattle.iox_domain.proofs.Walks.{Walks, WalksTaking}
-use Rattle.iox_domain.proofs.Borrowing.{Borrows, borrows_same, borrows_ended_if, borrows_attaches, borrows_taken}
+use Rattle.iox_domain.proofs.Walks.{Walks, WalksTaking, WalksLeaving}
+use Rattle.iox_domain.proofs.Borrowing.{Borrows, borrows_ended_if, borrows_detached, borrows_attaches, borrows_taken}
 
 -- publishers stay sound, none comes, and of each connection as much is borrowed as before, or more
 pub record Lends {T U : Type 0} (old new : List (ℕ × PublisherPort T U)) : Type 0 where
@@ -232,9 +232,12 @@ lends_walks subscriber = record {
     more = λ next all other at. more_attached number subscriber limit other at (port_of number old) old new answer refl attaches;
   };
   end = lends_ended;
-  detach = λ attached ports. lends_changed attached.publisher (detached_at attached.index) ports
-      ((held_walks subscriber).detach attached ports) (λ port. borrows_same port (detached_at attached.index port) refl);
 }
+
+pub lends_leaving : {T U : Type 0}
+    → WalksLeaving (λ (old : List (ℕ × PublisherPort T U)) (new : List (ℕ × PublisherPort T U)). Lends old new)
+lends_leaving attached ports = lends_changed attached.publisher (detached_at attached.index) ports (held_leaving attached ports)
+    (λ port. borrows_detached attached.index port)
 
 pub lends_takes : {T U : Type 0} → WalksTaking (λ (old : List (ℕ × PublisherPort T U)) (new : List (ℕ × PublisherPort T U)). Lends old new)
 lends_takes attached ports below = lends_changed attached.publisher (taken_at attached.index) ports (held_takes attached ports below)

@@ -205,6 +205,47 @@ well_ended {T} {U} next places place index old new tie ended well = record {
         ap (λ readers. leads_to subscriber (get_or readers at None)) ended.readers
         ∙ ap (λ reader. leads_to subscriber reader) (get_or-set_other old.readers index at None None (apart other at (same ∙ is))))
 
+-- a connection to which no place is tied ends
+abbrev gone_at : {T U : Type 0} → ℕ → PublisherPort T U → PublisherPort T U
+gone_at index port = record (with_connection_of index (ended (connection_of index port)) port) { readers = set port.readers index None }
+
+module _ {T U : Type 0} (next : ℕ) (places : List (Option (Member SubscriberEntry))) (index : ℕ) (old : PublisherPort T U)
+    (untied : (place : ℕ) → get_or old.ties.items place None ≢ Some index) (well : IsTiedWell next places old) where
+  off : (place at : ℕ) → get_or old.ties.items place None ≡ Some at → at ≢ index
+  off place at is same = untied place (is ∙ ap (λ n. Some n) same)
+
+  live_still : (other : ℕ) → other ≢ index → is_live other (gone_at index old) ≡ is_live other old
+  live_still other not = ap (λ one. goes_on one.stage)
+      (get_or-set_other old.sender.uses.connections index other (ended (connection_of index old)) nobody not)
+
+  leads_still : (subscriber at : ℕ) → at ≢ index
+      → leads_to subscriber (get_or (gone_at index old).readers at None) ≡ leads_to subscriber (get_or old.readers at None)
+  leads_still subscriber at not = ap (λ reader. leads_to subscriber reader) (get_or-set_other old.readers index at None None not)
+
+  same_tie : (subscriber place : ℕ) → is_tie_to subscriber (get_or old.ties.items place None) (gone_at index old)
+      ≡ is_tie_to subscriber (get_or old.ties.items place None) old
+  same_tie subscriber place = tie_kept old (gone_at index old) subscriber (get_or old.ties.items place None)
+      (λ at is. leads_still subscriber at (off place at is))
+
+  not_gone : (subscriber at : ℕ) → leads_to subscriber (get_or (gone_at index old).readers at None) ≡ true → at ≢ index
+  not_gone subscriber at leads same =
+      let none : leads_to subscriber (get_or (gone_at index old).readers at None) ≡ false
+      = ap (λ i. leads_to subscriber (get_or (gone_at index old).readers i None)) same
+      ∙ ap (λ reader. leads_to subscriber reader) (gone_there old.readers index) in
+      let no : false ≡ true = sym none ∙ leads in cc
+
+  pub well_gone : IsTiedWell next places (gone_at index old)
+  well_gone = record {
+    apart = well.apart;
+    live = λ place at is. live_still at (off place at is) ∙ well.live place at is;
+    read = λ subscriber at leads.
+        let not = not_gone subscriber at leads in
+        live_still at not ∙ well.read subscriber at (sym (leads_still subscriber at not) ∙ leads);
+    alone = λ place other member listed not. same_tie member.value.subscriber other ∙ well.alone place other member listed not;
+    below = λ place subscriber is. well.below place subscriber (sym (same_tie subscriber place) ∙ is);
+    room = well.room;
+  }
+
 -- What a step of an update comes to.
 pub record Steps {T U : Type 0} (next : ℕ) (places : List (Option (Member SubscriberEntry))) (old new : PublisherPort T U) : Type 0 where
   pub stands : new.stands ≡ old.stands

@@ -21,7 +21,8 @@ use Rattle.iox_domain.specs.DomainSlots.Uses.{is_there}
 use Rattle.iox_domain.specs.DomainPorts.MessagesSending.{is_written_at}
 use Rattle.iox_domain.specs.DomainPorts.Leaving.{departed}
 use Rattle.iox_domain.specs.DomainPorts.Loaning as loaning
-use Rattle.iox_domain.specs.DomainPorts.Ports.{connection_to, is_live, ended_at, detached_at, attached_at, Joins}
+use Rattle.iox_domain.specs.DomainPorts.Ports.{connection_to, is_live, ended_at, detached_at, unread_at, attached_at, Joins}
+use Rattle.iox_domain.specs.DomainPorts.Ties.{has_tie}
 use Rattle.iox_domain.specs.DomainPorts.Sending.{ready_at, ready_loan, Sends}
 use Rattle.iox_domain.specs.DomainPorts.Writing.{changed_if, given_up, given_up_at}
 use Rattle.iox_domain.specs.DomainPorts.Writing as writing
@@ -52,7 +53,7 @@ use Rattle.iox_domain.specs.declared.ports.making.PublisherConfig.{PublisherConf
 use Rattle.iox_domain.specs.declared.ports.service_ports.ServicePorts.{ServicePorts}
 use Rattle.iox_domain.proofs.ListKeeps.{number_found}
 use Rattle.iox_domain.proofs.Numbered.{at_number, other_fails, other_set, same_set, other_gone, other_came}
-use Rattle.iox_domain.proofs.Walks.{Walks, WalksTaking, walked_updates, walked_receives, left_all_walk}
+use Rattle.iox_domain.proofs.Walks.{Walks, WalksTaking, WalksLeaving, walked_updates, walked_receives, left_all_walk}
 
 -- a send of a publisher that waits is where it was
 abbrev Waits : {T U : Type 0} → ℕ → List (ℕ × PublisherPort T U) → List (ℕ × PublisherPort T U) → Type 0
@@ -188,9 +189,19 @@ waits_walks publisher subscriber = record {
   end = λ attached ports. settles publisher attached.publisher ports (changed attached.publisher (ended_if_left attached.index) ports)
       (waits_changed publisher attached.publisher (ended_if_left attached.index) (port_of attached.publisher ports) ports refl
       (λ port. ended_if port.stands attached.index port));
-  detach = λ attached ports. waits_changed publisher attached.publisher (detached_at attached.index) (port_of attached.publisher ports)
-      ports refl (λ port. record { place = refl; delivered = refl; sending = refl; ties = refl });
 }
+
+detached_if : {T U : Type 0} (tied : Bool) (index : ℕ) (port : PublisherPort T U)
+    → IsSameSend port (if tied then unread_at index port else ended_at index port)
+detached_if true index port = record { place = refl; delivered = refl; sending = refl; ties = refl }
+detached_if false index port = ended_same (is_live index port) index port _
+    (record { place = refl; delivered = refl; sending = refl; ties = refl })
+
+waits_leaving : {T U : Type 0} (publisher : ℕ)
+    → WalksLeaving (λ (old : List (ℕ × PublisherPort T U)) (new : List (ℕ × PublisherPort T U)). Waits publisher old new)
+waits_leaving publisher attached ports
+    = waits_changed publisher attached.publisher (detached_at attached.index) (port_of attached.publisher ports) ports refl
+    (λ port. detached_if (has_tie attached.index port.ties) attached.index port)
 
 waits_takes : {T U : Type 0} (publisher : ℕ)
     → WalksTaking (λ (old : List (ℕ × PublisherPort T U)) (new : List (ℕ × PublisherPort T U)). Waits publisher old new)
@@ -375,7 +386,7 @@ subscriber_leaves publisher false number port old new answer leaves
     = waits_same publisher old.publishers new.publishers (ap (λ ports. ports.publishers) leaves.1)
 subscriber_leaves {T} {U} publisher true number port old new answer leaves =
     let are = ap (λ ports. ports.publishers) leaves.1 in
-    rw are (left_all_walk (waits_walks publisher port.number) port.connections.values old.publishers)
+    rw are (left_all_walk (waits_walks publisher port.number) (waits_leaving publisher) port.connections.values old.publishers)
 
 left_at : {T U : Type 0} (publisher number : ℕ) (found : Option SubscriberPort) (old new : ServicePorts T U) (answer : Bool)
     → subscribing.LeavesAt number found old answer new → Waits publisher old.publishers new.publishers

@@ -1,11 +1,12 @@
 -- What the steps of a subscriber leave of how many loans the publishers may still make.
 use Rattle.std.proofs.Common.{arith, ◌≡◌, ◌≤◌, ℕ, List, Option, None, Some, Result, Ok, Err, refl, ap}
 use Rattle.std.specs.declared.alloc.AllocError.{AllocError}
-use Rattle.iox_domain.specs.DomainPorts.Ports.{detached_at, ended_at}
+use Rattle.iox_domain.specs.DomainPorts.Ports.{detached_at, ended_at, unread_at}
+use Rattle.iox_domain.specs.DomainPorts.Ties.{has_tie}
 use Rattle.iox_domain.specs.DomainPorts.declared.publisher_port.PublisherPort.{PublisherPort}
 use Rattle.iox_domain.specs.DomainPorts.Publishers.{port_of, with_port, changed, settled, ended_if_left, released, AttachesAtPort}
 use Rattle.iox_domain.specs.DomainPorts.Reading.{taken_at, given_back_at}
-use Rattle.iox_domain.proofs.Walks.{Walks, WalksTaking}
+use Rattle.iox_domain.proofs.Walks.{Walks, WalksTaking, WalksLeaving}
 use Rattle.iox_domain.proofs.Allowing.{allowance_of, as_spare, either_allows, ended_allows, attaches_allows}
 use Rattle.iox_domain.proofs.Sums.{left_among, with_left, settled_left, changed_left}
 
@@ -48,8 +49,13 @@ left_walks subscriber = record {
   attach = λ number limit old new answer attaches. attached_left number subscriber limit (port_of number old) old new answer refl attaches;
   end = λ attached ports. stepped_settled attached.publisher (ended_if_left attached.index) ports
       (λ port. either_allows port.stands port (ended_at attached.index port) (allowance_of port) refl (ended_allows attached.index port));
-  detach = λ attached ports. stepped_left attached.publisher (detached_at attached.index) ports (λ port. refl);
 }
+
+pub left_leaving : {T U : Type 0} → WalksLeaving
+    (λ (old : List (ℕ × PublisherPort T U)) (new : List (ℕ × PublisherPort T U)). left_among new ≤ left_among old)
+left_leaving attached ports = stepped_left attached.publisher (detached_at attached.index) ports
+    (λ port. either_allows (has_tie attached.index port.ties) (unread_at attached.index port) (ended_at attached.index port)
+    (allowance_of port) refl (ended_allows attached.index port))
 
 pub left_takes : {T U : Type 0} → WalksTaking
     (λ (old : List (ℕ × PublisherPort T U)) (new : List (ℕ × PublisherPort T U)). left_among new ≤ left_among old)

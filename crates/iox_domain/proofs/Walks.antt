@@ -36,8 +36,11 @@ pub record Walks {T U : Type 0} (subscriber : ℕ) (R : List (ℕ × PublisherPo
   pub attach : (number limit : ℕ) (old new : List (ℕ × PublisherPort T U)) (answer : Option (Result ℕ AllocError))
       → AttachesTo number subscriber limit old answer new → R old new
   pub end : (attached : Attached) (ports : List (ℕ × PublisherPort T U)) → R ports (ended_ports (Some attached) ports)
-  pub detach : (attached : Attached) (ports : List (ℕ × PublisherPort T U))
-      → R ports (changed attached.publisher (detached_at attached.index) ports)
+
+-- So it is also where a subscriber leaves a connection.
+abbrev pub WalksLeaving : {T U : Type 0} → (List (ℕ × PublisherPort T U) → List (ℕ × PublisherPort T U) → Type 0) → Type 0
+WalksLeaving {T} {U} R = (attached : Attached) (ports : List (ℕ × PublisherPort T U))
+    → R ports (changed attached.publisher (detached_at attached.index) ports)
 
 -- So it is also where the oldest message that waits at a connection is received, of which fewer are borrowed than may be.
 abbrev pub WalksTaking : {T U : Type 0} → (List (ℕ × PublisherPort T U) → List (ℕ × PublisherPort T U) → Type 0) → Type 0
@@ -371,12 +374,15 @@ left_either R true ports one other walked_one walked_other = walked_one
 left_either R false ports one other walked_one walked_other = walked_other
 
 left_walk : {T U : Type 0} {subscriber : ℕ} {R : List (ℕ × PublisherPort T U) → List (ℕ × PublisherPort T U) → Type 0}
-    (w : Walks subscriber R) (attached : Option Attached) (ports : List (ℕ × PublisherPort T U)) → R ports (left_at attached ports)
-left_walk w None ports = w.stays ports
-left_walk {R = R} w (Some attached) ports
-    = left_either R (stands_in attached.publisher ports) ports _ _ (w.detach attached ports) (w.end attached ports)
+    (w : Walks subscriber R) (leaving : WalksLeaving R) (attached : Option Attached) (ports : List (ℕ × PublisherPort T U))
+    → R ports (left_at attached ports)
+left_walk w leaving None ports = w.stays ports
+left_walk {R = R} w leaving (Some attached) ports
+    = left_either R (stands_in attached.publisher ports) ports _ _ (leaving attached ports) (w.end attached ports)
 
 pub left_all_walk : {T U : Type 0} {subscriber : ℕ} {R : List (ℕ × PublisherPort T U) → List (ℕ × PublisherPort T U) → Type 0}
-    (w : Walks subscriber R) (attached : List (Option Attached)) (ports : List (ℕ × PublisherPort T U)) → R ports (left_all attached ports)
-left_all_walk w [] ports = w.stays ports
-left_all_walk w (one ∷ rest) ports = w.on ports (left_at one ports) _ (left_walk w one ports) (left_all_walk w rest (left_at one ports))
+    (w : Walks subscriber R) (leaving : WalksLeaving R) (attached : List (Option Attached)) (ports : List (ℕ × PublisherPort T U))
+    → R ports (left_all attached ports)
+left_all_walk w leaving [] ports = w.stays ports
+left_all_walk w leaving (one ∷ rest) ports
+    = w.on ports (left_at one ports) _ (left_walk w leaving one ports) (left_all_walk w leaving rest (left_at one ports))

@@ -1,5 +1,5 @@
 -- The ties of the publishers of a service stay apart, step by step.
-use Rattle.std.proofs.Common.{◌≡◌, ◌+◌, ◌&&◌, ◌∷◌, [], ℕ, zero, suc, Bool, true, false, not, List, get_or, set, length, Option, None}
+use Rattle.std.proofs.Common.{◌≡◌, ◌≢◌, ◌+◌, ◌&&◌, ◌∷◌, [], ℕ, zero, suc, Bool, true, false, not, List, get_or, set, length, Option, None}
 use Rattle.std.proofs.Common.{Some, Result, Ok, Err, refl, sym, ap, ◌∙◌, if◌then◌else◌}
 use Rattle.std.specs.List.{All, remove}
 use Rattle.std.specs.declared.alloc.AllocError.{AllocError}
@@ -10,13 +10,16 @@ use Rattle.iox_domain.specs.DomainValues.declared.connection_failure.ConnectionF
 use Rattle.iox_domain.specs.DomainValues.declared.degradation.DegradationAction.{DegradationAction}
 use Rattle.iox_domain.specs.DomainValues.declared.degradation.DegradationInfo.{DegradationInfo}
 use Rattle.iox_domain.specs.DomainValues.declared.port_error.SendError.{SendError}
-use Rattle.iox_domain.specs.DomainSlots.Uses.{taken, given_back, settled}
+use Rattle.iox_domain.specs.DomainSlots.Uses.{taken, given_back, settled, ended}
 use Rattle.iox_domain.specs.DomainSlots.declared.stage.Stage.{Stage}
 use Rattle.iox_domain.specs.DomainSlots.declared.stage.Stage.TheVariants as stage
 use Rattle.iox_domain.specs.DomainPorts.Messages.{Message}
 use Rattle.iox_domain.specs.DomainPorts.Leaving.{parted_at, parted_from, departed}
 use Rattle.iox_domain.specs.DomainPorts.Places.{leads_to, left, is_attached}
 use Rattle.iox_domain.specs.DomainPorts.Ports.{connection_of, connection_to, goes_on, is_live, ended_at, detached_at, Joins, Attaches}
+use Rattle.iox_domain.specs.DomainPorts.Ports.{unread_at, with_connection_of}
+use Rattle.iox_domain.specs.DomainPorts.Ties.{has_tie}
+use Rattle.iox_domain.proofs.DomainPorts.Untied.{none_tied}
 use Rattle.iox_domain.specs.DomainPorts.Sending.{ready_loan}
 use Rattle.iox_domain.specs.DomainPorts.PublisherUpdating.{Updates}
 use Rattle.iox_domain.specs.DomainPorts.declared.meeting.Sent.{Sent}
@@ -34,8 +37,8 @@ use Rattle.iox_domain.specs.Rolls.{RollState, IsListOf}
 use Rattle.iox_domain.proofs.Carrying.{Carries, carry_sends}
 use Rattle.iox_domain.proofs.Numbered.{at_number, FoundEntry, found_of_all, all_set, all_gone}
 use Rattle.iox_domain.proofs.TiedWell.{Alike, alike_is, alike_still, alike_waiting, well_alike, well_kept, still_there, updates_well}
-use Rattle.iox_domain.proofs.TiedWell.{attaches_well}
-use Rattle.iox_domain.proofs.Walks.{Walks, WalksTaking}
+use Rattle.iox_domain.proofs.TiedWell.{attaches_well, well_gone}
+use Rattle.iox_domain.proofs.Walks.{Walks, WalksTaking, WalksLeaving}
 
 -- a publisher that stands is tied well after a step if it was before
 abbrev pub Goes : {T U : Type 0} → ℕ → List (Option (Member SubscriberEntry)) → PublisherPort T U → PublisherPort T U → Type 0
@@ -162,16 +165,34 @@ left_leads subscriber zero (suc at) (reader ∷ readers) = refl
 left_leads subscriber (suc index) zero (reader ∷ readers) = refl
 left_leads subscriber (suc index) (suc at) (reader ∷ readers) = left_leads subscriber index at readers
 
-goes_detached : {T U : Type 0} (next : ℕ) (places : List (Option (Member SubscriberEntry))) (index : ℕ) (port : PublisherPort T U)
-    → Goes next places port (detached_at index port)
-goes_detached next places index port well stands =
+goes_gone : {T U : Type 0} (next : ℕ) (places : List (Option (Member SubscriberEntry))) (index : ℕ) (live : Bool)
+    (port : PublisherPort T U) → ((place : ℕ) → get_or port.ties.items place None ≢ Some index)
+    → Goes next places port (if live then record (with_connection_of index (ended (connection_of index port)) port)
+    { readers = set port.readers index None } else port)
+goes_gone next places index true port untied well stands = well_gone next places index port untied (well stands)
+goes_gone next places index false port untied well stands = well stands
+
+goes_unread : {T U : Type 0} (next : ℕ) (places : List (Option (Member SubscriberEntry))) (index : ℕ) (port : PublisherPort T U)
+    → Goes next places port (unread_at index port)
+goes_unread next places index port well stands =
     let was : IsTiedWell next places port = well stands in
-    well_kept next places port (detached_at index port) (record {
+    well_kept next places port (unread_at index port) (record {
       ties = refl;
       live = λ at live. live;
       leads = λ subscriber at live. left_leads subscriber index at port.readers;
       read = λ subscriber at leads. was.read subscriber at (sym (left_leads subscriber index at port.readers) ∙ leads);
     }) was
+
+goes_detached_by : {T U : Type 0} (next : ℕ) (places : List (Option (Member SubscriberEntry))) (index : ℕ) (tied : Bool)
+    (port : PublisherPort T U) → has_tie index port.ties ≡ tied
+    → Goes next places port (if tied then unread_at index port else ended_at index port)
+goes_detached_by next places index true port is = goes_unread next places index port
+goes_detached_by next places index false port is
+    = goes_gone next places index (is_live index port) port (none_tied index port.ties is)
+
+goes_detached : {T U : Type 0} (next : ℕ) (places : List (Option (Member SubscriberEntry))) (index : ℕ) (port : PublisherPort T U)
+    → Goes next places port (detached_at index port)
+goes_detached next places index port = goes_detached_by next places index (has_tie index port.ties) port refl
 
 joined_stands : {T U : Type 0} (subscriber limit index : ℕ) (found : Option ℕ) (old joined : PublisherPort T U)
     → Joins subscriber limit found old (Ok index) joined → joined.stands ≡ old.stands
@@ -257,9 +278,12 @@ well_walks next places subscriber = record {
   end = λ attached ports. wells_on next places ports (changed attached.publisher (ended_if_left attached.index) ports) _
       (wells_changed next places attached.publisher (ended_if_left attached.index) ports (goes_ended next places attached.index))
       (wells_settled next places attached.publisher (changed attached.publisher (ended_if_left attached.index) ports));
-  detach = λ attached ports. wells_changed next places attached.publisher (detached_at attached.index) ports
-      (goes_detached next places attached.index);
 }
+
+pub well_leaving : {T U : Type 0} (next : ℕ) (places : List (Option (Member SubscriberEntry)))
+    → WalksLeaving (λ (old : List (ℕ × PublisherPort T U)) (new : List (ℕ × PublisherPort T U)). ListWell next places old new)
+well_leaving next places attached ports = wells_changed next places attached.publisher (detached_at attached.index) ports
+    (goes_detached next places attached.index)
 
 pub well_takes : {T U : Type 0} (next : ℕ) (places : List (Option (Member SubscriberEntry)))
     → WalksTaking (λ (old : List (ℕ × PublisherPort T U)) (new : List (ℕ × PublisherPort T U)). ListWell next places old new)

@@ -138,7 +138,7 @@ module _ {T U : Type 0} (names : Naming) (message : ℕ → ℕ → ℕ) (lent a
       (boxes : MailboxesStandFor (message number) (names.reader number) names.subscriber after (mailboxes (names.publisher number))
       service.subscribers)
       (other_boxes : (other : ℕ) → other ≢ names.publisher number → mailboxes other ≡ service.mailboxes other)
-      (same_boxes : (one other : ℕ) → is_some (mailboxes one other) ≡ is_some (service.mailboxes one other))
+      (no_more_boxes : (one other : ℕ) → is_some (mailboxes one other) ≡ true → is_some (service.mailboxes one other) ≡ true)
       (same_subscribers : AreButHeld old.subscribers subscribers)
       (once : (other : ℕ) → how_often other (keys_of subscribers) ≤ 1) (same_number : after.number ≡ port.number) where
     there_now : port_of number new.publishers ≡ Some after
@@ -281,7 +281,7 @@ module _ {T U : Type 0} (names : Naming) (message : ℕ → ℕ → ℕ) (lent a
           );
       sized = stands.sized;
       joined = λ one other is.
-          let before = stands.joined one other (sym (same_boxes one other) ∙ is) in (
+          let before = stands.joined one other (no_more_boxes one other is) in (
             still_some (names.publisher number) one publisher was.0 service.publishers publishers was.1 at_it at_others (cases_eq one
                 (names.publisher number)) ∙ before.0,
             before.1,
@@ -329,7 +329,7 @@ module _ {T U : Type 0} (names : Naming) (message : ℕ → ℕ → ℕ) (lent a
       (record service { publishers = publishers; loans = loans })
   one_changed stands there others at_it at_others is boxes same_stands same_place same_number same_readers =
       all_changed names message lent after_lent held held buffer old service number port after publisher publishers loans service.samples
-      service.mailboxes old.subscribers stands there others at_it at_others is boxes (λ other off. refl) (λ one other. refl)
+      service.mailboxes old.subscribers stands there others at_it at_others is boxes (λ other off. refl) (λ one other there. there)
       (λ other. refl) stands.once_subscribers same_number same_stands same_place
       (λ index to read attached. stands.keyed number port there index to (sym (ap (λ readers. get_or readers index None) same_readers)
       ∙ read) attached)

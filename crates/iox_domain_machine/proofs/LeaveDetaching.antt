@@ -1,16 +1,17 @@
 -- Nobody reads any longer at the connections of a subscriber that leaves.
-use Rattle.std.proofs.Common.{◌≡◌, ℕ, zero, suc, Bool, true, false, ◌∷◌, [], List, get_or, set, Option, None, Some, refl, sym, ap, subst}
-use Rattle.std.proofs.Common.{◌∙◌}
+use Rattle.std.proofs.Common.{◌≡◌, ◌≢◌, ℕ, zero, suc, Bool, true, false, ◌∷◌, [], List, get_or, set, Option, None, Some, refl, sym, ap}
+use Rattle.std.proofs.Common.{subst, ◌∙◌}
 use Rattle.std.proofs.Math.Logic.{⊎_elim}
 use Rattle.std.specs.Prelude.{is_some, if◌then◌else◌}
-use Rattle.iox_domain.proofs.ListKeeps.{held_walks, tidy_found}
+use Rattle.iox_domain.proofs.DomainPorts.Untied.{none_tied}
+use Rattle.iox_domain.proofs.ListKeeps.{tidy_found}
 use Rattle.iox_domain.proofs.Numbered.{at_number, same_set}
-use Rattle.iox_domain.proofs.Walks.{left_all_walk}
 use Rattle.iox_domain.specs.DomainPorts.Messages.{Message}
 use Rattle.iox_domain.specs.DomainPorts.Places.{left}
-use Rattle.iox_domain.specs.DomainPorts.Ports.{connection_of, detached_at, ended_at}
-use Rattle.iox_domain.specs.DomainPorts.Publishers.{port_of, with_port, settled}
-use Rattle.iox_domain.specs.DomainPorts.Receiving.{left_at, left_all}
+use Rattle.iox_domain.specs.DomainPorts.Ports.{connection_of, detached_at, ended_at, is_live, unread_at, with_connection_of}
+use Rattle.iox_domain.specs.DomainPorts.Publishers.{port_of, port_stands, with_port, settled}
+use Rattle.iox_domain.specs.DomainPorts.Receiving.{left_at}
+use Rattle.iox_domain.specs.DomainPorts.Ties.{has_tie}
 use Rattle.iox_domain.specs.DomainPorts.declared.attached.Attached.{Attached}
 use Rattle.iox_domain.specs.DomainPorts.declared.attached.Taken.{Taken}
 use Rattle.iox_domain.specs.DomainPorts.declared.publisher_port.PublisherPort.{PublisherPort}
@@ -28,9 +29,11 @@ use Rattle.iox_domain_machine.specs.Tables.{LentSlot}
 use Rattle.iox_domain_machine.proofs.Changing.{all_changed, with_one}
 use Rattle.iox_domain_machine.proofs.Found.{same_some, never_some, never_true}
 use Rattle.iox_domain_machine.proofs.Kept.{loans_kept, samples_kept}
-use Rattle.iox_domain_machine.proofs.LeavePort.{HasParted, ended_parts, left_port, left_boxes, borrowed_same, still_read}
+use Rattle.iox_domain_machine.proofs.LeavePort.{HasParted, ended_parts, left_port, left_boxes, borrowed_same, still_read, without_reader}
 use Rattle.iox_domain_machine.proofs.LeaveSamples.{samples_alike}
 use Rattle.iox_domain_machine.proofs.Settling.{settled_stands}
+use Rattle.iox_domain_machine.proofs.LeaveUnmet.{AreEmptied, emptied_at, one_emptied, same_stands, unmet_stands, was_empty}
+use Rattle.iox_machine.specs.Mailbox.{Mailbox}
 use Rattle.iox_machine.specs.Service.{Service}
 
 -- Whoever reads is one that read there before; and who reads still, read so.
@@ -83,7 +86,7 @@ module _ {T U : Type 0} (names : Naming) (lent : List (ℕ × LentSlot)) (held :
     (service : Service T) (number index : ℕ) (port : PublisherPort T U) (stands : StandsFor names lent held buffer old service)
     (there : port_of number old.publishers ≡ Some port) where
   abbrev after : PublisherPort T U
-  after = detached_at index port
+  after = unread_at index port
 
   abbrev was : PublisherIs names old service number port
   was = stands.publishers number port there
@@ -95,8 +98,8 @@ module _ {T U : Type 0} (names : Naming) (lent : List (ℕ × LentSlot)) (held :
       (keyed.0, ap (λ n. subscriber_of n old.subscribers) (sym before.same) ∙ keyed.1, keyed.2, keyed.3, keyed.4)
 
   -- the machine's service is the same whether somebody reads at a connection still or not
-  pub detached_stands : StandsFor names lent held buffer (with_one number after old) service
-  detached_stands =
+  pub unread_stands : StandsFor names lent held buffer (with_one number after old) service
+  unread_stands =
       all_changed names names.message lent lent held held buffer old service number port after was.0 service.publishers service.loans
       service.samples service.mailboxes old.subscribers stands there (λ other off. refl) was.1 (λ other off. refl)
       (record {
@@ -138,7 +141,7 @@ module _ {T U : Type 0} (names : Naming) (lent : List (ℕ × LentSlot)) (held :
         once = was.3.once;
         due = was.3.due;
       })
-      (λ other off. refl) (λ one other. refl) (λ other. refl) stands.once_subscribers refl refl refl keyed_still
+      (λ other off. refl) (λ one other there. there) (λ other. refl) stands.once_subscribers refl refl refl keyed_still
       (loans_kept number port after old there names lent service.loans refl stands.loans)
       (samples_kept number port after old there names held service.samples refl stands.samples)
 
@@ -167,7 +170,7 @@ module _ {T U : Type 0} (names : Naming) (lent : List (ℕ × LentSlot)) (held :
       (left_port port ends parted silent (names.message number) (names.reader number) old.sizes.max_subscribers before.0 before.2))
       (left_boxes port ends parted silent (names.message number) (names.reader number) names.subscriber
       (service.mailboxes (names.publisher number)) service.subscribers before.3)
-      (λ other off. refl) (λ one other. refl) (λ other. refl) stands.once_subscribers
+      (λ other off. refl) (λ one other there. there) (λ other. refl) stands.once_subscribers
       (ap (λ (one : PublisherPort T U). one.number) (ended_parts index port).same)
       (ap (λ (one : PublisherPort T U). one.stands) (ended_parts index port).same)
       (ap (λ (one : PublisherPort T U). one.place) (ended_parts index port).same)
@@ -189,42 +192,99 @@ module _ {T U : Type 0} (names : Naming) (lent : List (ℕ × LentSlot)) (held :
       settled_stands names lent held buffer (with_one number ends old) service number ends ended_stands (tidy_ends tidy)
       (same_set (at_number number) old.publishers ends port there)
 
-module _ {T U : Type 0} (names : Naming) (lent : List (ℕ × LentSlot)) (held : List (ℕ × Taken)) (buffer : ℕ) (service : Service T) where
-  left_port_stands : (attached : Attached) (old : ServicePorts T U) (found : Option (PublisherPort T U))
-      → port_of attached.publisher old.publishers ≡ found → IsSound old → StandsFor names lent held buffer old service
-      → StandsFor names lent held buffer (record old { publishers = left_at (Some attached) old.publishers }) service
-  left_port_stands attached old None none sound stands = rw none (rw none stands)
-  left_port_stands attached old (Some port) there sound stands = rw there (by port.stands refl)
-    where
-      by : (standing : Bool) → port.stands ≡ standing
-          → StandsFor names lent held buffer
-          (record old {
-            publishers = if standing then with_port attached.publisher old.publishers (detached_at attached.index port)
-                else settled attached.publisher (with_port attached.publisher old.publishers
-                (if port.stands then port else ended_at attached.index port));
-          }) service
-      by true standing = detached_stands names lent held buffer old service attached.publisher attached.index port stands there
-      by false gone =
-          subst (λ standing. StandsFor names lent held buffer
-          (record old {
-            publishers = settled attached.publisher (with_port attached.publisher old.publishers
-                (if standing then port else ended_at attached.index port));
-          }) service) (sym gone)
-          (settled_ends names lent held buffer old service attached.publisher attached.index port stands there gone
-          (tidy_found old.next_port attached.publisher old.publishers port sound there))
+-- The ports of a domain stand for a service, but for mailboxes of a subscriber which are empty, and are taken away.
+pub record StandsWithout {T U : Type 0} (names : Naming) (lent : List (ℕ × LentSlot)) (held : List (ℕ × Taken)) (buffer : ℕ)
+    (ports : ServicePorts T U) (service : Service T) (name : ℕ) : Type 0 where
+  pub mailboxes : ℕ → ℕ → Option (Mailbox T)
+  pub emptied : AreEmptied name service.mailboxes mailboxes
+  pub stands : StandsFor names lent held buffer ports (record service { mailboxes = mailboxes })
 
-  pub left_stands : (attached : Option Attached) (old : ServicePorts T U) → IsSound old → StandsFor names lent held buffer old service
-      → StandsFor names lent held buffer (record old { publishers = left_at attached old.publishers }) service
-  left_stands None old sound stands = stands
-  left_stands (Some attached) old sound stands =
-      left_port_stands attached old (port_of attached.publisher old.publishers) refl sound stands
+-- it is the subscriber of this name to whom a connection leads
+abbrev pub LeadsToName : Naming → ℕ → Option Attached → Type 0
+LeadsToName names name None = Unit {0}
+LeadsToName names name (Some attached) = names.reader attached.publisher attached.index ≡ name
 
-  -- so it is when nobody reads any longer at all connections of a subscriber
-  pub left_all_stands : (values : List (Option Attached)) (old : ServicePorts T U) → IsSound old
+-- the publishers where nobody reads any longer at the connection of one that stands, or left
+abbrev left_so : {T U : Type 0} → Bool → Attached → ServicePorts T U → PublisherPort T U → List (ℕ × PublisherPort T U)
+left_so standing attached old port =
+    if standing then with_port attached.publisher old.publishers (detached_at attached.index port)
+    else settled attached.publisher (with_port attached.publisher old.publishers
+    (if standing then port else ended_at attached.index port))
+
+module _ {T U : Type 0} (names : Naming) (lent : List (ℕ × LentSlot)) (held : List (ℕ × Taken)) (buffer : ℕ) where
+  -- where the publisher left its connection ends
+  pub left_stands : (service : Service T) (attached : Attached) (old : ServicePorts T U) (found : Option (PublisherPort T U))
+      → port_of attached.publisher old.publishers ≡ found → port_stands found ≡ false → IsSound old
       → StandsFor names lent held buffer old service
-      → StandsFor names lent held buffer (record old { publishers = left_all values old.publishers }) service
-  left_all_stands [] old sound stands = stands
-  left_all_stands (attached ∷ values) old sound stands =
-      left_all_stands values (record old { publishers = left_at attached old.publishers })
-      ((left_all_walk (held_walks 0) (attached ∷ []) old.publishers).sound old.next_port sound)
-      (left_stands attached old sound stands)
+      → StandsFor names lent held buffer (record old { publishers = left_at (Some attached) old.publishers }) service
+  left_stands service attached old None none gone sound stands = rw none (rw none stands)
+  left_stands service attached old (Some port) there gone sound stands =
+      rw there (subst (λ standing. StandsFor names lent held buffer
+      (record old { publishers = left_so standing attached old port }) service) (sym gone)
+      (settled_ends names lent held buffer old service attached.publisher attached.index port stands there gone
+      (tidy_found old.next_port attached.publisher old.publishers port sound there)))
+
+  module _ (service : Service T) (name : ℕ) (attached : Attached) (old : ServicePorts T U)
+      (led : names.reader attached.publisher attached.index ≡ name) (walk : StandsWithout names lent held buffer old service name)
+      (port : PublisherPort T U) (there : port_of attached.publisher old.publishers ≡ Some port) (standing : port.stands ≡ true) where
+    abbrev without : Service T
+    without = record service { mailboxes = walk.mailboxes }
+
+    abbrev After : PublisherPort T U → Type 0
+    After after = StandsWithout names lent held buffer (with_one attached.publisher after old) service name
+
+    unmet : (live : Bool) → is_live attached.index port ≡ live
+        → ((place : ℕ) → get_or port.ties.items place None ≢ Some attached.index)
+        → After (if live then record (with_connection_of attached.index (ended (connection_of attached.index port)) port)
+        { readers = set port.readers attached.index None } else port)
+    unmet true live untied = record {
+      mailboxes = emptied_at (names.publisher attached.publisher) name walk.mailboxes;
+      emptied = one_emptied name (names.publisher attached.publisher) service.mailboxes walk.mailboxes walk.emptied
+          (subst (λ n. (box : Mailbox T) → walk.mailboxes (names.publisher attached.publisher) n ≡ Some box
+          → (box.waiting ≡ []) × (box.borrowed ≡ [])) led
+          (was_empty names lent held buffer old without attached.publisher attached.index port walk.stands there live standing untied));
+      stands = subst (λ n. StandsFor names lent held buffer
+          (with_one attached.publisher (without_reader attached.index port) old)
+          (record service { mailboxes = emptied_at (names.publisher attached.publisher) n walk.mailboxes })) led
+          (unmet_stands names lent held buffer old without attached.publisher attached.index port walk.stands there live standing untied);
+    }
+    unmet false live untied = record {
+      mailboxes = walk.mailboxes;
+      emptied = walk.emptied;
+      stands = same_stands names lent held buffer old without attached.publisher attached.index port walk.stands there;
+    }
+
+    detached : (tied : Bool) → has_tie attached.index port.ties ≡ tied
+        → After (if tied then unread_at attached.index port else ended_at attached.index port)
+    detached true tied = record {
+      mailboxes = walk.mailboxes;
+      emptied = walk.emptied;
+      stands = unread_stands names lent held buffer old without attached.publisher attached.index port walk.stands there;
+    }
+    detached false tied = unmet (is_live attached.index port) refl (none_tied attached.index port.ties tied)
+
+    pub detached_stands : After (detached_at attached.index port)
+    detached_stands = detached (has_tie attached.index port.ties) refl
+
+  left_by : (service : Service T) (name : ℕ) (attached : Attached) (old : ServicePorts T U) (found : Option (PublisherPort T U))
+      → port_of attached.publisher old.publishers ≡ found → (standing : Bool) → port_stands found ≡ standing
+      → names.reader attached.publisher attached.index ≡ name → IsSound old → StandsWithout names lent held buffer old service name
+      → StandsWithout names lent held buffer (record old { publishers = left_at (Some attached) old.publishers }) service name
+  left_by service name attached old found there false gone led sound walk = record {
+    mailboxes = walk.mailboxes;
+    emptied = walk.emptied;
+    stands = left_stands (record service { mailboxes = walk.mailboxes }) attached old found there gone sound walk.stands;
+  }
+  left_by service name attached old None there true standing led sound walk = never_true standing
+  left_by service name attached old (Some port) there true standing led sound walk =
+      rw there (subst (λ stands. StandsWithout names lent held buffer
+      (record old { publishers = left_so stands attached old port }) service name) (sym standing)
+      (detached_stands service name attached old led walk port there standing))
+
+  pub left_without : (service : Service T) (name : ℕ) (attached : Option Attached) (old : ServicePorts T U)
+      → LeadsToName names name attached → IsSound old → StandsWithout names lent held buffer old service name
+      → StandsWithout names lent held buffer (record old { publishers = left_at attached old.publishers }) service name
+  left_without service name None old led sound walk = walk
+  left_without service name (Some attached) old led sound walk =
+      left_by service name attached old (port_of attached.publisher old.publishers) refl
+      (port_stands (port_of attached.publisher old.publishers)) refl led sound walk

@@ -74,7 +74,7 @@ module _ {T U : Type 0} where
   stayed port = record { same = refl; each = λ index. inl (record { same = refl; reads = refl }) }
 
   -- a connection ended, and nobody reads there
-  abbrev without_reader : ℕ → PublisherPort T U → PublisherPort T U
+  abbrev pub without_reader : ℕ → PublisherPort T U → PublisherPort T U
   without_reader index port =
       record (with_connection_of index (ended (connection_of index port)) port) { readers = set port.readers index None }
 

@@ -6,14 +6,15 @@ use Rattle.std.proofs.lemmas.List.{get_or-set_other}
 use Rattle.std.proofs.lemmas.Map.{keys-set_value}
 use Rattle.std.specs.Map.{keys_of}
 use Rattle.std.specs.Prelude.{if◌then◌else◌}
-use Rattle.iox_domain.proofs.ListKeeps.{held_walks}
+use Rattle.iox_domain.proofs.ListKeeps.{held_walks, held_leaving}
 use Rattle.iox_domain.proofs.Numbered.{at_number, same_set, other_fails, other_gone}
 use Rattle.iox_domain.proofs.Walks.{left_all_walk}
 use Rattle.iox_domain.specs.Container.SlotTable.{value_at}
 use Rattle.iox_domain.specs.DomainPorts.Places.{left}
-use Rattle.iox_domain.specs.DomainPorts.Ports.{connection_of, with_connection_of, detached_at, ended_at, is_live}
+use Rattle.iox_domain.specs.DomainPorts.Ports.{connection_of, with_connection_of, detached_at, ended_at, is_live, unread_at}
 use Rattle.iox_domain.specs.DomainPorts.Publishers.{port_of, with_port, removed, settled, is_over_in}
 use Rattle.iox_domain.specs.DomainPorts.Receiving.{left_at, left_all}
+use Rattle.iox_domain.specs.DomainPorts.Ties.{has_tie}
 use Rattle.iox_domain.specs.DomainPorts.declared.attached.Attached.{Attached}
 use Rattle.iox_domain.specs.DomainPorts.declared.attached.Taken.{Taken}
 use Rattle.iox_domain.specs.DomainPorts.declared.publisher_port.PublisherPort.{PublisherPort}
@@ -26,8 +27,9 @@ use Rattle.iox_domain_machine.specs.Naming.{Naming}
 use Rattle.iox_domain_machine.specs.Standing.{StandsFor}
 use Rattle.iox_domain_machine.specs.Tables.{LentSlot}
 use Rattle.iox_domain_machine.proofs.Found.{same_some, never_some, never_true, other_found}
-use Rattle.iox_domain_machine.proofs.LeaveDetaching.{reads_before, left_stands}
+use Rattle.iox_domain_machine.proofs.LeaveDetaching.{reads_before, left_without, LeadsToName, StandsWithout}
 use Rattle.iox_domain_machine.proofs.LeavePort.{none_set}
+use Rattle.iox_domain_machine.proofs.LeaveUnmet.{none_emptied}
 use Rattle.iox_domain_machine.proofs.Settling.{gone_found}
 use Rattle.iox_machine.specs.Service.{Service}
 
@@ -110,8 +112,8 @@ module _ {T U : Type 0} where
     λ its. absurd (off its),
   )
 
-  detached_so : (index : ℕ) (port : PublisherPort T U) → ReadSo index port (detached_at index port)
-  detached_so index port i to is attached =
+  unread_so : (index : ℕ) (port : PublisherPort T U) → ReadSo index port (unread_at index port)
+  unread_so index port i to is attached =
       let before = reads_before port.readers index i to is in (
         (before.was, before.is, before.still attached),
         λ same. never_true (sym (detached_silent port.readers index to
@@ -131,8 +133,19 @@ module _ {T U : Type 0} where
     λ same. never_true (sym live ∙ heard to (ap (λ n. get_or port.readers n None) (sym same) ∙ is)),
   )
 
-module _ {T U : Type 0} (names : Naming) (lent : List (ℕ × LentSlot)) (held : List (ℕ × Taken)) (buffer : ℕ) (service : Service T) where
-  module _ (attached : Attached) (old : ServicePorts T U) (stands : StandsFor names lent held buffer old service) (number index : ℕ) where
+  detached_so : (index : ℕ) (port : PublisherPort T U) (tied : Bool)
+      → ((to : Reader) → get_or port.readers index None ≡ Some to → is_live index port ≡ true)
+      → ReadSo index port (if tied then unread_at index port else ended_at index port)
+  detached_so index port true heard = unread_so index port
+  detached_so index port false heard = ended_so index port (is_live index port) refl heard
+
+module _ {T U : Type 0} (names : Naming) (lent : List (ℕ × LentSlot)) (held : List (ℕ × Taken)) (buffer : ℕ) where
+  module _ (service : Service T) (attached : Attached) (old : ServicePorts T U) (stands : StandsFor names lent held buffer old service)
+      (number index : ℕ) where
+    heard_there : (port : PublisherPort T U) → port_of attached.publisher old.publishers ≡ Some port → (to : Reader)
+        → get_or port.readers attached.index None ≡ Some to → is_live attached.index port ≡ true
+    heard_there port there to is = (stands.publishers attached.publisher port there).3.heard attached.index to is
+
     abbrev After : List (ℕ × PublisherPort T U) → Type 0
     After publishers = HasReaderAt number index publishers → StillHasReader number index attached old.publishers
 
@@ -140,14 +153,14 @@ module _ {T U : Type 0} (names : Naming) (lent : List (ℕ × LentSlot)) (held :
         → After (if standing then with_port attached.publisher old.publishers (detached_at attached.index port)
         else settled attached.publisher (with_port attached.publisher old.publishers (ended_at attached.index port)))
     still_here port there true reads =
-        reads_with attached port (detached_at attached.index port) old.publishers there (detached_so attached.index port) number index
+        reads_with attached port (detached_at attached.index port) old.publishers there
+        (detached_so attached.index port (has_tie attached.index port.ties) (heard_there port there)) number index
         (cases_eq number attached.publisher) reads
     still_here port there false reads =
         let ends : PublisherPort T U = ended_at attached.index port in
         let ports : List (ℕ × PublisherPort T U) = with_port attached.publisher old.publishers ends in
         reads_with attached port ends old.publishers there
-        (ended_so attached.index port (is_live attached.index port) refl
-        (λ to is. (stands.publishers attached.publisher port there).3.heard attached.index to is)) number index
+        (ended_so attached.index port (is_live attached.index port) refl (heard_there port there)) number index
         (cases_eq number attached.publisher)
         (reads_settled (is_over_in attached.publisher ports) attached.publisher ports
         (subst (λ keys. how_often attached.publisher keys ≤ 1)
@@ -170,32 +183,54 @@ module _ {T U : Type 0} (names : Naming) (lent : List (ℕ × LentSlot)) (held :
             subst (λ standing. After (settled attached.publisher (with_port attached.publisher old.publishers
             (if standing then port else ended_at attached.index port)))) (sym gone) (still_here port there false)
 
-  still_at : (attached : Option Attached) (old : ServicePorts T U) → StandsFor names lent held buffer old service → (number index : ℕ)
-      → HasReaderAt number index (left_at attached old.publishers)
+  still_at : (service : Service T) (attached : Option Attached) (old : ServicePorts T U) → StandsFor names lent held buffer old service
+      → (number index : ℕ) → HasReaderAt number index (left_at attached old.publishers)
       → HasReaderAt number index old.publishers × (attached ≢ Some (record { publisher = number; index = index }))
-  still_at None old stands number index reads = (reads, λ is. never_some _ is)
-  still_at (Some attached) old stands number index reads =
-      let before = still_port attached old stands number index (port_of attached.publisher old.publishers) refl reads in (
+  still_at service None old stands number index reads = (reads, λ is. never_some _ is)
+  still_at service (Some attached) old stands number index reads =
+      let before = still_port service attached old stands number index (port_of attached.publisher old.publishers) refl reads in (
         before.0,
         λ is.
             let same = same_some attached (record { publisher = number; index = index }) is in
             before.1 (sym (ap (λ (one : Attached). one.publisher) same)) (sym (ap (λ (one : Attached). one.index) same)),
       )
 
-  -- who reads once nobody does at connections read before, and at none of these
-  pub still_reads : (values : List (Option Attached)) (old : ServicePorts T U) → IsSound old → StandsFor names lent held buffer old service
-      → (number index : ℕ) → HasReaderAt number index (left_all values old.publishers)
-      → HasReaderAt number index old.publishers × ((key : ℕ) → value_at values key ≢ Some (record { publisher = number; index = index }))
-  still_reads [] old sound stands number index reads = (reads, λ key is. never_some _ is)
-  still_reads (attached ∷ values) old sound stands number index reads =
-      let rest = still_reads values (record old { publishers = left_at attached old.publishers })
-      ((left_all_walk (held_walks 0) (attached ∷ []) old.publishers).sound old.next_port sound)
-      (left_stands names lent held buffer service attached old sound stands) number index reads in
-      let first = still_at attached old stands number index rest.0 in
-      (first.0, λ key. at_key key first.1 rest.1)
+  -- Nobody reads any longer at the connections of these keys, which lead to the subscriber of this name: the ports stand for the service
+  -- but for its mailboxes that are taken away, and who reads then read before, and at none of these.
+  pub record WalkedOff (service : Service T) (name : ℕ) (values : List (Option Attached)) (old : ServicePorts T U) : Type 0 where
+    pub walk : StandsWithout names lent held buffer (record old { publishers = left_all values old.publishers }) service name
+    pub still : (number index : ℕ) → HasReaderAt number index (left_all values old.publishers)
+        → HasReaderAt number index old.publishers × ((key : ℕ) → value_at values key ≢ Some (record { publisher = number; index = index }))
+
+  walks_off : (service : Service T) (name : ℕ) (values : List (Option Attached)) (old : ServicePorts T U)
+      → ((key : ℕ) → LeadsToName names name (value_at values key)) → IsSound old
+      → StandsWithout names lent held buffer old service name → WalkedOff service name values old
+  walks_off service name [] old led sound walk = record { walk = walk; still = λ number index reads. (reads, λ key is. never_some _ is) }
+  walks_off service name (attached ∷ values) old led sound walk =
+      let rest = walks_off service name values (record old { publishers = left_at attached old.publishers }) (λ key. led (suc key))
+      ((left_all_walk (held_walks 0) held_leaving (attached ∷ []) old.publishers).sound old.next_port sound)
+      (left_without names lent held buffer service name attached old (led zero) sound walk) in
+      record { walk = rest.walk; still = λ number index reads. still_reads rest number index reads }
     where
-      at_key : (key : ℕ) → attached ≢ Some (record { publisher = number; index = index })
+      at_key : (number index key : ℕ) → attached ≢ Some (record { publisher = number; index = index })
           → ((key : ℕ) → value_at values key ≢ Some (record { publisher = number; index = index }))
           → value_at (attached ∷ values) key ≢ Some (record { publisher = number; index = index })
-      at_key zero first rest is = first is
-      at_key (suc key) first rest is = rest key is
+      at_key number index zero first rest is = first is
+      at_key number index (suc key) first rest is = rest key is
+
+      still_reads : WalkedOff service name values (record old { publishers = left_at attached old.publishers }) → (number index : ℕ)
+          → HasReaderAt number index (left_all values (left_at attached old.publishers))
+          → HasReaderAt number index old.publishers
+          × ((key : ℕ) → value_at (attached ∷ values) key ≢ Some (record { publisher = number; index = index }))
+      still_reads rest number index reads =
+          let further = rest.still number index reads in
+          let first = still_at (record service { mailboxes = walk.mailboxes }) attached old walk.stands number index further.0 in
+          (first.0, λ key. at_key number index key first.1 further.1)
+
+  -- so it is where the ports stood for the whole service
+  pub walked_off : (service : Service T) (name : ℕ) (values : List (Option Attached)) (old : ServicePorts T U)
+      → ((key : ℕ) → LeadsToName names name (value_at values key)) → IsSound old → StandsFor names lent held buffer old service
+      → WalkedOff service name values old
+  walked_off service name values old led sound stands =
+      walks_off service name values old led sound
+      (record { mailboxes = service.mailboxes; emptied = none_emptied name service.mailboxes; stands = stands })

@@ -203,7 +203,7 @@ module _ {T U : Type 0} (names : Naming) (lent : List (ℕ × LentSlot)) (held :
       (left_port port after parted silent (names.message number) (names.reader number) old.sizes.max_subscribers was.0 was.2)
       (left_boxes port after parted silent (names.message number) (names.reader number) names.subscriber
       (service.mailboxes name) service.subscribers was.3)
-      (λ other off. refl) (λ one other. refl) (λ other. refl) stands.once_subscribers
+      (λ other off. refl) (λ one other there. there) (λ other. refl) stands.once_subscribers
       (ap (λ (one : PublisherPort T U). one.number) parted.same) roll (shorthands.left name service.publisher_list) same_list
       (λ other found is. listed other found (cases_eq other number) is)
       (λ place member is. present place member (cases_eq place port.place) is)

@@ -8,26 +8,29 @@ use Rattle.iox_command.specs.declared.reply.Reply.TheVariants as reply
 use Rattle.iox_domain.specs.DomainPorts.Publishers.{port_of}
 use Rattle.iox_domain.specs.DomainPorts.Receiving.{left_all}
 use Rattle.iox_domain.specs.DomainPorts.Subscribing.{attached_at}
+use Rattle.iox_domain.specs.DomainPorts.declared.attached.Attached.{Attached}
 use Rattle.iox_domain.specs.DomainPorts.declared.attached.Taken.{Taken}
 use Rattle.iox_domain.specs.DomainPorts.declared.publisher_port.PublisherPort.{PublisherPort}
 use Rattle.iox_domain.specs.DomainPorts.declared.reader.Reader.{Reader}
 use Rattle.iox_domain.specs.DomainPorts.declared.subscriber_port.SubscriberPort.{SubscriberPort}
-use Rattle.iox_domain.specs.PortLawsLaws.{IsSound}
 use Rattle.iox_domain.specs.PortsSubscribing.{LeavesAt, LeavesPortIf}
 use Rattle.iox_domain.specs.Rolls.{left, may_change}
+use Rattle.iox_domain.specs.Roomy.{AreRoomy}
 use Rattle.iox_domain.specs.Subscribers.{subscriber_of, with_subscriber, settled}
 use Rattle.iox_domain.specs.declared.ports.service_ports.ServicePorts.{ServicePorts}
 use Rattle.iox_domain_machine.specs.LeaveLaws.{SubscriberLeaveMatches}
 use Rattle.iox_domain_machine.specs.Laws.{Matches, done_or_skipped}
+use Rattle.iox_domain.proofs.StayRoomy.{entry_found}
 use Rattle.iox_domain_machine.specs.Naming.{Naming}
 use Rattle.iox_domain_machine.specs.Standing.{StandsFor, SubscriberIs}
 use Rattle.iox_domain_machine.specs.Tables.{LentSlot}
 use Rattle.iox_domain_machine.proofs.Alone.{alone_does, alone_skips}
-use Rattle.iox_domain_machine.proofs.Found.{same_some}
+use Rattle.iox_domain_machine.proofs.Found.{at_changed, same_some}
 use Rattle.iox_domain_machine.proofs.GivingUp.{some_of}
-use Rattle.iox_domain_machine.proofs.LeaveDetaching.{left_all_stands}
-use Rattle.iox_domain_machine.proofs.LeaveReading.{still_reads}
+use Rattle.iox_domain_machine.proofs.LeaveDetaching.{LeadsToName}
+use Rattle.iox_domain_machine.proofs.LeaveReading.{WalkedOff, walked_off}
 use Rattle.iox_domain_machine.proofs.LeaveSubscriber.{service_after, leave_stands}
+use Rattle.iox_domain_machine.proofs.LeaveUnmet.{put_back}
 use Rattle.iox_machine.specs.Choices.{Choices}
 use Rattle.iox_machine.proofs.Shorthands as shorthands
 use Rattle.iox_machine.specs.Ports.{subscriber_in}
@@ -45,9 +48,26 @@ module _ {T : Type 0} (service : Service T) (number : ℕ) (subscriber : Subscri
   pub is_subscriber_in : subscriber.stands ≡ true → subscriber_in number service ≡ Some subscriber
   is_subscriber_in stands = rw is (rw stands refl)
 
+module _ {T U : Type 0} (names : Naming) (lent : List (ℕ × LentSlot)) (held : List (ℕ × Taken)) (buffer : ℕ) (old : ServicePorts T U)
+    (service : Service T) (number : ℕ) (stands : StandsFor names lent held buffer old service) (roomy : AreRoomy old)
+    (port : SubscriberPort) (there : subscriber_of number old.subscribers ≡ Some port) (standing : port.stands ≡ true) where
+  -- the connections of a subscriber that stands are its own
+  leads_to_it : (key : ℕ) (found : Option Attached) → attached_at key port ≡ found
+      → LeadsToName names (names.subscriber number) found
+  leads_to_it key None is = tt
+  leads_to_it key (Some attached) is =
+      let it = (entry_found number port old there roomy standing).reads key attached is in
+      ((stands.publishers attached.publisher it.0 it.1).3.read attached.index (record { subscriber = number; attached = true })
+      it.2.reader).0
+
+  -- nobody reads at them any longer, and those end of which their publishers don't know yet
+  pub leaves_keys : WalkedOff names lent held buffer service (names.subscriber number) port.connections.values old
+  leaves_keys = walked_off names lent held buffer service (names.subscriber number) port.connections.values old
+      (λ key. leads_to_it key (attached_at key port) refl) roomy.sound stands
+
 module _ {T U : Type 0} (types : MessageTypeDetails) (choices : Choices T) (buffer : ℕ) (names : Naming) (lent : List (ℕ × LentSlot))
     (held : List (ℕ × Taken)) (old : ServicePorts T U) (service : Service T) (state : State T) (number : ℕ)
-    (stands : StandsFor names lent held buffer old service) (sound : IsSound old) (named_so : names.subscriber number ≢ 0)
+    (stands : StandsFor names lent held buffer old service) (roomy : AreRoomy old) (named_so : names.subscriber number ≢ 0)
     (may : may_change old.subscriber_list ≡ true) where
   abbrev name : ℕ
   name = names.subscriber number
@@ -82,32 +102,51 @@ module _ {T U : Type 0} (types : MessageTypeDetails) (choices : Choices T) (buff
     abbrev between : ServicePorts T U
     between = record old { publishers = publishers }
 
-    between_stands : StandsFor names lent held buffer between service
-    between_stands = left_all_stands names lent held buffer service port.connections.values old sound stands
+    module _ (standing : port.stands ≡ true) where
+      walked : WalkedOff names lent held buffer service name port.connections.values old
+      walked = leaves_keys names lent held buffer old service number stands roomy port there standing
 
-    -- nobody reads any longer where the subscriber did
-    unread : (other index : ℕ) (one : PublisherPort T U) (to : Reader) → port_of other publishers ≡ Some one
-        → get_or one.readers index None ≡ Some to → to.attached ≡ true → to.subscriber ≢ number
-    unread other index one to is reads attached same =
-        let key = between_stands.keyed other one is index to reads attached in
-        let its : key.0 ≡ port = same_some key.0 port (sym key.1 ∙ ap (λ n. subscriber_of n old.subscribers) same ∙ there) in
-        (still_reads names lent held buffer service port.connections.values old sound stands other index
-        (record { port = one; there = is; to = to; read = reads; attached = attached })).1 key.3
-        (ap (attached_at key.3) (sym its) ∙ key.4)
+      abbrev its_service : Service T
+      its_service = record service { mailboxes = walked.walk.mailboxes }
 
-    leaves : port.stands ≡ true → Result true (record old {
-      subscribers = settled number (with_subscriber number old.subscribers (record port { stands = false }));
-      publishers = publishers;
-      subscriber_list = left port.place old.subscriber_list;
-    })
-    leaves standing =
-        let after = service_after names lent held buffer between service number port found between_stands there standing named_so may
-        unread in (
-          after,
-          alone_does (subscriber_in name) Does state service after reply.Done found.0
-              (is_subscriber_in service name found.0 found.1 (found.2.stands ∙ standing)) (refl, refl),
-          leave_stands names lent held buffer between service number port found between_stands there standing named_so may unread,
-        )
+      -- nobody reads any longer where the subscriber did
+      unread : (other index : ℕ) (one : PublisherPort T U) (to : Reader) → port_of other publishers ≡ Some one
+          → get_or one.readers index None ≡ Some to → to.attached ≡ true → to.subscriber ≢ number
+      unread other index one to is reads attached same =
+          let key = walked.walk.stands.keyed other one is index to reads attached in
+          let its : key.0 ≡ port = same_some key.0 port (sym key.1 ∙ ap (λ n. subscriber_of n old.subscribers) same ∙ there) in
+          (walked.still other index (record { port = one; there = is; to = to; read = reads; attached = attached })).1 key.3
+          (ap (attached_at key.3) (sym its) ∙ key.4)
+
+      abbrev after_without : Service T
+      after_without = service_after names lent held buffer between its_service number port found walked.walk.stands there standing
+          named_so may unread
+
+      abbrev after : Service T
+      after = record after_without { mailboxes = service.mailboxes }
+
+      left_so : StandsFor names lent held buffer (record old {
+        subscribers = settled number (with_subscriber number old.subscribers (record port { stands = false }));
+        publishers = publishers;
+        subscriber_list = left port.place old.subscriber_list;
+      }) after
+      left_so =
+          put_back names lent held buffer _ after walked.walk.mailboxes name (record found.0 { stands = false })
+          (leave_stands names lent held buffer between its_service number port found walked.walk.stands there standing named_so may unread)
+          walked.walk.emptied (at_changed name (record found.0 { stands = false }) found.0 service.subscribers found.1) refl
+          (λ one other is. (stands.joined one other is).0)
+
+      leaves : Result true (record old {
+        subscribers = settled number (with_subscriber number old.subscribers (record port { stands = false }));
+        publishers = publishers;
+        subscriber_list = left port.place old.subscriber_list;
+      })
+      leaves = (
+        after,
+        alone_does (subscriber_in name) Does state service after reply.Done found.0
+            (is_subscriber_in service name found.0 found.1 (found.2.stands ∙ standing)) (refl, refl),
+        left_so,
+      )
 
     by : (answer : Bool) (new : ServicePorts T U) (standing : Bool) → port.stands ≡ standing
         → LeavesPortIf standing number port old answer new → Result answer new
@@ -124,5 +163,5 @@ module _ {T U : Type 0} (types : MessageTypeDetails) (choices : Choices T) (buff
   subscriber_leaves answer new call = by_port (subscriber_of number old.subscribers) refl answer new call
 
 pub subscriber_leave_matches : (T U : Type 0) (choices : Choices T) → SubscriberLeaveMatches T U choices
-subscriber_leave_matches T U choices types buffer names lent held old new service state number answer stands sound named may call =
-    subscriber_leaves types choices buffer names lent held old service state number stands sound named may answer new call
+subscriber_leave_matches T U choices types buffer names lent held old new service state number answer stands roomy named may call =
+    subscriber_leaves types choices buffer names lent held old service state number stands roomy named may answer new call

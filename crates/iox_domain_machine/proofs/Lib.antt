@@ -21,6 +21,7 @@ pub mod ReleasePort
 pub mod ReleaseSettling
 pub mod Releasing
 pub mod LeavePort
+pub mod LeaveUnmet
 pub mod LeaveSamples
 pub mod Leaving
 pub mod LeaveDetaching

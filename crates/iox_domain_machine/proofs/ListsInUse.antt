@@ -5,7 +5,7 @@ use Rattle.std.proofs.lemmas.List.Elements.{All-nil}
 use Rattle.std.specs.Prelude.{⊤}
 use Rattle.std.specs.declared.alloc.AllocError.{AllocError}
 use Rattle.iox_domain.proofs.Numbered.{all_came, all_gone, all_set, at_number, found_of_all}
-use Rattle.iox_domain.proofs.Walks.{Walks, WalksTaking, left_all_walk, walked_receives, walked_updates}
+use Rattle.iox_domain.proofs.Walks.{Walks, WalksTaking, WalksLeaving, left_all_walk, walked_receives, walked_updates}
 use Rattle.iox_domain.specs.Calls.{AsksForSamples, GivesLoanUp, GivesSendUp, Happens, Lends, PortCall, PublisherComes, PublisherLeaves}
 use Rattle.iox_domain.specs.Calls.{PublisherUpdates, Receives, Releases, Retries, Sends, SubscriberComes, SubscriberLeaves}
 use Rattle.iox_domain.specs.Calls.{SubscriberUpdates, Writes}
@@ -44,7 +44,8 @@ use Rattle.iox_domain.specs.Subscribers.{subscriber_of}
 use Rattle.iox_domain.specs.declared.ports.making.PublisherConfig.{PublisherConfig}
 use Rattle.iox_domain.specs.declared.ports.service_ports.ServicePorts.{ServicePorts}
 use Rattle.iox_domain_machine.proofs.Found.{never_some}
-use Rattle.iox_domain_machine.proofs.MessagesInUse.{Passes, back_passes, so_attaches, so_departed, so_ended_if_left, so_updates}
+use Rattle.iox_domain_machine.proofs.MessagesInUse.{Passes, back_passes, so_attaches, so_departed, so_detached, so_ended_if_left}
+use Rattle.iox_domain_machine.proofs.MessagesInUse.{so_updates}
 use Rattle.iox_domain_machine.proofs.MessagesInUse.{taken_passes}
 use Rattle.iox_domain_machine.proofs.SendsInUse.{BeginsSo, passes_changed, passes_given_up, passes_gives_up, passes_loans, passes_retries}
 use Rattle.iox_domain_machine.proofs.SendsInUse.{passes_sends, passes_updates}
@@ -120,8 +121,11 @@ module _ {T U : Type 0} (P : Header → Message T U → Type 0) where
     end = λ attached ports all.
         settled_goes attached.publisher (changed attached.publisher (ended_if_left attached.index) ports)
         (changed_goes attached.publisher (ended_if_left attached.index) ports (ended_passes attached.index) all);
-    detach = λ attached ports all. changed_goes attached.publisher (detached_at attached.index) ports (λ port passes. passes) all;
   }
+
+  leaving : WalksLeaving Goes
+  leaving attached ports all = changed_goes attached.publisher (detached_at attached.index) ports
+      (λ port passes. (so_detached P (λ loans last owner number. ⊤) attached.index port (passes, tt)).0) all
 
   takes : WalksTaking Goes
   takes attached ports below all = changed_goes attached.publisher (taken_at attached.index) ports (taken_passes P attached.index) all
@@ -243,7 +247,7 @@ module _ {T U : Type 0} (P : Header → Message T U → Type 0) where
       → subscribing.LeavesPortIf stands number port old answer new → Goes old.publishers new.publishers
   reader_leaves_if false number port old new answer leaves all = to_pass old new leaves.1 all
   reader_leaves_if true number port old new answer leaves all =
-      to_pass _ new leaves.1 (left_all_walk (walks port.number) port.connections.values old.publishers all)
+      to_pass _ new leaves.1 (left_all_walk (walks port.number) leaving port.connections.values old.publishers all)
 
   reader_leaves_at : (number : ℕ) (found : Option SubscriberPort) (old new : ServicePorts T U) (answer : Bool)
       → subscribing.LeavesAt number found old answer new → Goes old.publishers new.publishers

@@ -9,12 +9,12 @@ use Rattle.iox_domain.specs.DomainPorts.Leaving.{departed, parted_at, parted_fro
 use Rattle.iox_domain.specs.DomainPorts.Messages.{Loan, Message}
 use Rattle.iox_domain.specs.DomainPorts.Places.{is_attached}
 use Rattle.iox_domain.specs.DomainPorts.Ports.{Attaches, Joins, connection_of, connection_to, ended_at, greeted_at, is_live, welcomed_at}
-use Rattle.iox_domain.specs.DomainPorts.Ports.{with_connection_of}
+use Rattle.iox_domain.specs.DomainPorts.Ports.{detached_at, unread_at, with_connection_of}
 use Rattle.iox_domain.specs.DomainPorts.PublisherUpdating.{Follows, FollowsAll, FollowsTo, Ties, Updates, UpdatesIf, is_tie_to, let_go_of}
 use Rattle.iox_domain.specs.DomainPorts.PublisherUpdating.{untied, untied_from, within_reach}
 use Rattle.iox_domain.specs.DomainPorts.Publishers.{ended_if_left}
 use Rattle.iox_domain.specs.DomainPorts.Reading.{given_back_at, taken_at}
-use Rattle.iox_domain.specs.DomainPorts.Ties.{tie_put}
+use Rattle.iox_domain.specs.DomainPorts.Ties.{has_tie, tie_put}
 use Rattle.iox_domain.specs.DomainPorts.declared.publisher_port.PublisherPort.{PublisherPort}
 use Rattle.iox_domain.specs.DomainPorts.declared.subscriber_entry.SubscriberEntry.{SubscriberEntry}
 use Rattle.iox_domain.specs.DomainSlots.Uses.{Connection, connected, ended, given_back, nobody, offered, placed, settled, taken, welcomed}
@@ -159,6 +159,10 @@ module _ {T U : Type 0} (P : Header → Message T U → Type 0) where
 
     pub so_ended_if_left : (index : ℕ) (port : PublisherPort T U) → IsSo port → IsSo (ended_if_left index port)
     so_ended_if_left index port so = so_if port.stands port (ended_at index port) so (so_ended index port so)
+
+    -- nobody reads there any longer, or it ends
+    pub so_detached : (index : ℕ) (port : PublisherPort T U) → IsSo port → IsSo (detached_at index port)
+    so_detached index port so = so_if (has_tie index port.ties) (unread_at index port) (ended_at index port) so (so_ended index port so)
 
     -- all at which nobody reads do, where the publisher leaves
     so_parted : (index : ℕ) (port : PublisherPort T U) → IsSo port → IsSo (parted_at index port)

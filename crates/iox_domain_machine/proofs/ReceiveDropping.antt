@@ -9,7 +9,7 @@ use Rattle.std.specs.Map.{keys_of}
 use Rattle.std.specs.Option.{option_map_or}
 use Rattle.std.specs.Prelude.{is_some, option_map, if◌then◌else◌}
 use Rattle.iox_domain.specs.Container.SlotTable.{released}
-use Rattle.iox_domain.proofs.ListKeeps.{held_walks}
+use Rattle.iox_domain.proofs.ListKeeps.{held_walks, held_leaving}
 use Rattle.iox_domain.proofs.Keys.{keys_reached, often_append}
 use Rattle.iox_domain.proofs.Numbered.{at_number, other_fails, other_gone, same_set}
 use Rattle.iox_domain.proofs.TiedWell.{gone_there}
@@ -281,7 +281,7 @@ module _ {T U : Type 0} (names : Naming) (lent : List (ℕ × LentSlot)) (held :
   between_stands =
       subst (λ (publishers : List (ℕ × PublisherPort T U)). StandsFor names lent held buffer (record ports { publishers = publishers })
       service) (left_ends attached ports.publishers it.0 it.1 publisher_left)
-      (left_stands names lent held buffer service (Some attached) ports sound stands)
+      (left_stands names lent held buffer service attached ports (Some it.0) it.1 publisher_left sound stands)
 
   abbrev dropped : ServicePorts T U
   dropped = with_both number fewer ended_there ports
@@ -333,7 +333,7 @@ module _ {T U : Type 0} (names : Naming) (lent : List (ℕ × LentSlot)) (held :
         refl refl keyed;
     sound = subst (λ (all : List (ℕ × PublisherPort T U)). All (IsSoundEntry ports.next_port) all)
         (left_ends attached ports.publishers it.0 it.1 publisher_left)
-        ((left_all_walk (held_walks 0) (Some attached ∷ []) ports.publishers).sound ports.next_port sound);
+        ((left_all_walk (held_walks 0) held_leaving (Some attached ∷ []) ports.publishers).sound ports.next_port sound);
     hears = hears_still;
     items = refl;
     same = same_keys;

@@ -122,7 +122,8 @@ module _ {T U : Type 0} (names : Naming) (lent : List (ℕ × LentSlot)) (held :
       (port_after publisher giver.index read.live some_wait (names.message giver.publisher) (names.reader giver.publisher)
       old.sizes.max_subscribers was.0 was.2)
       boxes_now (other_boxes name (names.subscriber number) box service)
-      (same_boxes name (names.subscriber number) box service (ap is_some box_there)) same_subscribers
+      (λ one other there. sym (same_boxes name (names.subscriber number) box service (ap is_some box_there) one other) ∙ there)
+      same_subscribers
       (λ other. subst (λ keys. how_often other keys ≤ 1) (sym (keys-set_value (at_number number) old.subscribers holder))
       (stands.once_subscribers other))
       refl refl refl (stands.keyed giver.publisher publisher there) loans_after

@@ -384,7 +384,8 @@ module _ {T U : Type 0} (names : Naming) (lent : List (ℕ × LentSlot)) (held :
         (port_after it.port taken.index taken.slot tidy it.counts once (names.message taken.publisher) (names.reader taken.publisher)
         old.sizes.max_subscribers was.0 was.2)
         boxes_now (other_boxes gone.publisher gone.subscriber given service)
-        (same_boxes gone.publisher gone.subscriber given service (ap is_some box_there)) same_subscribers
+        (λ one other there. sym (same_boxes gone.publisher gone.subscriber given service (ap is_some box_there) one other) ∙ there)
+        same_subscribers
         (λ other. subst (λ keys. how_often other keys ≤ 1) (sym (keys-set_value (at_number taken.subscriber) old.subscribers less))
         (stands.once_subscribers other))
         refl refl refl (stands.keyed taken.publisher it.port it.there) loans_after samples_after

@@ -368,7 +368,8 @@ module _ {T U : Type 0} (choices : Choices T) (names : Naming) (lent after_lent 
           service.samples mailboxes old.subscribers stands there (λ other off. refl)
           (at_changed name (record publisher { blocked = blocked }) was.0 service.publishers was.1)
           (λ other off. at_changed_other name other (record publisher { blocked = blocked }) service.publishers off)
-          (port_after blocked is) boxes_after far.others far.same (λ other. refl) stands.once_subscribers refl refl refl
+          (port_after blocked is) boxes_after far.others (λ one other there. sym (far.same one other) ∙ there) (λ other. refl)
+          stands.once_subscribers refl refl refl
           (stands.keyed number port there) loans_after
           (samples_alike names held old number port after there
           far.borrowed service.samples stands.samples)

@@ -191,8 +191,8 @@ module _ {T U : Type 0} (names : Naming) (lent : List (ℕ × LentSlot)) (held :
     ended_first =
         subst (λ all. Stands names lent held buffer old service number first was reader port all mailboxes) left_is
         (left_stands (record names { reader = reader }) lent held buffer
-        (service_at names lent held buffer old service number first was port mailboxes) (Some gone) (with_both number port ports old)
-        midway.sound midway.stands)
+        (service_at names lent held buffer old service number first was port mailboxes) gone (with_both number port ports old)
+        (port_of gone.publisher ports) refl left midway.sound midway.stands)
 
     once_now : how_often gone.publisher (keys_of (changed gone.publisher (ended_if_left gone.index) ports)) ≤ 1
     once_now =

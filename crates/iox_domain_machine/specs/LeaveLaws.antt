@@ -6,6 +6,7 @@ use Rattle.iox_command.specs.declared.port.PortNumber.TheVariants as port
 use Rattle.iox_domain.specs.DomainPorts.declared.attached.Taken.{Taken}
 use Rattle.iox_domain.specs.PortLawsLaws.{IsSound}
 use Rattle.iox_domain.specs.Rolls.{may_change}
+use Rattle.iox_domain.specs.Roomy.{AreRoomy}
 use Rattle.iox_domain.specs.Steps.{PublisherLeaves, SubscriberLeaves}
 use Rattle.iox_domain.specs.declared.ports.service_ports.ServicePorts.{ServicePorts}
 use Rattle.iox_domain_machine.specs.Laws.{Matches, done_or_skipped}
@@ -26,11 +27,12 @@ PublisherLeaveMatches T U choices = (types : MessageTypeDetails) (buffer : ℕ) 
     → Matches T U choices types buffer (command.Leave (port.Publisher (names.publisher number))) (done_or_skipped answer) state
     service names lent held new
 
--- A subscriber leaves, of ports that are sound. One change more of the list of subscribers can be counted.
+-- A subscriber leaves, of ports that are roomy: so they are after any calls, as `SamplesLeft` says. One change more of the list of
+-- subscribers can be counted.
 abbrev pub SubscriberLeaveMatches : (T U : Type 0) → Choices T → Type 0
 SubscriberLeaveMatches T U choices = (types : MessageTypeDetails) (buffer : ℕ) (names : Naming) (lent : List (ℕ × LentSlot))
     (held : List (ℕ × Taken)) (old new : ServicePorts T U) (service : Service T) (state : State T) (number : ℕ) (answer : Bool)
-    → StandsFor names lent held buffer old service → IsSound old → names.subscriber number ≢ 0 → may_change old.subscriber_list ≡ true
+    → StandsFor names lent held buffer old service → AreRoomy old → names.subscriber number ≢ 0 → may_change old.subscriber_list ≡ true
     → SubscriberLeaves number old answer new
     → Matches T U choices types buffer (command.Leave (port.Subscriber (names.subscriber number))) (done_or_skipped answer) state
     service names lent held new

@@ -41,5 +41,6 @@ pub mod Idling
 pub mod Located
 pub mod Adding
 pub mod Tallied
+pub mod Untied
 pub use Rattle.iox_container.proofs as Container
 pub use Rattle.iox_domain_slots.proofs as DomainSlots

@@ -9,6 +9,7 @@ use Rattle.iox_domain_slots.specs.declared.stage.Stage.TheVariants as stage
 use Rattle.iox_domain_ports.specs.Messages.{Message}
 use Rattle.iox_domain_ports.specs.MessagesSending.{with_uses}
 use Rattle.iox_domain_ports.specs.Places.{reached, leads_to, left}
+use Rattle.iox_domain_ports.specs.Ties.{has_tie}
 use Rattle.iox_domain_ports.specs.declared.reader.Reader.{Reader}
 use Rattle.iox_domain_ports.specs.declared.publisher_port.PublisherPort.{PublisherPort}
 
@@ -66,9 +67,9 @@ Attaches {T} {U} subscriber limit old (Ok index) new =
     (joined : PublisherPort T U) × Joins subscriber limit (connection_to subscriber old) old (Ok index) joined
     × (new ≡ attached_at subscriber index joined)
 
--- the reader of the connection of this index left
-abbrev pub detached_at : {T U : Type 0} → ℕ → PublisherPort T U → PublisherPort T U
-detached_at index port = record port { readers = set port.readers index (left (get_or port.readers index None)) }
+-- nobody reads any longer from the connection of this index
+abbrev pub unread_at : {T U : Type 0} → ℕ → PublisherPort T U → PublisherPort T U
+unread_at index port = record port { readers = set port.readers index (left (get_or port.readers index None)) }
 
 -- the connection of this index ends: what waits is lost, what is borrowed stays in use
 abbrev pub ended_at : {T U : Type 0} → ℕ → PublisherPort T U → PublisherPort T U
@@ -76,6 +77,11 @@ ended_at index port =
     if is_live index port then record (with_connection_of index (ended (connection_of index port)) port)
     { readers = set port.readers index None }
     else port
+
+-- The reader of the connection of this index left. The publisher ends a connection that a place is tied to, as it follows the list of
+-- subscribers; another, of which it doesn't know yet, ends at once.
+abbrev pub detached_at : {T U : Type 0} → ℕ → PublisherPort T U → PublisherPort T U
+detached_at index port = if has_tie index port.ties then unread_at index port else ended_at index port
 
 -- the history comes to a connection to which nothing was delivered
 abbrev pub greeted_at : {T U : Type 0} → ℕ → List (Message T U) → PublisherPort T U → PublisherPort T U

@@ -1,5 +1,6 @@
 -- Which connection each place of a list is tied to.
-use Rattle.std.specs.Prelude.{ℕ, List, [], take, set, Option}
+use Rattle.std.specs.Prelude.{ℕ, ◌==◌, Bool, false, List, [], take, set, Option, None, Some}
+use Rattle.std.specs.List.{list_any}
 use Rattle.iox_domain_ports.specs.Places.{reached}
 
 -- What each place is tied to, of those that are reached, and how many there is room for.
@@ -22,3 +23,12 @@ ties_cut count ties = record ties { items = take count ties.items }
 -- a place that is reached is tied, or untied
 abbrev pub tie_put : ℕ → Option ℕ → TiesState → TiesState
 tie_put place tie ties = record ties { items = set ties.items place tie }
+
+-- whether it is this number
+abbrev pub is_tie : ℕ → Option ℕ → Bool
+is_tie index None = false
+is_tie index (Some tie) = tie == index
+
+-- whether a place is tied to this number
+abbrev pub has_tie : ℕ → TiesState → Bool
+has_tie index ties = list_any (is_tie index) ties.items

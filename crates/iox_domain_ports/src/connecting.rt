@@ -87,11 +87,17 @@ impl<T: Copy, U: Copy> PublisherPort<T, U> {
         Ok(index)
     }
 
-    /// The reader of this connection left: nobody reads there any longer.
-    pub fn detach(&mut self, index: usize)
+    /// The reader of this connection left. Where a place is tied to it nobody reads there any longer, and it ends as the list of
+    /// subscribers is followed; where none is the publisher doesn't know of it yet, and it ends now. The place where the tie is likely
+    /// is looked at first.
+    pub fn detach(&mut self, index: usize, likely: usize)
         ensures { self.new ≡ detached_at index self.old }
     {
-        self.readers.detach(index);
+        if self.ties.has(index, likely) {
+            self.readers.detach(index);
+        } else {
+            self.end(index);
+        }
     }
 
     /// Ends the connection of this index if it goes on: what waits is lost, what is borrowed stays in use until it is given back.

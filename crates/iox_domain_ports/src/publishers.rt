@@ -125,12 +125,13 @@ impl<T: Copy, U: Copy> Publishers<T, U> {
         Some(port.attach(alloc, subscriber, limit.min(most)))
     }
 
-    /// The reader of a connection of a publisher left: nobody reads there any longer.
-    pub fn detach(&mut self, number: u64, index: usize)
+    /// The reader of a connection of a publisher, which was listed at a place, left: nobody reads there any longer, and where the
+    /// publisher doesn't know of the connection yet it ends.
+    pub fn detach(&mut self, number: u64, index: usize, place: usize)
         ensures { self.new ≡ changed number (detached_at index) self.old }
     {
         if let Some(port) = self.get_mut(number) {
-            port.detach(index);
+            port.detach(index, place);
         }
     }
 

@@ -330,7 +330,7 @@ impl SubscriberPort {
         nothing_taken(found.unread)
     }
 
-    // Nobody reads at the connection of a key any longer; where its publisher left it ends.
+    // Nobody reads at the connection of a key any longer; where its publisher left, or doesn't know of it yet, it ends.
     fn leave_key<T: Copy, U: Copy>(&self, key: usize, publishers: &mut Publishers<T, U>)
         ensures { publishers.new ≡ left_at (attached_at key self.now) publishers.old }
     {
@@ -338,7 +338,7 @@ impl SubscriberPort {
             return;
         };
         if publishers.stands(attached.publisher) {
-            publishers.detach(attached.publisher, attached.index);
+            publishers.detach(attached.publisher, attached.index, self.place);
         } else {
             publishers.end(attached.publisher, attached.index);
         }

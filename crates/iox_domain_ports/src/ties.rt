@@ -1,7 +1,7 @@
 //! Which connection each place of a list is tied to.
 ghost use Rattle.std.specs.Prelude.{◌≡◌, length, take, get_or, nat_le, None, IfOk};
 ghost use Rattle.std.specs.Bool.{OnTrue, OnFalse};
-ghost use Rattle.iox_domain_ports.specs.Ties.{no_ties, ties_reached, tie_put, ties_cut};
+ghost use Rattle.iox_domain_ports.specs.Ties.{no_ties, ties_reached, tie_put, ties_cut, is_tie, has_tie};
 
 use std::alloc::{AllocError, Global};
 use std::marker::Model;
@@ -54,6 +54,13 @@ impl Ties {
         }
     }
 
+    /// Whether a place is tied to this number. The place where it is likely is looked at first.
+    pub fn has(&self, index: usize, likely: usize) -> bool
+        ensures { result ≡ has_tie index self.now }
+    {
+        self.get(likely) == Some(index) || self.items.iter().any(|tie| is_tie(index, *tie))
+    }
+
     /// Reaches so many places at least, the new ones without a tie; answers whether there is room for them. Where there isn't nothing
     /// happens.
     pub fn reach(&mut self, count: usize) -> bool
@@ -85,5 +92,15 @@ impl Ties {
         if place < self.items.len() {
             self.items[place] = tie;
         }
+    }
+}
+
+// Whether it is this number.
+fn is_tie(index: usize, tie: Option<usize>) -> bool
+    ensures { result ≡ is_tie index tie }
+{
+    match tie {
+        Some(tie) => tie == index,
+        None => false,
     }
 }

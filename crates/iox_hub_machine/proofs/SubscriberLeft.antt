@@ -19,12 +19,11 @@ use Rattle.iox_delivery.specs.Holding.{publisher_stands, subscriber_stands}
 use Rattle.iox_delivery.specs.declared.port_id.PortId.{PortId}
 use Rattle.iox_domain.specs.AtHomes.{LeavesDomain, dropped_if}
 use Rattle.iox_domain.specs.DomainPorts.Receiving.{left_all}
-use Rattle.iox_domain.specs.DomainPorts.declared.attached.Attached.{Attached}
 use Rattle.iox_domain.specs.DomainPorts.declared.attached.Taken.{Taken}
 use Rattle.iox_domain.specs.DomainPorts.declared.subscriber_port.SubscriberPort.{SubscriberPort}
 use Rattle.iox_domain.specs.Kept.{forgotten}
-use Rattle.iox_domain.specs.PortLawsLaws.{IsSound}
 use Rattle.iox_domain.specs.PortsSubscribing.{LeavesAt, LeavesPortIf}
+use Rattle.iox_domain.specs.Roomy.{AreRoomy}
 use Rattle.iox_domain.specs.Steps.{SubscriberLeaves}
 use Rattle.iox_domain.specs.Subscribers.{subscriber_of}
 use Rattle.iox_domain.specs.declared.domain_id.DomainId.{DomainId}
@@ -35,8 +34,7 @@ use Rattle.iox_domain_machine.specs.Services.{those_of}
 use Rattle.iox_domain_machine.specs.Standing.{StandsFor}
 use Rattle.iox_domain_machine.specs.Tables.{LentSlot}
 use Rattle.iox_domain_machine.proofs.Found.{at_changed_other}
-use Rattle.iox_domain_machine.proofs.LeaveDetaching.{left_all_stands}
-use Rattle.iox_domain_machine.proofs.LeavingReader.{subscriber_leave_matches}
+use Rattle.iox_domain_machine.proofs.LeavingReader.{leaves_keys, subscriber_leave_matches}
 use Rattle.iox_hub_base.specs.AsHome.{hub_ports, with_hub_ports, without_hub_subscriber}
 use Rattle.iox_hub_base.specs.ServicesAsHome.{domain_at, publisher_handlers_in, subscriber_handler_in}
 use Rattle.iox_hub_base.specs.declared.hub.Hub.{Hub}
@@ -115,33 +113,35 @@ pub record ReaderHasLeft {T U : Type 0} (number : ℕ) (ports after : ServicePor
   pub publishers : (other : ℕ) → publisher_stands other (Some after) ≡ publisher_stands other (Some ports)
 
 module _ {T U : Type 0} (names : Naming) (lent : List (ℕ × LentSlot)) (held : List (ℕ × Taken)) (buffer number : ℕ)
-    (ports : ServicePorts T U) (service : Service T) (stands : StandsFor names lent held buffer ports service) (sound : IsSound ports)
+    (ports : ServicePorts T U) (service : Service T) (stands : StandsFor names lent held buffer ports service) (roomy : AreRoomy ports)
   where
     -- who reads no longer leaves all publishers as they stood
-    same_publishers : (values : List (Option Attached)) (other : ℕ)
-        → publisher_stands other (Some (record ports { publishers = left_all values ports.publishers }))
+    same_publishers : (port : SubscriberPort) → subscriber_of number ports.subscribers ≡ Some port → port.stands ≡ true → (other : ℕ)
+        → publisher_stands other (Some (record ports { publishers = left_all port.connections.values ports.publishers }))
         ≡ publisher_stands other (Some ports)
-    same_publishers values other =
-        publisher_as names lent held buffer (record ports { publishers = left_all values ports.publishers }) service
-        (left_all_stands names lent held buffer service values ports sound stands) other
+    same_publishers port there standing other =
+        let walked = (leaves_keys names lent held buffer ports service number stands roomy port there standing).walk in
+        publisher_as names lent held buffer (record ports { publishers = left_all port.connections.values ports.publishers })
+        (record service { mailboxes = walked.mailboxes }) walked.stands other
         ∙ sym (publisher_as names lent held buffer ports service stands other)
 
-    left_if : (standing : Bool) (port : SubscriberPort) (after : ServicePorts T U) → subscriber_of number ports.subscribers ≡ Some port
+    left_if : (standing : Bool) (port : SubscriberPort) (after : ServicePorts T U) → port.stands ≡ standing
+        → subscriber_of number ports.subscribers ≡ Some port
         → LeavesPortIf standing number port ports true after → ReaderHasLeft number ports after
-    left_if false port after there goes = absurd (true≢false goes.0)
-    left_if true port after there goes = record {
+    left_if false port after gone there goes = absurd (true≢false goes.0)
+    left_if true port after standing there goes = record {
       down = ap (λ (it : ServicePorts T U). subscriber_stands number (Some it)) goes.1
           ∙ gone_subscriber_is_down number ports port (record port { stands = false }) there (stands.once_subscribers number) refl;
       others = λ other off. ap (λ (it : ServicePorts T U). subscriber_stands other (Some it)) goes.1
           ∙ subscribers_beside number ports (record port { stands = false }) other off;
       publishers = λ other. ap (λ (it : ServicePorts T U). publisher_stands other (Some it)) goes.1
-          ∙ same_publishers port.connections.values other;
+          ∙ same_publishers port there standing other;
     }
 
     left_at : (found : Option SubscriberPort) (after : ServicePorts T U) → subscriber_of number ports.subscribers ≡ found
         → LeavesAt number found ports true after → ReaderHasLeft number ports after
     left_at None after none goes = absurd (true≢false goes.0)
-    left_at (Some port) after there goes = left_if port.stands port after there goes
+    left_at (Some port) after there goes = left_if port.stands port after refl there goes
 
     reader_has_left : (after : ServicePorts T U) → SubscriberLeaves number ports true after → ReaderHasLeft number ports after
     reader_has_left after goes = left_at (subscriber_of number ports.subscribers) after refl goes
@@ -181,8 +181,8 @@ module _ {T U B D : Type 0} (choices : Choices T) (is_default_header : U → Typ
       Stands service = StandsFor (naming id.service) (those_of id.service (lent_in old.made)) (those_of id.service (held_in old.made))
           old.hub.expired_connection_buffer ports service
 
-      sound : IsSound ports
-      sound = (roomy_there id ports old.hub grown found).sound
+      roomy : AreRoomy ports
+      roomy = roomy_there id ports old.hub grown found
 
       matches : (done : Bool) (after : ServicePorts T U) (service : Service T) → SubscriberLeaves port.number ports done after
           → Stands service
@@ -196,7 +196,7 @@ module _ {T U B D : Type 0} (choices : Choices T) (is_default_header : U → Typ
           (those_of id.service (held_in old.made)) after) known
           (subscriber_leave_matches T U choices types old.hub.expired_connection_buffer (naming id.service)
           (those_of id.service (lent_in old.made)) (those_of id.service (held_in old.made)) ports after service state port.number done its
-          sound some (counted id ports found).1 leaves))
+          roomy some (counted id ports found).1 leaves))
 
       -- it isn't there
       stays : (after : ServicePorts T U) → SubscriberLeaves port.number ports false after
@@ -216,7 +216,7 @@ module _ {T U B D : Type 0} (choices : Choices T) (is_default_header : U → Typ
         its_left =
             let (one, its) = some_service choices degrades decides reader_degrades naming order old state stands id ports found in
             reader_has_left (naming id.service) (those_of id.service (lent_in old.made)) (those_of id.service (held_in old.made))
-            old.hub.expired_connection_buffer port.number ports one its sound after leaves
+            old.hub.expired_connection_buffer port.number ports one its roomy after leaves
 
         abbrev now : Hub T U B D
         now = changed choices degrades decides reader_degrades naming order old state stands id ports after found as_kept

@@ -12,7 +12,8 @@ use Rattle.iox_domain.specs.DomainPorts.Messages.{Loan, Message}
 use Rattle.iox_domain.specs.DomainPorts.MessagesSending.{SenderState, opened_for}
 use Rattle.iox_domain.specs.DomainPorts.Places.{is_attached}
 use Rattle.iox_domain.specs.DomainPorts.Ports.{Attaches, Joins, connection_of, connection_to, detached_at, ended_at, goes_on, greeted_at}
-use Rattle.iox_domain.specs.DomainPorts.Ports.{is_live, welcomed_at}
+use Rattle.iox_domain.specs.DomainPorts.Ports.{is_live, unread_at, welcomed_at}
+use Rattle.iox_domain.specs.DomainPorts.Ties.{has_tie}
 use Rattle.iox_domain.specs.DomainPorts.Progress.{tried_again}
 use Rattle.iox_domain.specs.DomainPorts.Publishers.{ended_if_left}
 use Rattle.iox_domain.specs.DomainPorts.Reading.{given_back_at, taken_at}
@@ -198,7 +199,9 @@ module _ {T U : Type 0} where
   keeps_taken index port = keeps_set index (taken (connection_of index port)) port _ refl refl (λ waits. waits)
 
   pub keeps_detached : (index : ℕ) (port : PublisherPort T U) → Keeps port (detached_at index port)
-  keeps_detached index port = keeps_still port _ refl refl
+  keeps_detached index port =
+      keeps_if (has_tie index port.ties) port (unread_at index port) (ended_at index port)
+      (λ tied. keeps_still port (unread_at index port) refl refl) (keeps_ended index port)
 
   pub keeps_given_back : (index : ℕ) (at : Option ℕ) (port : PublisherPort T U) → Keeps port (given_back_at index at port)
   keeps_given_back index None port = keeps_stays port

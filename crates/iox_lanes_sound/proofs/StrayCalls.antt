@@ -42,7 +42,7 @@ use Rattle.iox_domain.specs.Subscribers.{subscriber_of}
 use Rattle.iox_domain.specs.declared.ports.making.PublisherConfig.{PublisherConfig}
 use Rattle.iox_domain.specs.declared.ports.service_ports.ServicePorts.{ServicePorts}
 use Rattle.iox_lanes_sound.proofs.StrayLists.{ListGoes, list_changed, list_on, list_released, list_same, list_settled, list_settled_after}
-use Rattle.iox_lanes_sound.proofs.StrayLists.{list_takes, list_walks, list_with}
+use Rattle.iox_lanes_sound.proofs.StrayLists.{list_leaving, list_takes, list_walks, list_with}
 use Rattle.iox_lanes_sound.proofs.Unfollowing.{changed_stays, departed_stays, given_up_stays, gives_up_stay, loans_stay, retries_stay}
 use Rattle.iox_lanes_sound.proofs.Untying.{Goes, goes_same, goes_sends_one, goes_updates, goes_updates_one}
 use Rattle.iox_lanes_sound.specs.Strays.{AreWithoutStrays, IsEntryWithoutStrays, IsWithoutStrays}
@@ -221,7 +221,8 @@ subscriber_leaves_by : {T U : Type 0} (stands : Bool) (number : ℕ) (port : Sub
 subscriber_leaves_by false number port old new answer leaves = call_same old new leaves.1
 subscriber_leaves_by {T} {U} true number port old new answer leaves =
     let list : RollState SubscriberEntry = old.subscriber_list in
-    let walked = left_all_walk (list_walks {T = T} {U = U} list port.number) port.connections.values old.publishers in
+    let walked = left_all_walk (list_walks {T = T} {U = U} list port.number) (list_leaving list) port.connections.values
+    old.publishers in
     call_to old new _ leaves.1 (record {
       goes = λ all. all_then (IsEntryWithoutStrays list) (IsEntryWithoutStrays (left port.place list)) _
           (λ one without. left_goes port.place list one.1 without) (walked.goes all);

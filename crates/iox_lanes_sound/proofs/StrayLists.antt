@@ -3,7 +3,7 @@ use Rattle.std.proofs.Common.{◌≡◌, ℕ, Bool, true, false, List, Option, N
 use Rattle.std.specs.List.{All}
 use Rattle.std.specs.declared.alloc.AllocError.{AllocError}
 use Rattle.iox_domain.proofs.Numbered.{FoundEntry, all_gone, all_set, at_number, found_of_all}
-use Rattle.iox_domain.proofs.Walks.{Walks, WalksTaking}
+use Rattle.iox_domain.proofs.Walks.{Walks, WalksTaking, WalksLeaving}
 use Rattle.iox_domain.specs.DomainPorts.Ports.{detached_at}
 use Rattle.iox_domain.specs.DomainPorts.Publishers.{AttachesAtPort, changed, changed_at_port, ended_if_left, is_over_in, port_of, released}
 use Rattle.iox_domain.specs.DomainPorts.Publishers.{removed, settled, with_port}
@@ -11,7 +11,7 @@ use Rattle.iox_domain.specs.DomainPorts.Reading.{given_back_at, taken_at}
 use Rattle.iox_domain.specs.DomainPorts.declared.publisher_port.PublisherPort.{PublisherPort}
 use Rattle.iox_domain.specs.DomainPorts.declared.subscriber_entry.SubscriberEntry.{SubscriberEntry}
 use Rattle.iox_domain.specs.Rolls.{RollState}
-use Rattle.iox_lanes_sound.proofs.Unfollowing.{attaches_stays, ended_if_stays, followed, given_back_stays}
+use Rattle.iox_lanes_sound.proofs.Unfollowing.{attaches_stays, detached_stays, ended_if_stays, followed, given_back_stays}
 use Rattle.iox_lanes_sound.proofs.Untying.{Goes, goes_same}
 use Rattle.iox_lanes_sound.specs.Strays.{IsEntryWithoutStrays}
 
@@ -94,8 +94,12 @@ list_walks list subscriber = record {
   attach = λ number limit old new answer attaches. list_attaches list number subscriber limit (port_of number old) old new answer refl
       attaches;
   end = λ attached ports. list_settled_after list attached.publisher (ended_if_left attached.index) ports (ended_if_stays attached.index);
-  detach = λ attached ports. list_changed list attached.publisher (detached_at attached.index) ports (λ port. refl);
 }
+
+pub list_leaving : {T U : Type 0} (list : RollState SubscriberEntry)
+    → WalksLeaving (λ (old : List (ℕ × PublisherPort T U)) (new : List (ℕ × PublisherPort T U)). ListGoes list old new)
+list_leaving list attached ports
+    = list_changed list attached.publisher (detached_at attached.index) ports (detached_stays attached.index)
 
 pub list_takes : {T U : Type 0} (list : RollState SubscriberEntry)
     → WalksTaking (λ (old : List (ℕ × PublisherPort T U)) (new : List (ℕ × PublisherPort T U)). ListGoes list old new)

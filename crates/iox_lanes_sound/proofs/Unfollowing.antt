@@ -8,13 +8,14 @@ use Rattle.iox_domain.specs.DomainPorts.Loaning.{with_sender}
 use Rattle.iox_domain.specs.DomainPorts.Messages.{Loan, Message}
 use Rattle.iox_domain.specs.DomainPorts.MessagesSending.{opened_for}
 use Rattle.iox_domain.specs.DomainPorts.Places.{is_attached}
-use Rattle.iox_domain.specs.DomainPorts.Ports.{Attaches, Joins, connection_of, connection_to, ended_at, greeted_at, is_live, welcomed_at}
+use Rattle.iox_domain.specs.DomainPorts.Ports.{Attaches, Joins, connection_of, connection_to, detached_at, ended_at, greeted_at, is_live}
+use Rattle.iox_domain.specs.DomainPorts.Ports.{unread_at, welcomed_at}
 use Rattle.iox_domain.specs.DomainPorts.Progress.{tried_again}
 use Rattle.iox_domain.specs.DomainPorts.Publishers.{ended_if_left}
 use Rattle.iox_domain.specs.DomainPorts.Reading.{given_back_at}
 use Rattle.iox_domain.specs.DomainPorts.Sending.{Delivers, Finishes, GoesOn, SendsAfter, Steps, begun_at, begun_by, concluded, decided_by}
 use Rattle.iox_domain.specs.DomainPorts.Sending.{meeting_at, met, met_by, with_message, with_progress}
-use Rattle.iox_domain.specs.DomainPorts.Ties.{TiesState}
+use Rattle.iox_domain.specs.DomainPorts.Ties.{TiesState, has_tie}
 use Rattle.iox_domain.specs.DomainPorts.Writing.{changed_if, changed_there, given_up, given_up_at, place_of}
 use Rattle.iox_domain.specs.DomainPorts.declared.meeting.Meeting.{Meeting}
 use Rattle.iox_domain.specs.DomainPorts.declared.meeting.Meeting.TheVariants as meeting
@@ -48,6 +49,10 @@ module _ {T U : Type 0} where
 
   pub ended_if_stays : (index : ℕ) (port : PublisherPort T U) → followed (ended_if_left index port) ≡ followed port
   ended_if_stays index port = either_stays port.stands port port (ended_at index port) refl (ended_stays index port)
+
+  pub detached_stays : (index : ℕ) (port : PublisherPort T U) → followed (detached_at index port) ≡ followed port
+  detached_stays index port =
+      either_stays (has_tie index port.ties) port (unread_at index port) (ended_at index port) refl (ended_stays index port)
 
   pub joins_stays : (subscriber limit index : ℕ) (found : Option ℕ) (old joined : PublisherPort T U)
       → Joins subscriber limit found old (Ok index) joined → followed joined ≡ followed old
