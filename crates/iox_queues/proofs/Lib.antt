@@ -1,4 +1,5 @@
 pub mod Single
+pub mod Pops
 pub mod Knowing
 pub mod Balance
 pub mod OwnSteps

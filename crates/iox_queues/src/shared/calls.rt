@@ -1,6 +1,6 @@
 //! Pushes and pops on shared words, each one run of its party value: it makes the accesses that the
 //! value asks for, in that order, and no other.
-ghost use Rattle.std.specs.Prelude.{◌≡◌, ◌+◌, ◌^◌, ◌<◌, ℕ, List, length, true, false, Some};
+ghost use Rattle.std.specs.Prelude.{◌≡◌, ◌+◌, ◌-◌, ◌^◌, ◌<◌, ℕ, List, length, true, false, Some};
 ghost use Rattle.iox_queues.specs.QueuesSteps.Runs.{Runs};
 ghost use Rattle.iox_queues_steps.specs.Overflowing as overflowing;
 ghost use Rattle.iox_queues_steps.specs.Refusing as refusing;
@@ -79,10 +79,59 @@ pub(crate) fn pop_overflowing<M: Memory>(memory: &mut M) -> Option<u64>
         memory.new end
         × (overflowing.pop_is_over end ≡ false → length given ≡ 2 ^ 21 + 2) × (result ≡ taken end) }
 {
-    match run(OverflowingPop::begin(), memory, 2 * LOST_TURNS + 2) {
+    let first = first_turn(memory);
+    if first.is_over() {
+        return answer_of(first);
+    }
+    answer_of(later_turns(first, memory))
+}
+
+// What the pop ended with; None where its turns were used up.
+#[inline(always)]
+fn answer_of(end: OverflowingPop) -> Option<u64>
+    ensures { result ≡ taken end }
+{
+    match end {
         OverflowingPop::Popped { got } => got,
         _ => None,
     }
+}
+
+// The accesses of a pop up to its first exchange. They are written out, since a compiler keeps a
+// loop over stages where the loop may go on for long.
+#[inline(always)]
+fn first_turn<M: Memory>(memory: &mut M) -> OverflowingPop
+    ensures { (given : List ℕ)
+        × Runs M.answers overflowing.pop_next overflowing.pop_take overflowing.pop_is_over given memory.old overflowing_pop.Begun
+        memory.new result
+        × (overflowing.pop_is_over result ≡ false → length given ≡ 4) }
+{
+    let read = step(OverflowingPop::begin(), memory);
+    let seen = step(read, memory);
+    if seen.is_over() {
+        return seen;
+    }
+    let cell = step(seen, memory);
+    step(cell, memory)
+}
+
+// Goes on where another end won each exchange so far.
+#[cold]
+fn later_turns<M: Memory>(lost: OverflowingPop, memory: &mut M) -> OverflowingPop
+    ensures { (given : List ℕ)
+        × Runs M.answers overflowing.pop_next overflowing.pop_take overflowing.pop_is_over given memory.old lost memory.new result
+        × (overflowing.pop_is_over result ≡ false → length given ≡ 2 ^ 21 - 2) }
+{
+    run(lost, memory, 2 * LOST_TURNS - 2)
+}
+
+// Makes the access that comes next.
+#[inline(always)]
+fn step<E: End, M: Memory>(stage: E, memory: &mut M) -> E
+    ensures { (answer : ℕ) × M.answers memory.old (E.asks stage) answer memory.new × (result ≡ E.takes stage answer) }
+{
+    let answer = memory.apply(stage.next());
+    stage.take(answer)
 }
 
 /// Stores the value that the memory holds: three accesses.
