@@ -24,7 +24,7 @@ from script_lines import PATTERNS, Faulty, read_command
 from script_model import Machine, lines_of, replies
 
 # In bytes: so much stack is enough for the program, as docs/ERRORS.md says, and so much isn't.
-ENOUGH, TOO_LITTLE = 256 << 10, 160 << 10
+ENOUGH, TOO_LITTLE = 640 << 10, 512 << 10
 # Tests that make what takes memory, by the beginnings of their names, in the crates that they are of. None of them has a thread. After so
 # many requests they make again what they made.
 MOST = 400

@@ -13,8 +13,9 @@ use std::process::ExitCode;
 /// How many connections of publishers that left a subscriber keeps.
 const EXPIRED_CONNECTION_BUFFER: u32 = 128;
 
-/// How much of the stack is taken, in words: more than the deepest call takes, which is some 140 kB.
-const STACK: usize = (160 << 10) / 8;
+/// How much of the stack is taken, in words: more than the deepest call takes, which is some 140 kB of a proved program and some
+/// 375 kB of one that was built without its proofs.
+const STACK: usize = (512 << 10) / 8;
 
 /// Writes to each word of so much stack, and answers one of them, which is an odd number. No compiler can tell which, and leave words out.
 #[inline(never)]
