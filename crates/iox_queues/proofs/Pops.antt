@@ -52,5 +52,5 @@ module _ {M : Type 0} (answers : M → Access → ℕ → M → Type 0) where
       let three : Pops (a ∷ b ∷ d ∷ []) m pop.Begun p cell = goes-on (a ∷ b ∷ []) d m o p seen cell two on third there in
       let saw : seen ≡ pop_emptied (b == a) a = then ∙ ap (λ (s : Pop). pop_take s b) (is ∙ ap (λ (s : Pop). pop_take s a) at) in
       let still : pop_is_over cell ≡ false = subst (λ (s : Pop). pop_is_over s ≡ false) (sym (there ∙ ap (λ (s : Pop). pop_take s d) saw))
-          (loads-on (b == a) a d (subst (λ (s : Pop). pop_is_over s ≡ false) saw on)) in
+      (loads-on (b == a) a d (subst (λ (s : Pop). pop_is_over s ≡ false) saw on)) in
       goes-on (a ∷ b ∷ d ∷ []) e m p q cell last three still fourth ends
