@@ -3,14 +3,16 @@ import atexit
 import functools
 import html
 import json
+import os
 import re
+import shutil
 import subprocess
 import sys
 import tempfile
 import threading
 from pathlib import Path
 
-from cases.kit import TOP, case, expect, expect_in
+from cases.kit import TOP, NotHere, case, expect, expect_in
 
 SCRIPT = TOP / "docs" / "api.py"
 LOCK = threading.Lock()
@@ -201,6 +203,35 @@ def the_functions_without_an_example_are_as_many_as_the_page_says():
     expect((ran.returncode, len(functions)), (0, int(last.split()[0])))
     page = (TOP / "docs" / "api" / "README.md").read_text(encoding="utf-8")
     expect(last, re.search(r"\*\*(\d+ of \d+ public functions have no example)", page)[1])
+
+
+def commands(text):
+    """What a page runs or names as code: its spans, and the lines of its blocks."""
+    yield from re.findall(r"`([^`\n]+)`", text)
+    for block in re.findall(r"(?s)```\w*\n(.*?)```", text):
+        yield from block.splitlines()
+    yield from re.findall(r"(?m)^ {4}(\S.*)$", text)
+
+
+@case
+def each_path_that_a_page_runs_is_executable():
+    for page in (TOP / "README.md", *sorted(TOP.glob("*/**/*.md"))):
+        for command in commands(page.read_text(encoding="utf-8")):
+            path = TOP / (re.match(r"[\w./-]*", command)[0] or ".")
+            if path.is_file() and path.read_bytes().startswith(b"#!"):
+                expect((page.name, command, os.access(path, os.X_OK)), (page.name, command, True))
+
+
+@case
+def mypy_finds_nothing_wrong_in_what_is_annotated():
+    if not shutil.which("mypy"):
+        raise NotHere("no mypy: Debian's package has it")
+    # Each program is a module of its own; what they import is found below these folders.
+    roots = (["tool", "cases", "model"], ["vendor"], ["check"], ["iox"], ["docs/api.py"], ["docs/definitions.py"])
+    for asked in roots:
+        words = ["mypy", "--cache-dir", os.devnull, *asked]
+        ran = subprocess.run(words, cwd=TOP, env={**os.environ, "MYPYPATH": "model:docs"}, capture_output=True, text=True)
+        expect((asked, ran.returncode, ran.stdout * (ran.returncode > 0)), (asked, 0, ""))
 
 
 @case

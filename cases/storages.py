@@ -4,8 +4,8 @@ import re
 from cases.kit import TOP, case, expect
 
 ROUNDS = 5
-# What a line calls a description that isn't the service's own.
-FOUND = {"FoundOther": "Found", "FoundNothing": "Found"}
+# A line says with these words also what is found, and which number is taken.
+WORDS = ("Found", "Taken")
 
 
 def section():
@@ -88,7 +88,7 @@ def calls():
                 continue
             access, turn, made = "look", 1, []
             for word in (it for it in words if it != "close"):
-                answer = FOUND.get(word, word)
+                answer = next((it for it in WORDS if word.startswith(it)), word)
                 made.append((turn, access, answer))
                 access = behind(verb, access, answer, "close" in words)
                 turn += access == "look"

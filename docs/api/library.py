@@ -50,7 +50,7 @@ class Place:
     # Of a trait: the implementations of it.
     implementors: list = field(default_factory=list)
     # Of an alias: where the type is that it stands for.
-    stands_for: "Place" = None
+    stands_for: "Place | None" = None
 
     @property
     def anchor(self):

@@ -8,6 +8,7 @@
 mod echo;
 mod lines;
 mod services;
+mod setters;
 mod sizes;
 mod streams;
 mod tables;

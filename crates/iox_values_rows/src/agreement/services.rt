@@ -4,20 +4,26 @@ use crate::agreement::lines::lines;
 use crate::agreement::sizes::{attributes, requirements};
 use crate::agreement::tables::is_shown;
 use crate::answers::hold;
-use iox_describe::pattern::Event;
-use iox_describe::requirement::event;
-use iox_describe::{AttributeError, AttributeSpecifier, LimitError, ServiceName};
+use iox_describe::pattern::{Event, PublishSubscribe, RequestResponse};
+use iox_describe::requirement::{event, publish_subscribe, request_response};
+use iox_describe::{
+    AttributeError, AttributeSpecifier, AttributeVerifier, Header, LimitError, MessageTypeDetails,
+    ServiceName, TypeVariant,
+};
 use iox_negotiate::{Builder, Negotiated, PortFactory, ServiceBuilder, Slice};
 use iox_negotiate_table::Table;
 use std::alloc::Global;
 
-/// A builder of the service of this name, for node 5.
-fn builder(name: &[u8]) -> Result<Builder, LimitError> {
-    Ok(Builder::new(5, ServiceName::new(name)?))
+/// A node of a large number.
+const NODE: u64 = 1 << 63;
+
+/// A builder of the service of this name, for that node.
+pub(crate) fn builder(name: &[u8]) -> Result<Builder, LimitError> {
+    Ok(Builder::new(NODE, ServiceName::new(name)?))
 }
 
 /// Whether the service is created with these attributes and this line.
-fn is_published<P: Negotiated>(
+pub(crate) fn is_published<P: Negotiated>(
     alloc: Global,
     asked: ServiceBuilder<P>,
     given: &AttributeSpecifier,
@@ -76,6 +82,23 @@ fn are_published(alloc: Global) -> bool {
     }
 }
 
+/// Whether a service of this name is created and opened, and is closed by both.
+fn is_named(alloc: Global, name: &[u8], table: &mut Table) -> Result<bool, LimitError> {
+    let first = builder(name)?.event().create(alloc, table).ok();
+    let second = builder(name)?.event().open(alloc, table).ok();
+    Ok(is_closed(first, 0, table) && is_closed(second, 0, table))
+}
+
+/// Whether that is so of a name with each byte, in one table.
+fn each_byte_names(alloc: Global, table: &mut Table) -> Result<bool, LimitError> {
+    for byte in 1..128 {
+        if !is_named(alloc, &[b'a', byte, b'b'], table)? {
+            return Ok(false);
+        }
+    }
+    Ok(true)
+}
+
 /// A builder of the event service `A` that asks for so many attributes, each of the largest.
 fn of_many(alloc: Global, count: usize) -> Option<ServiceBuilder<Event>> {
     let required = requirements(alloc, count, 256).ok();
@@ -88,12 +111,12 @@ fn of_many(alloc: Global, count: usize) -> Option<ServiceBuilder<Event>> {
 }
 
 /// The factory that a copy of the builder creates with these attributes.
-fn created(
+fn created<P: Negotiated>(
     alloc: Global,
-    asked: &ServiceBuilder<Event>,
+    asked: &ServiceBuilder<P>,
     given: &AttributeSpecifier,
     table: &mut Table,
-) -> Option<PortFactory<Event>> {
+) -> Option<PortFactory<P>> {
     let asked = asked.try_clone(alloc).ok()?;
     asked.create_with_attributes(alloc, given, table).ok()
 }
@@ -109,7 +132,7 @@ fn opened(alloc: Global, count: usize, table: &mut Table) -> Option<PortFactory<
 }
 
 /// Whether a factory was made of a service that has so many attributes, and is closed.
-fn is_closed(made: Option<PortFactory<Event>>, count: usize, table: &mut Table) -> bool {
+fn is_closed<P: Negotiated>(made: Option<PortFactory<P>>, count: usize, table: &mut Table) -> bool {
     let Some(factory) = made else {
         return false;
     };
@@ -146,6 +169,82 @@ fn is_lived(alloc: Global, count: usize) -> bool {
     }
 }
 
+/// Pairs and keys that are required, so many of each.
+fn unequal(alloc: Global, pairs: usize, keys: usize) -> Result<AttributeVerifier, AttributeError> {
+    let mut required = requirements(alloc, 0, 0)?;
+    for _ in 0..pairs {
+        required.require(alloc, b"k", b"v")?;
+    }
+    for _ in 0..keys {
+        required.require_key(alloc, b"k")?;
+    }
+    Ok(required)
+}
+
+/// Whether a copy of a builder creates the service with these attributes, which are so many, and it is closed.
+fn is_created<P: Negotiated>(
+    alloc: Global,
+    asked: ServiceBuilder<P>,
+    given: &AttributeSpecifier,
+    table: &mut Table,
+) -> bool {
+    is_closed(
+        created(alloc, &asked, given, table),
+        given.as_slice().len(),
+        table,
+    )
+}
+
+/// Whether that is so of a service of messages that asks for these.
+fn messages(
+    alloc: Global,
+    required: AttributeVerifier,
+    given: &AttributeSpecifier,
+    table: &mut Table,
+) -> Result<bool, LimitError> {
+    let types = MessageTypeDetails::from::<Header, (), u64>(TypeVariant::FixedSize);
+    let required = publish_subscribe::Requirement::new(types, required);
+    let asked = builder(b"A")?.with_requirement::<PublishSubscribe>(required);
+    Ok(is_created(alloc, asked, given, table))
+}
+
+/// The same of a service of events.
+fn events(
+    alloc: Global,
+    required: AttributeVerifier,
+    given: &AttributeSpecifier,
+    table: &mut Table,
+) -> Result<bool, LimitError> {
+    let required = event::Requirement::new(required);
+    let asked = builder(b"A")?.with_requirement::<Event>(required);
+    Ok(is_created(alloc, asked, given, table))
+}
+
+/// The same of a service of requests.
+fn requests(
+    alloc: Global,
+    required: AttributeVerifier,
+    given: &AttributeSpecifier,
+    table: &mut Table,
+) -> Result<bool, LimitError> {
+    let types = MessageTypeDetails::from::<Header, (), u64>(TypeVariant::FixedSize);
+    let required = request_response::Requirement::new(types, types, required);
+    let asked = builder(b"A")?.with_requirement::<RequestResponse>(required);
+    Ok(is_created(alloc, asked, given, table))
+}
+
+/// Whether copies of builders that ask for so many pairs and keys create services of the most and longest attributes, and these are closed.
+fn are_created(alloc: Global, pairs: usize, keys: usize) -> Result<bool, AttributeError> {
+    let given = attributes(alloc, 8, 256)?;
+    let mut table = Table::new(alloc, 1);
+    let made = [
+        messages(alloc, unequal(alloc, pairs, keys)?, &given, &mut table),
+        events(alloc, unequal(alloc, pairs, keys)?, &given, &mut table),
+        requests(alloc, unequal(alloc, pairs, keys)?, &given, &mut table),
+    ];
+    Ok(made == [Ok(true); 3])
+}
+
 #[test]
 fn a_service_is_published_opened_closed_and_created_again(rt: HostRuntime) {
     let alloc: Global = rt.alloc();
@@ -156,6 +255,10 @@ fn a_service_is_published_opened_closed_and_created_again(rt: HostRuntime) {
         Ok(is_lived(alloc, 2)),
         Ok(is_lived(alloc, 7)),
         Ok(is_lived(alloc, 8)),
+        Ok(each_byte_names(alloc, &mut Table::new(alloc, 1)) == Ok(true)),
+        Ok(are_created(alloc, 0, 3) == Ok(true)),
+        Ok(are_created(alloc, 5, 0) == Ok(true)),
+        Ok(are_created(alloc, 8, 1) == Ok(true)),
     ];
     hold(&rt, &answers);
 }

@@ -3,7 +3,7 @@ use crate::agreement::lines::is_read;
 use crate::answers::all;
 use iox_describe::{
     AttributeError, AttributeSpecifier, AttributeVerifier, Description, Header, LimitError,
-    MessageTypeDetails, ServiceName, Settings, TypeVariant, decode, encode, encode_v1,
+    MessageTypeDetails, ServiceName, Settings, TypeDetail, TypeVariant, decode, encode, encode_v1,
     publish_subscribe,
 };
 use std::alloc::{AllocError, Global};
@@ -42,23 +42,25 @@ pub(crate) fn requirements(
     Ok(verifier)
 }
 
-/// How many bytes the name has, how many attributes there are, how many bytes each value has, and how many the line.
+/// How many bytes the name has, and that of the payload's type, how many attributes there are, how many bytes each value has, and how many
+/// the line.
 type Row = (usize, usize, usize, usize);
 
-// A line without attributes has 556 bytes beside its name; each attribute has 71 beside its value, and a comma but for the last.
-const ROWS: [Row; 12] = [
-    (1, 0, 0, 557),
-    (2, 0, 0, 558),
-    (7, 1, 0, 563 + 71),
-    (64, 1, 1, 620 + 77),
-    (255, 1, 256, 811 + 71 + 1_536),
-    (1, 2, 0, 557 + 143),
-    (1, 2, 2, 557 + 143 + 24),
-    (1, 7, 7, 557 + 503 + 294),
-    (255, 7, 256, 811 + 503 + 10_752),
-    (1, 8, 0, 557 + 575),
-    (1, 8, 64, 557 + 575 + 3_072),
-    (255, 8, 256, 811 + 575 + 12_288),
+// A line without attributes has 553 bytes beside its two names; each attribute has 71 beside its value, and a comma but for the last.
+const ROWS: [Row; 13] = [
+    (1, 0, 0, 555),
+    (2, 0, 0, 557),
+    (7, 1, 0, 567 + 71),
+    (33, 1, 0, 619 + 71),
+    (64, 1, 1, 681 + 77),
+    (255, 1, 256, 1_063 + 71 + 1_536),
+    (1, 2, 0, 555 + 143),
+    (1, 2, 2, 555 + 143 + 24),
+    (1, 7, 7, 555 + 503 + 294),
+    (255, 7, 256, 1_063 + 503 + 10_752),
+    (1, 8, 0, 555 + 575),
+    (1, 8, 64, 555 + 575 + 3_072),
+    (255, 8, 256, 1_063 + 575 + 12_288),
 ];
 
 // The longest name.
@@ -66,17 +68,20 @@ const NAME: [u8; 255] = [b'x'; 255];
 
 /// The description of a row.
 fn described(alloc: Global, (name, count, value, _): Row) -> Result<Description, Fail> {
-    let name = ServiceName::new(&NAME[..name.min(255)])?;
+    let type_name = &NAME[..name.min(255)];
+    let name = ServiceName::new(type_name)?;
     let attributes = attributes(alloc, count, value)?;
-    let types = MessageTypeDetails::from::<Header, u64, u64>(TypeVariant::Dynamic);
+    let mut types = MessageTypeDetails::from::<Header, u64, u64>(TypeVariant::Dynamic);
+    types.payload = TypeDetail::new(TypeVariant::Dynamic, type_name, 8, 8)?;
     let settings = Settings::PublishSubscribe(publish_subscribe::StaticConfig::new(types));
     Ok(Description::new(name, settings, attributes))
 }
 
-/// How long the line is, from which the description is read. It is copied, and has a line of version 1, too.
+/// How long the line is, from which the description is read. It is copied, and is read of its line of version 1, too.
 fn length(alloc: Global, description: &Description) -> Result<usize, Fail> {
     let _ = description.try_clone(alloc)?;
-    let _ = encode_v1(alloc, description)?;
+    let first = encode_v1(alloc, description)?;
+    let _ = decode(alloc, first.as_slice())?;
     let line = encode(alloc, description)?;
     let _ = decode(alloc, line.as_slice())?;
     Ok(line.len())

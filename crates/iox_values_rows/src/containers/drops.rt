@@ -1,7 +1,7 @@
 //! The order in which a container lets its items go. Those of fixed size hold one whose size is chosen, and hand their calls on to it.
-use crate::answers::hold;
+use crate::answers::{all, hold};
 use iox_container::vector::Vector;
-use iox_container::{FixedSizeQueue, StaticVec};
+use iox_container::{FixedSizeQueue, PolymorphicVec, StaticVec};
 use std::alloc::{AllocError, Global};
 use std::cell::Cell;
 
@@ -11,20 +11,57 @@ struct Noted<'a>(u8, &'a Cell<u64>);
 impl Drop for Noted<'_> {
     fn drop(self) {
         let Noted(digit, notes) = self;
-        notes.set(notes.get() % 1_000 * 10 + u64::from(digit));
+        notes.set(
+            notes
+                .get()
+                .saturating_mul(10)
+                .saturating_add(u64::from(digit)),
+        );
     }
 }
 
-/// Whether 4 and then 3 are noted as a vector of 1 to 4 is cut to two items, and then 2 and 1, which are let go with it.
-fn goes_the_last_first(alloc: Global, notes: &Cell<u64>) -> Result<bool, AllocError> {
-    let mut vec = StaticVec::<Noted<'_>, 4>::new(alloc)?;
-    for digit in 1..5 {
-        let _ = vec.push(Noted(digit, notes));
+/// Fills a vector with 1, 2 and so on, cuts it to so many items, and lets it go; whether these digits are noted by the cut, and these in all.
+fn goes_so<'a, V: Vector<Noted<'a>> + Drop>(
+    made: Result<V, AllocError>,
+    notes: &'a Cell<u64>,
+    (kept, cut, all): (usize, u64, u64),
+) -> Result<bool, AllocError> {
+    let mut vec = made?;
+    for digit in 1..vec.capacity().saturating_add(1) {
+        let _ = vec.push(Noted((digit % 10) as u8, notes));
     }
-    vec.truncate(2);
-    let cut = notes.get();
+    notes.set(0);
+    if kept == 0 {
+        vec.clear();
+    } else {
+        vec.truncate(kept);
+    }
+    let noted = notes.get();
     drop(vec);
-    Ok([cut, notes.get()] == [43, 4_321])
+    Ok([noted, notes.get()] == [cut, all])
+}
+
+type OfThree<'a> = StaticVec<Noted<'a>, 3>;
+
+type OfSeven<'a> = StaticVec<Noted<'a>, 7>;
+
+type Many<'a> = PolymorphicVec<Noted<'a>, Global>;
+
+/// The same of vectors of two, three and seven items: none is cut off, then all, then some.
+fn go_the_last_first(alloc: Global, notes: &Cell<u64>) -> Result<bool, AllocError> {
+    all(&[
+        goes_so(OfThree::new(alloc), notes, (3, 0, 321)),
+        goes_so(OfThree::new(alloc), notes, (0, 321, 321)),
+        goes_so(OfThree::new(alloc), notes, (1, 32, 321)),
+        goes_so(OfSeven::new(alloc), notes, (7, 0, 7_654_321)),
+        goes_so(OfSeven::new(alloc), notes, (0, 7_654_321, 7_654_321)),
+        goes_so(OfSeven::new(alloc), notes, (3, 7_654, 7_654_321)),
+        goes_so(Many::new(alloc, 2), notes, (2, 0, 21)),
+        goes_so(Many::new(alloc, 3), notes, (3, 0, 321)),
+        goes_so(Many::new(alloc, 7), notes, (7, 0, 7_654_321)),
+        goes_so(Many::new(alloc, 7), notes, (0, 7_654_321, 7_654_321)),
+        goes_so(Many::new(alloc, 7), notes, (2, 76_543, 7_654_321)),
+    ])
 }
 
 /// Whether a queue of three items is cleared in their order.
@@ -33,15 +70,16 @@ fn is_cleared(alloc: Global, notes: &Cell<u64>) -> Result<bool, AllocError> {
     for digit in 7..10 {
         let _ = queue.push(Noted(digit, notes));
     }
+    notes.set(0);
     queue.clear();
-    Ok(notes.get() % 1_000 == 789)
+    Ok(notes.get() == 789)
 }
 
 #[test]
 fn vectors_drop_the_last_first_and_queues_the_oldest(rt: HostRuntime) {
     let notes = Cell::new(0);
     let answers = [
-        goes_the_last_first(rt.alloc(), &notes),
+        go_the_last_first(rt.alloc(), &notes),
         is_cleared(rt.alloc(), &notes),
     ];
     hold(&rt, &answers);

@@ -59,9 +59,12 @@ impl<const CAPACITY: usize> Numbers for FixedSizeIndexQueue<CAPACITY> {
     }
 }
 
-/// The value whose first words say this number, and whose last one says it otherwise; None where it has more than sixteen.
+/// The value whose first word says this number, and each other one says it otherwise; None where it has more than sixteen.
 pub(crate) fn wide<T: Words>(number: u64) -> Option<T> {
     let mut words = [number; 16];
+    for (place, word) in words.iter_mut().enumerate() {
+        *word = number.saturating_add((place as u64) << 33);
+    }
     words[T::WORDS.saturating_sub(1).min(15)] = number << 40;
     match words.get(..T::WORDS) {
         Some(words) => Some(T::of_words(words)),
@@ -130,7 +133,12 @@ impl<const CAPACITY: usize> Numbers for FixedSizeSafelyOverflowingIndexQueue<CAP
     }
 }
 
-/// The queue, shared, in which the numbers from 0 on wait, so many of them.
+/// A number for each of those from 0 on: 0, and then those above 2^33, of which no two have the same low half.
+pub(crate) fn spread(value: u64) -> u64 {
+    value.saturating_mul((1 << 33) + 1)
+}
+
+/// The queue, shared, in which the first of these numbers wait, so many of them.
 pub(crate) fn shared<Q: Numbers>(
     alloc: Global,
     queue: Result<Q, AllocError>,
@@ -138,7 +146,7 @@ pub(crate) fn shared<Q: Numbers>(
 ) -> Result<Shared<Q>, AllocError> {
     let mut queue = queue?;
     for value in 0..waiting {
-        queue.put_before(value);
+        queue.put_before(spread(value));
     }
     queue.share(alloc).ok().ok_or(AllocError)
 }

@@ -58,6 +58,25 @@ fn all_hand_out(alloc: Global, size: usize) -> Result<bool, AllocError> {
     ])
 }
 
+/// Takes each index of a set of so many, of which none is held, and gives all back; whether none was left then.
+fn takes_all(alloc: Global, set: &SharedIndexSet, capacity: usize) -> Result<bool, AllocError> {
+    let mut held = Vec::new(alloc);
+    for _ in 0..capacity {
+        match set.acquire() {
+            Ok(index) => held.push(index)?,
+            Err(_) => return Ok(false),
+        }
+    }
+    Ok(next(set) == Err(NONE_LEFT) && set.borrowed_indices() == capacity)
+}
+
+/// The same twice over, of a new set, of which none is held then.
+fn all_are_taken(alloc: Global, capacity: usize) -> Result<bool, AllocError> {
+    let set = shared(alloc, capacity, 0, &[])?;
+    let are_taken = takes_all(alloc, &set, capacity)? && takes_all(alloc, &set, capacity)?;
+    Ok(are_taken && set.borrowed_indices() == 0)
+}
+
 /// Whether so many indices are held, after so many changes, and this one comes next.
 fn is_at(set: &SharedIndexSet, borrowed_indices: u32, aba: u16, head: u32) -> bool {
     set.head()
@@ -203,6 +222,9 @@ fn a_shared_set_gives_each_answer(rt: HostRuntime) {
         all_hand_out(alloc, 7),
         all_hand_out(alloc, 64),
         all_hand_out(alloc, 1_000),
+        all_are_taken(alloc, 0),
+        all_are_taken(alloc, 1_000),
+        all_are_taken(alloc, 70_000),
         changes(alloc),
         come_back(&rt, alloc),
     ];

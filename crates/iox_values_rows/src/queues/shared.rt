@@ -1,6 +1,6 @@
 //! Each shared call by one thread through each answer that it can give, at each size; and who may hold an end.
 use crate::answers::{all, hold};
-use crate::queues::ends::{Numbers, ends, shared};
+use crate::queues::ends::{Numbers, ends, shared, spread};
 use iox_queues::{
     Consumer, FixedSizeIndexQueue, FixedSizeSafelyOverflowingIndexQueue as FixedOverflowing,
     IndexQueue, Producer, Queue, SafelyOverflowingIndexQueue as Overflowing, Share, Shared,
@@ -22,13 +22,13 @@ fn goes_through<Q: Numbers>(
         } else {
             value
         };
-        if Q::put(producer, value) != (value >= room).then_some(left) {
+        if Q::put(producer, spread(value)) != (value >= room).then_some(spread(left)) {
             return false;
         }
     }
     let oldest = if Q::OVERFLOWS { 3 } else { 0 };
     for value in oldest..room.saturating_add(oldest) {
-        if Q::take_next(consumer) != Some(value.min(Q::LARGEST)) {
+        if Q::take_next(consumer) != Some(spread(value).min(Q::LARGEST)) {
             return false;
         }
     }
@@ -83,11 +83,17 @@ fn is_too_wide(alloc: Global) -> Result<bool, AllocError> {
     }
 }
 
-/// Values of three words, of which the first is there from the beginning.
-const VALUES: [[u64; 3]; 5] = [[0, 0, 7], [0, 0, 0], [1, 2, 3], [4, 5, u64::MAX], [8, 0, 0]];
+/// Values of six words, of which the first is there from the beginning.
+const VALUES: [[u64; 6]; 5] = [
+    [0, 0, 7, 0, 0, 1 << 33],
+    [0; 6],
+    [1, 2, 3, 4, 5, 6],
+    [6, 5, 4, 3, 2, u64::MAX],
+    [8, 0, 0, 1 << 32, 1 << 63, 0],
+];
 
 /// Whether a shared value is each one that is stored, and before that the first.
-fn is_last_stored(shared: &Shared<UnrestrictedAtomic<[u64; 3]>>) -> bool {
+fn is_last_stored(shared: &Shared<UnrestrictedAtomic<[u64; 6]>>) -> bool {
     let Some(mut producer) = shared.acquire_producer() else {
         return false;
     };
@@ -152,6 +158,7 @@ fn each_shared_form_gives_each_answer(rt: HostRuntime) {
         go::<4_096>(alloc, 0),
         go::<4_096>(alloc, 4_096),
         goes(alloc, Queue::<[u64; 3], 2>::new(alloc), 2, 2),
+        goes(alloc, Queue::<[u64; 6], 7>::new(alloc), 0, 7),
         goes(alloc, Queue::<[u64; 16], 2>::new(alloc), 2, 2),
         goes(alloc, Queue::<(), 2>::new(alloc), 0, 2),
         is_too_wide(alloc),

@@ -194,29 +194,59 @@ fn ample_memory_is_enough_at_each_size(rt: HostRuntime) -> Result<(), AllocError
     find_memory(wants.as_flattened())
 }
 
-/// The want of a set of fixed size that is shared.
-fn fixed_index_set<const SIZE: usize>(alloc: Global) -> Want {
-    match FixedSizeUniqueIndexSet::<SIZE>::new(alloc) {
-        Ok(set) => want_unless(set.share(alloc).is_ok()),
-        Err(error) => Some(error),
+/// The want of a set of so many indices that is shared while half of them are held, as they are in the shared form.
+fn half_held<const SIZE: usize>(
+    alloc: Global,
+    made: Result<FixedSizeUniqueIndexSet<SIZE>, AllocError>,
+    capacity: usize,
+) -> Want {
+    let mut set = match made {
+        Ok(set) => set,
+        Err(error) => return Some(error),
+    };
+    for _ in 0..capacity / 2 {
+        let _ = set.acquire_raw_index();
+    }
+    match set.share(alloc) {
+        Ok(shared) => want_unless(shared.borrowed_indices() == capacity / 2),
+        Err(_) => Some(AllocError),
     }
 }
 
-/// The want of a container of fixed size, or of its copy.
+/// The wants of sets of fixed size that are shared, also of half the capacity.
+fn fixed_index_sets<const SIZE: usize>(alloc: Global) -> [Want; 2] {
+    let half = FixedSizeUniqueIndexSet::<SIZE>::new_with_reduced_capacity(alloc, SIZE / 2);
+    [
+        half_held(alloc, FixedSizeUniqueIndexSet::<SIZE>::new(alloc), SIZE),
+        half_held(alloc, half, SIZE / 2),
+    ]
+}
+
+/// The want of a container of fixed size that is half full, or of its copy.
 fn fixed_container<const SIZE: usize>(alloc: Global) -> Want {
-    match FixedSizeContainer::<u64, SIZE>::new(alloc, 1) {
-        Ok(container) => container.get_state(alloc).err(),
-        Err(error) => Some(error),
+    let made = FixedSizeContainer::<u64, SIZE>::new(alloc, 1);
+    let (mut container, owner) = match (made, OwnerId::new(1)) {
+        (Ok(container), Ok(owner)) => (container, owner),
+        _ => return Some(AllocError),
+    };
+    for _ in 0..SIZE / 2 {
+        if container.has_room() {
+            let _ = container.add(7, owner);
+        }
     }
+    container.get_state(alloc).err()
 }
 
 /// The wants of what is made of a fixed size.
-fn fixed<const SIZE: usize>(alloc: Global) -> [Want; 5] {
+fn fixed<const SIZE: usize>(alloc: Global) -> [Want; 7] {
+    let [index_set, reduced_index_set] = fixed_index_sets::<SIZE>(alloc);
     [
         FixedSizeBitSet::<SIZE>::new(alloc).err(),
         FixedSizeCountingBitSet::<SIZE>::new(alloc).err(),
         StaticRobustUniqueIndexSet::<SIZE>::new(alloc).err(),
-        fixed_index_set::<SIZE>(alloc),
+        StaticRobustUniqueIndexSet::<SIZE>::new_with_reduced_capacity(alloc, SIZE / 2).err(),
+        index_set,
+        reduced_index_set,
         fixed_container::<SIZE>(alloc),
     ]
 }
