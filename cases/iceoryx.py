@@ -54,8 +54,4 @@ def iceoryx_replies_as_the_model_with_its_four_rules_allows():
         raise NotHere(ran.stderr.removeprefix("compare: ").strip())
     if ran.returncode:
         raise Differs(ran.stdout + ran.stderr[-300:])
-    # How many replies 500 scripts get is not the same with every version of Python's `random`.
-    page = (TOP / "docs" / "ICEORYX.md").read_text(encoding="utf-8")
-    without_counts = [re.sub(r"\d+ (replies|lines ask)", r"N \1", it) for it in (f"```\n{ran.stdout}```", page)]
-    expect_in(*without_counts)
-    expect(int(re.search(r"(\d+) replies", ran.stdout)[1]) > 20000, True)
+    expect_in(f"```\n{ran.stdout}```", (TOP / "docs" / "ICEORYX.md").read_text(encoding="utf-8"))

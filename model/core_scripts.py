@@ -3,19 +3,21 @@
 A script is a generator of lines, and is sent the reply to each. It goes on by these replies, so a line that is answered `unsupported` has
 no part in what follows. Each message has values of its own, which say who sent it.
 """
-import random
 from dataclasses import dataclass, field
 
+from random_scripts import Dice
+
+# How often each step comes beside the others.
 STEPS = {
-    "put": 26, "burst": 1.5, "receive": 22, "drain": 1.2, "release": 14, "read": 4, "has": 5, "sequence": 2, "loan": 6, "fill": 5,
-    "send": 6, "drop": 1.5, "subscriber": 5, "publisher": 2, "leave_subscriber": 3, "leave_publisher": 0.8, "update": 1.5, "retry": 4,
-    "absent": 0.7,
+    "put": 260, "burst": 15, "receive": 220, "drain": 12, "release": 140, "read": 40, "has": 50, "sequence": 20, "loan": 60, "fill": 50,
+    "send": 60, "drop": 15, "subscriber": 50, "publisher": 20, "leave_subscriber": 30, "leave_publisher": 8, "update": 15, "retry": 40,
+    "absent": 7,
 }
 
 
 @dataclass
 class Profile:
-    """What scripts are like: as many ports at once, from which settings is chosen, and how often each step comes."""
+    """What scripts are like: as many ports at once, from which settings is chosen, how many of 100 services block, and other STEPS."""
 
     publishers: int = 2
     subscribers: int = 3
@@ -23,16 +25,16 @@ class Profile:
     histories: tuple = (0, 1, 2, 3, 5)
     borrowed: tuple = (1, 2, 3, 256)
     loans: tuple = (2, 8)
-    blocking: float = 0.2
+    blocking: int = 20
     steps: dict = field(default_factory=dict)
 
 
 PROFILES = {
     "standard": Profile(),
-    "loans": Profile(publishers=1, subscribers=1, loans=(8,), steps={"loan": 30, "fill": 8, "send": 12, "drop": 14}),
-    "blocking": Profile(buffers=(1, 1, 2, 3), blocking=1, steps={"retry": 10}),
-    "late": Profile(histories=(1, 2, 3, 8, 16), steps={"subscriber": 9, "publisher": 5, "leave_subscriber": 6, "leave_publisher": 3}),
-    "tight": Profile(publishers=3, buffers=(1, 1, 2), borrowed=(1, 2, 256), steps={"put": 40, "burst": 4}),
+    "loans": Profile(publishers=1, subscribers=1, loans=(8,), steps={"loan": 300, "fill": 80, "send": 120, "drop": 140}),
+    "blocking": Profile(buffers=(1, 1, 2, 3), blocking=100, steps={"retry": 100}),
+    "late": Profile(histories=(1, 2, 3, 8, 16), steps={"subscriber": 90, "publisher": 50, "leave_subscriber": 60, "leave_publisher": 30}),
+    "tight": Profile(publishers=3, buffers=(1, 1, 2), borrowed=(1, 2, 256), steps={"put": 400, "burst": 40}),
 }
 MOST_VALUES = 3
 # Numbers that no script has.
@@ -43,20 +45,20 @@ class Script:
     """One script, with what it has alive by the replies so far."""
 
     def __init__(self, profile, seed):
-        self.profile, self.dice = profile, random.Random(seed)
-        self.steps = {**STEPS, **profile.steps}
+        self.profile, self.dice = profile, Dice(seed)
+        self.steps = [(weight, step) for step, weight in {**STEPS, **profile.steps}.items()]
         self.factories, self.publishers, self.subscribers = [], [], []
         self.blocked, self.held, self.loans, self.count = set(), {}, {}, 0
         self.buffer, self.is_numbered = 0, False
 
     def lines(self):
         yield from self.agree()
-        for _ in range(self.dice.randrange(self.profile.publishers + 1)):
+        for _ in range(self.dice.below(self.profile.publishers + 1)):
             yield from self.publisher()
-        for _ in range(self.dice.randrange(self.profile.subscribers + 1)):
+        for _ in range(self.dice.below(self.profile.subscribers + 1)):
             yield from self.subscriber()
-        for what in self.dice.choices(list(self.steps), list(self.steps.values()), k=self.dice.randrange(15, 90)):
-            yield from getattr(self, what)()
+        for _ in range(15 + self.dice.below(75)):
+            yield from getattr(self, self.dice.weighted(self.steps))()
         for _ in range(1 + len(self.blocked)):
             for one in self.subscribers:
                 yield from self.drain_of(one)
@@ -65,12 +67,12 @@ class Script:
 
     def agree(self):
         it, dice = self.profile, self.dice
-        is_blocking = dice.random() < it.blocking
-        buffer, history = dice.choice(it.buffers), dice.choice(it.histories)
-        options = {"buffer": buffer, "history": min(history, buffer) if is_blocking else history, "borrowed": dice.choice(it.borrowed)}
+        is_blocking = dice.chance(it.blocking)
+        buffer, history = dice.of(it.buffers), dice.of(it.histories)
+        options = {"buffer": buffer, "history": min(history, buffer) if is_blocking else history, "borrowed": dice.of(it.borrowed)}
         options |= {"overflow": 0} if is_blocking else {}
-        options |= {"sequence": 1} if dice.random() < 0.6 else {}
-        nodes = 1 + (dice.random() < 0.3)
+        options |= {"sequence": 1} if dice.chance(60) else {}
+        nodes = 1 + (dice.chance(30))
         for _ in range(nodes):
             yield "node"
         yield from self.create(options)
@@ -91,19 +93,19 @@ class Script:
 
     def publisher(self):
         if len(self.publishers) < self.profile.publishers and self.factories:
-            loans = self.dice.choice(self.profile.loans)
-            self.publishers += made((yield f"publisher {self.dice.choice(self.factories)} slice={MOST_VALUES} loans={loans}"))
+            loans = self.dice.of(self.profile.loans)
+            self.publishers += made((yield f"publisher {self.dice.of(self.factories)} slice={MOST_VALUES} loans={loans}"))
             yield from self.updates(self.subscribers)
 
     def subscriber(self):
         if len(self.subscribers) < self.profile.subscribers and self.factories:
-            own = f" buffer={self.dice.randrange(1, self.buffer + 1)}" if self.dice.random() < 0.3 else ""
-            self.subscribers += made((yield f"subscriber {self.dice.choice(self.factories)}{own}"))
+            own = f" buffer={1 + self.dice.below(self.buffer)}" if self.dice.chance(30) else ""
+            self.subscribers += made((yield f"subscriber {self.dice.of(self.factories)}{own}"))
             yield from self.updates(self.free())
 
     def updates(self, ports):
         """The ports of the other side learn of a new one now, or by what they do next."""
-        if self.dice.random() < 0.6:
+        if self.dice.chance(60):
             for one in ports:
                 yield f"update {one}"
 
@@ -112,7 +114,7 @@ class Script:
 
     def leave_publisher(self):
         for one in self.one_of(self.free()):
-            if self.dice.random() < 0.7:
+            if self.dice.chance(70):
                 for loan in [it for it, (of, _) in self.loans.items() if of == one]:
                     yield from self.drop_of(loan)
             if (yield f"leave {one}") == "ok":
@@ -120,7 +122,7 @@ class Script:
 
     def leave_subscriber(self):
         for one in self.one_of(self.subscribers):
-            if self.dice.random() < 0.7:
+            if self.dice.chance(70):
                 for sample in [it for it, of in self.held.items() if of == one]:
                     yield from self.release_of(sample)
             if (yield f"leave {one}") == "ok":
@@ -134,7 +136,7 @@ class Script:
 
     def one_of(self, options):
         """One of these, where there are any."""
-        return [self.dice.choice(options)] if options else []
+        return [self.dice.of(options)] if options else []
 
     def values(self, length):
         self.count += length
@@ -147,19 +149,19 @@ class Script:
             yield from self.put_of(one)
 
     def put_of(self, one):
-        length = 0 if self.dice.random() < 0.03 else self.dice.choice([1, 1, 1, 1, 2, MOST_VALUES])
+        length = 0 if self.dice.chance(3) else self.dice.of([1, 1, 1, 1, 2, MOST_VALUES])
         reply = yield f"put {one}{self.values(length)}"
         yield from self.after_send(one, reply)
 
     def after_send(self, one, reply):
         if reply == "blocked":
             self.blocked.add(one)
-            if self.dice.random() < 0.3:
+            if self.dice.chance(30):
                 yield from self.retry_of(one)
 
     def burst(self):
         for one in self.one_of(self.free()):
-            for _ in range(self.dice.randrange(2, 8)):
+            for _ in range(2 + self.dice.below(6)):
                 if one not in self.blocked:
                     yield from self.put_of(one)
 
@@ -173,15 +175,15 @@ class Script:
 
     def loan(self):
         for one in self.one_of(self.free()):
-            verb, length = self.dice.choice(["loan", "loan_uninit"]), self.dice.choice([1, 1, 1, 2, MOST_VALUES])
+            verb, length = self.dice.of(["loan", "loan_uninit"]), self.dice.of([1, 1, 1, 2, MOST_VALUES])
             for it in made((yield f"{verb} {one} {length}")):
                 self.loans[it] = (one, length)
 
     def fill(self):
         for loan in self.one_of(sorted(self.loans)):
             length = self.loans[loan][1]
-            if self.dice.random() < 0.3:
-                yield f"set {loan} {self.dice.randrange(length + 1)}{self.values(1)}"
+            if self.dice.chance(30):
+                yield f"set {loan} {self.dice.below(length + 1)}{self.values(1)}"
             else:
                 yield f"fill {loan}{self.values(length)}"
 
@@ -211,7 +213,7 @@ class Script:
         reply = yield f"receive {one}"
         for sample in made(reply):
             self.held[sample] = one
-            if self.is_numbered and self.dice.random() < 0.5:
+            if self.is_numbered and self.dice.chance(50):
                 yield f"sequence {sample}"
         return reply
 
@@ -226,7 +228,7 @@ class Script:
             mine = [it for it, of in self.held.items() if of == one]
             if reply == "none" or not (reply.startswith("ok") or mine):
                 return
-            if not reply.startswith("ok") or self.dice.random() < 0.3:
+            if not reply.startswith("ok") or self.dice.chance(30):
                 yield from self.release_of(mine[0])
 
     def release(self):
@@ -251,7 +253,7 @@ class Script:
             yield f"has {one}"
 
     def absent(self):
-        yield self.dice.choice(ABSENT)
+        yield self.dice.of(ABSENT)
 
 
 def made(reply):
@@ -262,4 +264,5 @@ def made(reply):
 
 def script(profile, seed, at):
     """The lines of the script with that place in the row of a seed."""
-    return Script(PROFILES[profile], f"{profile} {seed} {at}").lines()
+    row = list(PROFILES).index(profile) * 2**24 + seed
+    return Script(PROFILES[profile], row * 2**24 + at).lines()
