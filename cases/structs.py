@@ -10,7 +10,9 @@ from cases.vendoring import vendor
 
 # A struct, what is refused of it, and in which line.
 REFUSED = {
-    "pub struct A {\n    pub x: u64,\n    pub y: [f32; 3],\n}\n": "line 3: a field of type [f32; 3] isn't supported",
+    "pub struct A {\n    pub x: u64,\n    pub y: String,\n}\n": "line 3: a field of type String isn't supported",
+    "pub struct A {\n    pub x: [u8; 64],\n    pub y: [u8; 65],\n}\n": "line 3: a field of type [u8; 65] isn't supported",
+    "pub struct A {\n    pub y: [[u8; 2]; 2],\n}\n": "line 2: a field of type [[u8; 2]; 2] isn't supported",
     "pub struct A {\n    // x: u8,\n    pub x: u64,\n    y: u8,\n}\n": "line 4: y is private; write `pub(crate) y`",
     "pub struct A {\n    pub x u64,\n}\n": "line 2: expected a field such as `pub x: f64`, not `pub x u64`",
     "struct A(u64);\n": "line 1: A has no named fields",
@@ -28,6 +30,7 @@ SIZES = {
     "pub a: bool": (1, 1),
     "pub a: i64, pub b: i32, pub c: i16, pub d: i8, pub e: u8": (16, 8),
     "pub a: usize, pub b: isize, pub c: f64, pub d: u32": (32, 8),
+    "pub a: u8, pub b: [f32; 3], pub c: [u8; 3]": (20, 4),
 }
 # A program over two structs of all kinds: it has each value go through its words. It also runs the whole examples of the API pages.
 PROGRAM = """\
@@ -55,7 +58,7 @@ fn main(rt: HostRuntime) -> Result<()> {
     println!(rt; "{:?}", whole::run_all(rt.alloc(), &mut Bus::new(rt.alloc(), HubConfig::default()))?)?;
     let imu = Imu {
         a: 255, b: 65_535, c: 1 << 31, d: u64::MAX, e: -128, f: -2, g: i32::MIN,
-        h: i64::MIN, i: 7, j: -7, k: 0.5, l: -2.25, m: 'ß', n: true,
+        h: i64::MIN, i: 7, j: -7, k: 0.5, l: -2.25, m: 'ß', n: true, o: [1.5, -0.5, 0.0], p: [0, 255],
     };
     println!(rt; "{:?}", copied(&imu))?;
     println!(rt; "{:?}", copied(&Lamp { is_on: false }))?;
@@ -109,6 +112,8 @@ pub struct Imu {
     pub l: f64,
     pub m: char,
     pub n: bool,
+    pub o: [f32; 3],
+    pub p: [u8; 2],
 }
 
 #[derive(Clone, Copy, Debug)]
@@ -118,7 +123,8 @@ pub struct Lamp {
 """
 OUTPUT = (
     "(1, 1, 7, 0)\nImu { a: 255, b: 65535, c: 2147483648, d: 18446744073709551615, e: -128, f: -2, g: -2147483648,"
-    " h: -9223372036854775808, i: 7, j: -7, k: 0.5, l: -2.25, m: 'ß', n: true }\nLamp { is_on: false }\n72 8 72 3\n"
+    " h: -9223372036854775808, i: 7, j: -7, k: 0.5, l: -2.25, m: 'ß', n: true, o: [1.5, -0.5, 0.0], p: [0, 255] }\n"
+    "Lamp { is_on: false }\n88 8 88 3\n"
 )
 
 

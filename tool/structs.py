@@ -14,7 +14,9 @@ PRELUDE = "Rattle.std.specs.Prelude"
 HUB = "Rattle.iox_hub.specs"
 # Where a name of a clause is imported from, in the order of the lines.
 IMPORTS = {
-    PRELUDE: "◌≡◌ ◌∷◌ [] ◌<◌ ◌^◌ ◌==◌ Bool true false codes slice_index T to_bits from_bits FitsSigned refl",
+    PRELUDE: "◌≡◌ ◌∷◌ [] ◌<◌ ◌^◌ ◌==◌ ℕ List length All Bool true false codes slice_index T to_bits from_bits FitsSigned refl",
+    "Rattle.std.proofs.Common": "arith rules ap ◌∙◌ sym",
+    "Rattle.std.proofs.lemmas.List": "drop_more drop_all",
     "Rattle.std.specs.Float": "binary32 binary64",
     "Rattle.std.specs.Float.Ieee": "fits",
     "Rattle.std.specs.Char": "IsScalar",
@@ -22,6 +24,7 @@ IMPORTS = {
     "Rattle.std.proofs.lemmas.Int": "to_z-of_z",
     f"{HUB}.QueuesBase.Coding": "narrowed narrowed-same word_of_bool char_of",
     f"{HUB}.QueuesBase.Scalars": "signed-narrowed float-narrowed float-given_back char-given_back",
+    f"{HUB}.QueuesBase.Each": "first_words each_of_words many_first each_given_back",
     f"{HUB}.DescribeBase.Detail": "detail",
     f"{HUB}.DescribeBase.declared.type_detail.TypeVariant.TheVariants": "FixedSize",
 }
@@ -70,13 +73,84 @@ KINDS = {
 FLAG = "let flag : (b : Bool) → (word_of_bool b == 1) ≡ b = elim [ true ↦ refl | false ↦ refl ] in "
 
 
+# How many elements an array may have.
+MOST = 64
+
+
 @dataclass(frozen=True)
 class Field:
+    """A field: one value of a kind, or an array of so many."""
+
     name: str
     type: str
+    count: int | None = None
 
     def kind(self) -> Kind:
         return KINDS[self.type]
+
+    def size(self) -> int:
+        return self.kind().size * (self.count or 1)
+
+    def words(self) -> list[str]:
+        """Returns its words in a clause."""
+        if self.count is None:
+            return [filled(self.kind().word, f"p.{self.name}")]
+        return [f"slice_index ({self.first_words()}) {it}" for it in range(self.count)]
+
+    def value(self, at: int) -> str:
+        """Returns its value in a clause, of the words from a place on."""
+        if self.count is None:
+            return filled(self.kind().value, "", f"slice_index ws {at}")
+        words = " ∷ ".join([*(f"slice_index ws {it}" for it in range(at, at + self.count)), "[]"])
+        return f"each_of_words {self.of_words()} ({words})"
+
+    def holds(self) -> str:
+        """Returns what holds of its value in a clause."""
+        if self.count is None:
+            return filled(self.kind().holds, f"p.{self.name}")
+        return f"(length p.{self.name} ≡ {self.count}) × All {self.each_holds()} p.{self.name}"
+
+    def steps(self, holds: str) -> list[str]:
+        """Returns the equations by which its words give it back."""
+        if self.count is None:
+            return [filled(self.kind().reason, f"p.{self.name}", holds=holds)] if self.kind().reason else []
+        reason = filled(self.kind().reason or "refl", "x", holds="k")
+        words = " ∷ ".join([*self.words(), "[]"])
+        chain = f"drop_all {self.count} xs (Prim.search (rules, arith, k))"
+        for it in reversed(range(self.count)):
+            chain = f"drop_more xs {it} 0 (Prim.search (rules, arith, k)) ∙ ap (λ t. slice_index xs {it} ∷ t) ({chain})"
+        listed = " ∷ ".join([*(f"slice_index xs {it}" for it in range(self.count)), "[]"])
+        whole = f"let whole : (xs : List ℕ) → length xs ≡ {self.count} → {listed} ≡ xs = λ xs k. sym ({chain}) in "
+        whole += f"whole ({self.first_words()}) (many_first {self.parts()} {self.count} p.{self.name})"
+        each = f"each_given_back {self.parts()} {self.of_words()} {self.each_holds()} (λ x. refl) (λ x k. {reason})"
+        each += f" {self.count} p.{self.name} {holds}.0 {holds}.1"
+        back = f"ap (λ ws. each_of_words {self.of_words()} ws) ({whole}) ∙ {each}"
+        return [f"let back : each_of_words {self.of_words()} ({words}) ≡ p.{self.name} = {back} in back"]
+
+    def parts(self) -> str:
+        return f"(λ x. {filled(self.kind().word, 'x')} ∷ [])"
+
+    def of_words(self) -> str:
+        return f"(λ ws. {filled(self.kind().value, '', 'slice_index ws 0')})"
+
+    def each_holds(self) -> str:
+        return f"(λ x. {filled(self.kind().holds, 'x')})"
+
+    def first_words(self) -> str:
+        return f"first_words {self.parts()} {self.count} p.{self.name}"
+
+    def arms(self, at: int) -> list[str]:
+        """Returns the arms of `word` for it."""
+        if self.count is None:
+            return [f"{at} => self.{self.name}.word(0),"]
+        return [f"{at + it} => self.{self.name}.word({it})," for it in range(self.count)]
+
+    def made(self, at: int) -> str:
+        """Returns how `of_words` makes it."""
+        if self.count is None:
+            return f"{self.name}: {self.type}::of_words(&words[{at}..{at + 1}]),"
+        words = ", ".join(f"words[{it}]" for it in range(at, at + self.count))
+        return f"{self.name}: <[{self.type}; {self.count}]>::of_words(&[{words}]),"
 
 
 @dataclass(frozen=True)
@@ -88,10 +162,10 @@ class Struct:
         return max(it.kind().size for it in self.fields)
 
     def size(self) -> int:
-        """Returns its bytes by `#[repr(C)]`, as in iceoryx2: each field is at a multiple of its size, and the end at one of the alignment."""
+        """Returns its bytes by `#[repr(C)]`, as in iceoryx2: a field is at a multiple of its kind's size, the end at one of the largest."""
         end = 0
         for it in self.fields:
-            end += -end % it.kind().size + it.kind().size
+            end += -end % it.kind().size + it.size()
         return end + -end % self.alignment()
 
 
@@ -117,10 +191,13 @@ def read_fields(inside: str, line: int) -> tuple[Field, ...]:
             raise NotTaken(f"line {at}: expected a field such as `pub x: f64`, not `{part.strip()}`")
         name, kind = found[2], found[3].strip()
         if not found[1]:
-            raise NotTaken(f"line {at}: {name} is private; write `pub(crate) {name}`, since what is written lies in another module")
-        if kind not in KINDS:
-            raise NotTaken(f"line {at}: a field of type {kind} isn't supported; these are: {', '.join(KINDS)}")
-        fields.append(Field(name, kind))
+            raise NotTaken(f"line {at}: {name} is private; write `pub(crate) {name}`, as what is written is another module")
+        array = re.fullmatch(r"\[\s*(\w+)\s*;\s*([1-9]\d*)\s*\]", kind)
+        element, count = (array[1], int(array[2])) if array else (kind, None)
+        if element not in KINDS or (count or 0) > MOST:
+            supported = f"these are, and arrays of 1 to {MOST} of them: {', '.join(KINDS)}"
+            raise NotTaken(f"line {at}: a field of type {kind} isn't supported; {supported}")
+        fields.append(Field(name, element, count))
     return tuple(fields)
 
 
@@ -154,18 +231,21 @@ def filled(text: str, value: str, word: str = "", holds: str = "") -> str:
 
 def words_block(struct: Struct) -> str:
     """Returns the block by which a struct is copied: one word for each field, in their order."""
-    fields = [*enumerate(struct.fields)]
-    count, alone = len(fields), len(fields) == 1
-    parts = " ∷ ".join([filled(it.kind().word, f"p.{it.name}") for _, it in fields] + ["[]"])
-    values = "".join(f"\n      {it.name} = {filled(it.kind().value, '', f'slice_index ws {at}')};" for at, it in fields)
-    holds = [filled(it.kind().holds, f"p.{it.name}") for _, it in fields]
-    holds = holds[0] if alone else " × ".join(f"({it})" if "<" in it else it for it in holds)
-    reasons = [filled(it.kind().reason, f"p.{it.name}", holds="h" if alone else f"h.{at}") for at, it in fields if it.kind().reason]
+    placed, count = [], 0
+    for it in struct.fields:
+        placed.append((it, count))
+        count += it.count or 1
+    alone = len(placed) == 1
+    parts = " ∷ ".join([*(word for it in struct.fields for word in it.words()), "[]"])
+    values = "".join(f"\n      {it.name} = {it.value(at)};" for it, at in placed)
+    holds = [it.holds() for it in struct.fields]
+    holds = holds[0] if alone else " × ".join(f"({it})" if re.search("[<×]", it) else it for it in holds)
+    steps = [step for number, it in enumerate(struct.fields) for step in it.steps("h" if alone else f"h.{number}")]
     flag = FLAG if any(it.type == "bool" for it in struct.fields) else ""
-    back = flag + "".join(f"rw ({it}) " for it in reasons) + "refl"
-    arms = "".join(f"\n            {at} => self.{it.name}.word(0)," for at, it in fields)
-    made = "".join(f"\n            {it.name}: {it.type}::of_words(&words[{at}..{at + 1}])," for at, it in fields)
-    shown = "".join(f"\n        self.{it.name}.shows();" for _, it in fields)
+    back = flag + "".join(f"rw ({it}) " for it in steps) + "refl"
+    arms = "".join(f"\n            {arm}" for it, at in placed for arm in it.arms(at))
+    made = "".join(f"\n            {it.made(at)}" for it, at in placed)
+    shown = "".join(f"\n        self.{it.name}.shows();" for it in struct.fields)
     return f"""\
 /// One word for each field.
 impl Words for {struct.name} {{
