@@ -11,7 +11,7 @@ from cases.vendoring import vendor
 # A struct, what is refused of it, and in which line.
 REFUSED = {
     "pub struct A {\n    pub x: u64,\n    pub y: String,\n}\n": "line 3: a field of type String isn't supported",
-    "pub struct A {\n    pub x: [u8; 64],\n    pub y: [u8; 65],\n}\n": "line 3: a field of type [u8; 65] isn't supported",
+    "pub struct A {\n    pub x: [u8; 16],\n    pub y: [u8; 17],\n}\n": "line 3: a field of type [u8; 17] isn't supported",
     "pub struct A {\n    pub y: [[u8; 2]; 2],\n}\n": "line 2: a field of type [[u8; 2]; 2] isn't supported",
     "pub struct A {\n    // x: u8,\n    pub x: u64,\n    y: u8,\n}\n": "line 4: y is private; write `pub(crate) y`",
     "pub struct A {\n    pub x u64,\n}\n": "line 2: expected a field such as `pub x: f64`, not `pub x u64`",

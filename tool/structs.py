@@ -74,7 +74,7 @@ FLAG = "let flag : (b : Bool) → (word_of_bool b == 1) ≡ b = elim [ true ↦ 
 
 
 # How many elements an array may have.
-MOST = 64
+MOST = 16
 
 
 @dataclass(frozen=True)
