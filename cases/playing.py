@@ -116,7 +116,8 @@ def the_page_plays_in_a_browser():
             title = re.search(r"<title>(.*?)</title>", seen)
             why = "1 message of p1 is missing before this one / "
             ground = "rgb(22, 24, 28)" if is_dark else "rgb(255, 255, 255)"
-            expect(title and re.sub(r"(?<= / ).*?(?=; true)", "..", title[1]), f"#3; #1; #2; #3; #14; line 5 of 14; {why}..; true; true; true; {ground}")
+            seen = title and re.sub(r"(?<= / ).*?(?=; true)", "..", title[1])
+            expect(seen, f"#3; #1; #2; #3; #14; line 5 of 14; {why}..; true; true; true; {ground}")
 
 
 @case

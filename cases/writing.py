@@ -39,8 +39,8 @@ def a_script_is_never_written_over():
             at = {"cwd": script.parent}
             told = f"own.iox is a script, so nothing is written there: `./iox own.iox --{name}` writes own{suffix}"
             ran(f"--{name}", "own.iox", **at).expect_one_line(64, told)
-            for words in ((f"--{name}", "own.iox", "own.iox"), ("own.iox", f"--{name}=own.iox"), ("--force", f"--{name}=./own.iox", "own.iox")):
-                ran(*words, **at).expect_one_line(64, "own.iox is a script")
+            for words in ((f"--{name}", "own.iox"), (f"--{name}=own.iox",), ("--force", f"--{name}=./own.iox")):
+                ran(*words, "own.iox", **at).expect_one_line(64, "own.iox is a script")
             ran(f"--{name}", "new.iox", "own.iox", **at).expect_one_line(64, "new.iox is a script")
             ran(f"--{name}", "link", "own.iox", **at).expect_one_line(64, "link is a script")
             ran(f"--{name}", "other.txt", "--force", "own.iox", **at).expect_one_line(64, "other.txt is the script itself")
@@ -134,14 +134,15 @@ def a_long_line_is_drawn_too():
 
 @case
 def replies_are_compared_with_those_that_are_expected():
+    second = " is expected (own.replies, line 2), and the reply is "
     with own_script() as script:
         wanted = script.with_suffix(".replies")
         wanted.write_bytes(REPLIES)
         ran("--expect", wanted, script).expect(0, REPLIES)
         ran("--expect", wanted, "--json", script, stdout=subprocess.DEVNULL).expect(0, None)
         for given, lines, told in (
-            (b"node\nput p1 1\nnode\n", b"ok n1\nok 1\nok n3\n", 'line 2: "ok 1" is expected (own.replies, line 2), and the reply is "skip": p1 doesn\'t exist'),
-            (b"node\nnod\n", b"ok n1\nok n2", 'line 2: "ok n2" is expected (own.replies, line 2), and the reply is "err faulty line": "nod" isn\'t a command'),
+            (b"node\nput p1 1\nnode\n", b"ok n1\nok 1\nok n3\n", f'line 2: "ok 1"{second}"skip": p1 doesn\'t exist'),
+            (b"node\nnod\n", b"ok n1\nok n2", f'line 2: "ok n2"{second}"err faulty line": "nod" isn\'t a command'),
             (b"node\nnode\n", b"ok n1\n", 'line 2: own.replies ends before this reply, "ok n2"'),
             (b"node\n", b"ok n1\nok n2\nok n3\n", "own.replies has 2 more replies than came"),
         ):
@@ -230,7 +231,8 @@ def a_run_that_is_stopped_tells_of_no_fault():
 @case
 def numbers_are_strings_in_json_where_that_is_asked_for():
     most = 2**64 - 1
-    given = f"node\ncreate n1 ps A sequence=1\nsubscriber f1\npublisher f1\nput p1 {most}\nreceive s1\nread m1\nsequence m1\nsequence m2\n".encode()
+    begun = "node\ncreate n1 ps A sequence=1\nsubscriber f1\npublisher f1\n"
+    given = f"{begun}put p1 {most}\nreceive s1\nread m1\nsequence m1\nsequence m2\n".encode()
     for word, number, first in (("--json", most, 1), ("--json=strings", str(most), "1")):
         records = [json.loads(it) for it in ran(word, "-q", given=given).out.splitlines()]
         expect([it.get("values") for it in records[5:7]], [[number]] * 2)
@@ -245,7 +247,8 @@ def an_error_in_json_has_its_reason_and_advice():
     records = [json.loads(it) for it in ran("--json", "-q", given=given).out.splitlines()]
     from tool.meanings import meaning_of
 
-    for at, error in ((1, "PublishSubscribeOpenError::DoesNotExist"), (3, "SubscriberCreateError::BufferSizeExceedsMaxSupportedBufferSizeOfService")):
+    too_large = "SubscriberCreateError::BufferSizeExceedsMaxSupportedBufferSizeOfService"
+    for at, error in ((1, "PublishSubscribeOpenError::DoesNotExist"), (3, too_large)):
         meaning = meaning_of(f"err {error}")
         wanted = {"error": error, "why": [meaning.when], "advice": meaning.what_to_do}
         expect({key: records[at].get(key) for key in wanted}, wanted)

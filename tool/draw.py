@@ -22,7 +22,8 @@ text{font:13px monospace;fill:#222}.title{font:bold 16px sans-serif}.sub,.legend
 .message{stroke:#1f5fbf;stroke-width:1.8;fill:none;marker-end:url(#tip)}
 .waits{stroke:#1f5fbf;stroke-width:1.5;stroke-dasharray:2 4;fill:none;marker-end:url(#ring)}
 .lost{stroke:#b3261e;stroke-width:1.5;stroke-dasharray:6 4;fill:none;marker-end:url(#cross)}
-.untaken,.gap{stroke:#b3261e;stroke-width:2.5}.value{font:11px monospace;paint-order:stroke;stroke:#fff;stroke-width:4px}.gone{fill:#b3261e}"""
+.untaken,.gap{stroke:#b3261e;stroke-width:2.5}
+.value{font:11px monospace;paint-order:stroke;stroke:#fff;stroke-width:4px}.gone{fill:#b3261e}"""
 MARKER = '<marker id="{}" viewBox="0 0 8 8" refX="{}" refY="4" markerWidth="6" markerHeight="6"{}>{}</marker>'
 MARKERS = "\n".join(
     (

@@ -82,7 +82,7 @@ VERBS = {
     for it in (
         Verb("node", (), "ok nK", "creates a node"),
         Verb("create", SERVICE, "ok fK", "creates a service", "Whoever opens it later may ask for no more than the numbers named here."),
-        Verb("open", SERVICE, "ok fK", "opens a service", "The service has to meet each option named here: its number is as large or larger."),
+        Verb("open", SERVICE, "ok fK", "opens a service", "The service has to meet each option that is named: by a number as large."),
         Verb("open_or_create", SERVICE, "ok fK", "opens or creates one", "Opens the service if it exists, and creates it otherwise."),
         Verb("foreign", (Kind.PATTERN, Kind.NAME, Kind.STEPS), "ok", "nodes elsewhere act", "A step that doesn't fit changes nothing."),
         Verb("close", (Kind.FACTORY,), "ok", "closes a factory", IN_USE),

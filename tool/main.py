@@ -148,7 +148,7 @@ def serve(options: Namespace, begun: float) -> int:
 def print_path(options: Namespace):
     program = None if options.model else find_program(options)
     if program is None:
-        stop(NOT_BUILT, "the Python model is model/script_model.py" if options.model else "the toolchain keeps no program that can be taken")
+        stop(NOT_BUILT, "the Python model is model/script_model.py" if options.model else "the program couldn't be kept")
     print(program)
 
 

@@ -49,7 +49,8 @@ def manual():
         told = "; ".join(f"{key}: {MEANINGS[key]}" for key in kinds)
         lines += [".TP", f".B {verb}", roff(told)]
     lines += [".SH EXIT STATUS", roff(plain(STATUSES.partition("\n`")[0]).replace("status: ", ""))]
-    lines += [".SH FILES", roff("crates/iox/out has what is built, or $XDG_CACHE_HOME/kohepuri if that can't be written; $XDG_STATE_HOME/kohepuri/history the lines typed at the prompt.")]
+    built = "crates/iox/out has what is built, or $XDG_CACHE_HOME/kohepuri if that can't be written"
+    lines += [".SH FILES", roff(f"{built}; $XDG_STATE_HOME/kohepuri/history has the lines typed at the prompt.")]
     return "\n".join(lines) + "\n"
 
 

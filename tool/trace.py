@@ -76,7 +76,9 @@ def missed(it: Delivery) -> str:
     """Which messages are missing before one that was received, in words."""
     if not it.missing:
         return ""
-    return f"{it.missing} {'message' if it.missing == 1 else 'messages'} of {it.publisher} {'is' if it.missing == 1 else 'are'} missing before this one"
+    if it.missing == 1:
+        return f"1 message of {it.publisher} is missing before this one"
+    return f"{it.missing} messages of {it.publisher} are missing before this one"
 
 
 class Trace:

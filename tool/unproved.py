@@ -1,7 +1,7 @@
 """The unproved program: one build of the same sources, which the toolchain makes in about a minute and deletes, and which is kept here.
 
-`rt try` runs what it built below its TMPDIR. While the program runs there on a script of ours, its file gets a second name. If the toolchain
-has its files elsewhere, each script is answered by a run of `rt try` itself.
+`rt try` runs what it built below its TMPDIR. While the program runs there on a script of ours, its file gets a second name.
+If the toolchain has its files elsewhere, each script is answered by a run of `rt try` itself.
 """
 from __future__ import annotations
 
