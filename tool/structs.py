@@ -238,8 +238,8 @@ def words_block(struct: Struct) -> str:
     alone = len(placed) == 1
     parts = " ∷ ".join([*(word for it in struct.fields for word in it.words()), "[]"])
     values = "".join(f"\n      {it.name} = {it.value(at)};" for it, at in placed)
-    holds = [it.holds() for it in struct.fields]
-    holds = holds[0] if alone else " × ".join(f"({it})" if re.search("[<×]", it) else it for it in holds)
+    each = [it.holds() for it in struct.fields]
+    holds = each[0] if alone else " × ".join(f"({it})" if re.search("[<×]", it) else it for it in each)
     steps = [step for number, it in enumerate(struct.fields) for step in it.steps("h" if alone else f"h.{number}")]
     flag = FLAG if any(it.type == "bool" for it in struct.fields) else ""
     back = flag + "".join(f"rw ({it}) " for it in steps) + "refl"
