@@ -1,47 +1,47 @@
-"""Planted faults: each fits the text that it changes, and the pages on them name what is there."""
+"""Planted faults: each fits the text that it changes, those of each gate fall, and the pages on them name what is there."""
 import re
+import subprocess
 
-from cases.kit import TOP, case, expect
+from cases.kit import LONG, TOP, Differs, case, case_behind_proofs, expect
+from planted.trying import choosing, page, table
+from planted.trying.edits import edit_of, every_edit, fault_of
 
 NOTES = TOP / "docs" / "notes"
 
 
-def changes(edit):
-    """What an edit changes: the file, the text before, the text after, of each of its changes."""
-    file, old = None, None
-    for line in edit.read_text(encoding="utf-8").splitlines():
-        key, _, text = line.partition(": ")
-        if key == "file":
-            file = text
-        elif key == "old":
-            old = text
-        elif key == "new":
-            yield file, old, text
-
-
-def fault_of(crate, edit):
-    """Why an edit can't be tried on a crate, or nothing."""
-    texts = {}
-    for file, old, new in changes(edit):
-        path = crate / file
-        text = texts.get(path) or (path.read_text(encoding="utf-8") if path.is_file() else "")
-        if text.count(old) != 1:
-            return f"{text.count(old)} times in {file}: {old}"
-        texts[path] = text.replace(old, new)
-    return "" if texts else "it changes nothing"
-
-
-def planted():
-    """Each edit, with the crate that it changes."""
-    for edit in sorted([*TOP.glob("planted/*/*.edit"), *TOP.glob("crates/*/must-fail/*.edit")]):
-        name = edit.parent.name if edit.parent.name != "must-fail" else edit.parent.parent.name
-        yield TOP / "crates" / name, edit
+@case_behind_proofs
+def the_wrong_bodies_of_each_gate_fall_as_their_rows_say():
+    ran = subprocess.run([TOP / "planted" / "try", "--gate", "--jobs", "2"], stdout=subprocess.PIPE, text=True, timeout=LONG)
+    for line in ran.stdout.splitlines():
+        if line.startswith("note: "):
+            print(line, flush=True)
+    if ran.returncode:
+        raise Differs("; ".join(line for line in ran.stdout.splitlines() if line.startswith("FAILED")) or ran.stdout[-300:])
 
 
 @case
 def each_planted_fault_fits_the_text_that_it_changes():
-    faults = ((str(edit.relative_to(TOP)), fault_of(crate, edit)) for crate, edit in planted())
+    edits = every_edit() + [edit_of(it) for it in sorted(TOP.glob("crates/*/must-fail/*.edit"))]
+    faults = ((str(it.path.relative_to(TOP)), fault_of(it, TOP / "crates" / it.crate)) for it in edits)
     expect([it for it in faults if it[1]], [])
+
+
+@case
+def each_body_of_the_gate_is_planted_and_its_row_names_what_refuses_it():
+    rows, there = table.read(), {it.key for it in every_edit()}
+    named = [key for keys in choosing.promised().values() for key in keys]
+    expect([key for key in named if key not in there or key in rows and rows[key].how not in table.HELD], [])
+
+
+@case
+def the_rows_of_planted_faults_are_of_bodies_that_are_there():
+    there = {it.key for it in every_edit()}
+    expect([key for key in table.read() if key not in there], [])
+
+
+@case
+def the_page_of_planted_faults_is_what_its_table_says():
+    expect(page.PAGE.read_text(encoding="utf-8") == page.written(), True)
 
 
 @case
@@ -49,10 +49,3 @@ def the_page_of_wrong_machines_names_each_edit_that_is_planted():
     rows = re.findall(r"(?m)^\| (`[^|]*`) \| [^|]* \| [^|]* \|$", (NOTES / "MACHINE.md").read_text(encoding="utf-8"))
     named = sorted(it for row in rows for it in re.findall(r"`([\w-]+)`", row))
     expect(named, sorted(it.stem for it in TOP.glob("planted/iox_machine/*.edit")))
-
-
-@case
-def the_page_of_planted_faults_names_crates_that_are_there():
-    rows = re.findall(r"(?m)^\| ([^|]*) \|", (NOTES / "PLANTS.md").read_text(encoding="utf-8"))
-    named = {it for row in rows for it in re.findall(r"`((?:iox|example)_\w+)`", row)}
-    expect(sorted(it for it in named if not (TOP / "crates" / it).is_dir()), [])
