@@ -46,7 +46,7 @@ impl Decides for Noting<'_> {
 type Noted<'a> = Domain<u64, u8, Noting<'a>, Noting<'a>>;
 
 // Who notes what it is told of the connection of these two ports.
-fn noting(notes: &Cell<u64>, sender: u64, receiver: u64) -> Noting<'_> {
+fn notes_about(notes: &Cell<u64>, sender: u64, receiver: u64) -> Noting<'_> {
     Noting {
         notes,
         told: DegradationInfo {
@@ -65,14 +65,14 @@ fn subscribes<'a>(
     notes: &'a Cell<u64>,
     port: u64,
 ) {
-    let subscribers = subscriber_builder(domain, 4, 3).set_handler(noting(notes, 2, port));
+    let subscribers = subscriber_builder(domain, 4, 3).set_handler(notes_about(notes, 2, port));
     must_be_there(rt, subscribers.holds(domain));
     let _ = subscribers.create(alloc, domain);
 }
 
 // The publisher comes as port 2, where port 1 is a subscriber.
 fn publishes<'a>(rt: &impl Abort, alloc: Global, domain: &mut Noted<'a>, notes: &'a Cell<u64>) {
-    let publishers = publisher_builder(domain, 4, 3).set_handlers(noting(notes, 2, 1));
+    let publishers = publisher_builder(domain, 4, 3).set_handlers(notes_about(notes, 2, 1));
     must_be_there(rt, publishers.holds(domain));
     let _ = publishers.create(alloc, domain);
 }

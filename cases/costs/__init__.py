@@ -1,0 +1,215 @@
+"""Ceilings of cost: what lines take of the program once much has been, in instructions and in memory, held against tables.
+
+`rows.txt` has what a line may take once much has been, `verbs.txt` what a line of each verb takes, `memory.txt` what asks for no memory and
+what keeps none. It is the proved program that is counted, as `rt ci` built it, or the one that COSTS_OF names in the environment.
+With CHECK_TIMES=1 each figure is printed.
+"""
+import os
+from concurrent.futures import ThreadPoolExecutor
+
+from cases.costs import counting
+from cases.costs.table import Line, Script, at, read
+from cases.kit import COMMANDS, Differs, case, case_of_program, expect
+
+# Lines that take more instructions are counted only after the least number of times and the most.
+FEW = 20_000
+# So much more than its first figure may a line take that has no reason to; and than its figure in the table.
+GROWTH, MARGIN = 1.15, 1.05
+# In bytes, how much more may be in use after 10,000 times than after 10.
+KEPT = 16_384
+# What two sensors and two displays ask for in all, and the most bytes in use.
+IN_THREADS = counting.Counted(steps=0, requests=81, in_use=0, most=15_352)
+
+
+def note(text):
+    if os.environ.get("CHECK_TIMES"):
+        print(f"note: {text}\n", end="", flush=True)
+
+
+# ---- instructions, once much has been
+
+
+def script_of(script, times, dear=frozenset()):
+    """The lines of a script, each that is counted with its mark; those of `dear` go uncounted."""
+    lines, place = [*script.before(times), *script.all_times(times)], -1
+    for it in script.lines:
+        place += it.is_counted
+        lines.append(counting.COUNT * (it.is_counted and place not in dear) + at(it.text, times, times))
+    return lines
+
+
+def figures(script, count=counting.instructions):
+    """How many instructions each counted line takes after so many times: for each line by the times."""
+    of, (least, *more) = counting.program(), script.times
+    found = [{least: it} for it in count(of, script_of(script, least))]
+    dear = {place for place, it in enumerate(found) if it[least] > FEW}
+    for times in more:
+        left = dear if times != more[-1] else frozenset()
+        told = iter(count(of, script_of(script, times, left)))
+        for place, it in enumerate(found):
+            if place not in left:
+                it[times] = next(told)
+    return list(zip(script.counted(), found))
+
+
+def judge(name, line, found):
+    """What is wrong with the figures of a line, or nothing."""
+    least = found[min(found)]
+    grown = {number: it for number, it in found.items() if it > GROWTH * least}
+    told = ", ".join(f"{it:,} after {number:,}" for number, it in found.items())
+    if line.mark == "walks":
+        return ""
+    if line.mark == "known":
+        return "" if grown else f"{name}: `{line.text}`: {line.why}: no longer so ({told}): take the mark out of cases/costs/rows.txt"
+    return f"{name}: `{line.text}` takes {told}: more than {GROWTH} of the first" if grown else ""
+
+
+def judged(scripts, judge_one):
+    """What is wrong with each script, several at a time."""
+
+    def go(script):
+        try:
+            return judge_one(script)
+        except Differs as error:
+            return [f"{script.name}: {error}"]
+
+    with ThreadPoolExecutor(os.cpu_count() or 1) as pool:
+        wrong = [it for found in pool.map(go, scripts) for it in found]
+    if wrong:
+        raise Differs("; ".join(wrong))
+
+
+@case_of_program
+def a_line_takes_no_more_once_much_has_been():
+    def judge_one(script):
+        lines = figures(script)
+        for line, found in lines:
+            note(f"{script.name}: {line.text}: {', '.join(f'{it:,}' for it in found.values())}{' ' * bool(line.mark)}{line.mark}")
+        return [it for line, found in lines if (it := judge(script.name, line, found))]
+
+    judged(read("rows.txt"), judge_one)
+
+
+# ---- instructions of one line
+
+
+def number_of(text):
+    """A number as tables have it; 0 where there is none."""
+    return int(text.replace(",", "") or 0)
+
+
+def above(script, lines):
+    """What takes more than its figure, or so much less that the figure is old."""
+    wrong = []
+    for line, found in lines:
+        figure, least = number_of(line.why), min(found.values())
+        note(f"{script.name}: {line.text}: {least:,}, by the table {figure:,}")
+        if not figure / MARGIN <= least <= figure * MARGIN:
+            wrong.append(f"{script.name}: `{line.text}` takes {least:,}, and {figure:,} by cases/costs/verbs.txt")
+    return wrong
+
+
+@case_of_program
+def a_line_of_each_verb_takes_what_the_table_says():
+    scripts = read("verbs.txt")
+    expect(sorted({it.text.split()[0] for script in scripts for it in script.counted()}), sorted(COMMANDS))
+    judged(scripts, lambda it: above(it, figures(it)))
+
+
+# ---- memory
+
+
+def memory(script, count=counting.memory):
+    """Before the times and behind them, after 10 and after 10,000: requests, bytes in use, the most that ever were."""
+    of, found = counting.program(), {}
+    for times in (min(script.times), max(script.times)):
+        lines = [*script.before(times), *counting.WARM, counting.MARK, *script.all_times(times), counting.MARK]
+        found[times] = count(of, lines)
+    return found
+
+
+def judge_memory(script, found):
+    """What is wrong with the memory that a script took, or nothing."""
+    (few_before, few), (many_before, many) = (found[it] for it in sorted(found))
+    asked = {times: behind.requests - before.requests for times, (before, behind) in found.items()}
+    wrong, (what, _, why) = [], script.said.get("asks", "").partition(": ")
+    each = int(what.split()[0]) if what and what != "never" else 0
+    if what and any(it != each * times for times, it in asked.items()):
+        told = ", ".join(f"{it:,} requests for memory in {times:,} times" for times, it in asked.items())
+        wrong.append(f"{told}, and not {what} ({why})" if why else told)
+    what, _, why = script.said.get("keeps", "").partition(": ")
+    kept = max((many.in_use - many_before.in_use) - (few.in_use - few_before.in_use), many.most - few.most)
+    if what and ((kept > KEPT) is not (what == "known")):
+        wrong.append(f"keeps {kept:,} bytes more after {max(found):,} times than after {min(found):,}{f' ({why})' * bool(why)}")
+    ceiling, taken = number_of(script.said.get("takes", "")), few.in_use - few_before.in_use
+    if ceiling and not ceiling / MARGIN <= taken <= ceiling * MARGIN:
+        wrong.append(f"takes {taken:,} bytes in {min(found):,} times, and {ceiling:,} by cases/costs/memory.txt")
+    return [f"{script.name}: {it}" for it in wrong]
+
+
+@case_of_program
+def calls_that_take_no_memory_ask_for_none_and_what_ends_keeps_none():
+    def judge_one(script):
+        found = memory(script)
+        for times, (before, behind) in found.items():
+            asked, more = behind.requests - before.requests, behind.in_use - before.in_use
+            note(f"{script.name}: {asked:,} requests in {times:,}, {more:,} bytes more in use, {behind.most:,} at most")
+        return judge_memory(script, found)
+
+    judged(read("memory.txt"), judge_one)
+
+
+# ---- threads
+
+
+@case
+def a_message_in_threads_asks_for_no_memory():
+    """Two sensors send 1,001 messages each to two displays: all that is asked for is asked for before the first of them."""
+    _, counted = counting.run(counting.built("example_threads"), "memory")
+    asked = counted[-1]
+    note(f"2,002 messages in threads: {asked.requests:,} requests, {asked.most:,} bytes at most")
+    if asked.requests > MARGIN * IN_THREADS.requests or asked.most > MARGIN * IN_THREADS.most:
+        raise Differs(f"{asked.requests:,} requests and {asked.most:,} bytes at most, and not {IN_THREADS.requests} and {IN_THREADS.most:,}")
+
+
+# ---- what the cases must not pass over
+
+
+def expect_told(found, *parts):
+    """Expects a judge to tell of something, in these words, or of nothing where there are none."""
+    told = "; ".join([found] if isinstance(found, str) else found)
+    if bool(told) is not bool(parts) or any(it not in told for it in parts):
+        raise Differs(f"{told!r}, and not {parts}")
+
+
+@case
+def a_line_that_grows_and_a_known_one_that_does_not_are_told():
+    flat, grown = {10: 1_000, 1_000: 1_100, 10_000: 1_149}, {10: 1_000, 1_000: 1_001, 10_000: 1_151}
+    marks = (("", ""), ("known", "it is lame"), ("walks", "by a rule"))
+    plain, known, walking = (Line("put p1 3", True, *mark) for mark in marks)
+    expect_told(judge("visits", plain, flat))
+    expect_told(judge("visits", plain, grown), "visits: `put p1 3` takes 1,000 after 10, 1,001 after 1,000, 1,151 after 10,000")
+    expect_told(judge("visits", known, grown))
+    expect_told(judge("visits", known, flat), "it is lame: no longer so", "take the mark out of cases/costs/rows.txt")
+    expect_told(judge("visits", walking, grown))
+    figure = Line("put p1 3", True, "takes", "1,000")
+    expect_told(above(Script("a message"), [(figure, {10: 1_049, 20: 1_049})]))
+    expect_told(above(Script("a message"), [(figure, {10: 1_051, 20: 1_051})]), "`put p1 3` takes 1,051, and 1,000 by")
+    expect_told(above(Script("a message"), [(figure, {10: 951, 20: 951})]), "takes 951")
+
+
+@case
+def memory_that_is_asked_for_or_kept_is_told():
+    at = lambda requests, in_use: counting.Counted(0, requests, in_use, in_use)
+    none, often = {10: (at(5, 9), at(5, 9)), 10_000: (at(7, 9), at(7, 9))}, {10: (at(5, 9), at(5, 9)), 10_000: (at(7, 9), at(8, 9))}
+    twice = {10: (at(5, 9), at(25, 9)), 10_000: (at(7, 9), at(20_007, 9))}
+    kept = {10: (at(5, 900), at(5, 900)), 10_000: (at(5, 900), at(5, 900 + KEPT + 1))}
+    never, two = Script("a put", said={"asks": "never"}), Script("a read", said={"asks": "2 a time: its values"})
+    expect_told(judge_memory(never, none))
+    expect_told(judge_memory(never, often), "a put: 0 requests for memory in 10 times, 1 requests for memory in 10,000 times")
+    expect_told(judge_memory(two, twice))
+    expect_told(judge_memory(two, none), "and not 2 a time (its values)")
+    expect_told(judge_memory(Script("a put", said={"keeps": "nothing"}), none))
+    expect_told(judge_memory(Script("a put", said={"keeps": "nothing"}), kept), "keeps 16,385 bytes more after 10,000 times than after 10")
+    expect_told(judge_memory(Script("a put", said={"keeps": "known: it is lame"}), kept))
+    expect_told(judge_memory(Script("a put", said={"keeps": "known: it is lame"}), none), "keeps 0 bytes more", "(it is lame)")
