@@ -82,6 +82,8 @@ def a_program_that_ends_or_is_missing_is_told():
         ran = Ran("--against", "sh -c 'read line; exit 3'", SCRIPT, cwd=folder)
         expect((ran.status, ran.out), (5, b"node  (the program ended, status 3)\n      allowed: ok n1\n"))
         expect_in(b"iox: 3 of 3 runs of these 1 lines show it", ran.err)
+        ran = Ran("--against", "cat /dev/zero", SCRIPT, cwd=folder)
+        expect((ran.status, ran.out), (5, b"node  (a reply of more than 65536 bytes)\n      allowed: ok n1\n"))
     Ran("--against", "./no-such-program", SCRIPT).expect_one_line(66, "./no-such-program: No such file or directory")
     Ran("--against", ADAPTER, "./no-such.iox").expect_one_line(66, "./no-such.iox: No such file or directory")
 
@@ -94,3 +96,4 @@ def wrong_arguments_of_a_comparison_are_told():
         Ran("--against", ADAPTER, "--random", asked).expect_one_line(64, "see ./iox --help")
     Ran("--against", ADAPTER, "--random", "3", SCRIPT).expect_one_line(64, "see ./iox --help")
     Ran("--against", "./it's", SCRIPT).expect_one_line(64, "./it's: No closing quotation")
+    Ran("--against", ADAPTER, "--listen", "0").expect_one_line(64, "--listen can't be given with --against")

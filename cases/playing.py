@@ -122,7 +122,8 @@ def the_page_plays_in_a_browser():
 
 @case
 def the_prompt_helps_with_options_and_near_words():
-    typed = [b"?\n", b"help history\n", b"help slots\n", b"help histry\n", b"quitt\n", b":stat\n", b"node\n", b"quit\n"]
+    typed = [b"?\n", b"help history\n", b"help slots\n", b"help histry\n", b"quitt\n", b":stat\n", b"help :why\n", b"exit now\n"]
+    typed += [b"node\n", b"create n1 ps A history=3 buffer=2 overflow=0\n", b":why\n", b"quit\n"]
     with tempfile.TemporaryDirectory(prefix="iox-check-") as folder:
         status, screen = talk([sys.executable, TOP / "iox", "--model"], typed, {"XDG_STATE_HOME": folder})
         expect(status, 0)
@@ -135,7 +136,10 @@ def the_prompt_helps_with_options_and_near_words():
             'iox> help histry\nno command or option "histry"; did you mean "history"?\n',
             'iox> quitt\nno command "quitt"; did you mean "quit"?\n',
             'iox> :stat\nno command ":stat"; did you mean ":state"?\n',
+            "iox> help :why\nwords of the prompt:\n",
+            "iox> exit now\nexit takes no further words\n",
             "iox> node\nok n1\n",
+            "LargerThanHistorySize\niox> :why\nline 2: ",
         ):
             expect_in(it, screen)
 

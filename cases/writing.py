@@ -75,7 +75,19 @@ def a_picture_or_page_has_the_scripts_name_if_none_is_given():
             ran(script.name, f"--{name}", cwd=script.parent).expect(0, REPLIES, f"iox: wrote own{suffix}\n".encode())
             expect(script.with_suffix(suffix).read_bytes().startswith(begins), True)
             ran(f"--{name}", given=b"node\n").expect_one_line(64, f"--{name} needs OUT")
+            ran("/dev/stdin", f"--{name}", given=b"node\n").expect_one_line(64, f"--{name} needs OUT")
             expect(sorted(os.listdir(script.parent)), sorted(["own.iox", f"own{suffix}"]))
+
+
+@case
+def a_script_whose_name_is_no_text_is_drawn():
+    for name, suffix, begins in WRITING:
+        with own_script() as script:
+            odd = script.with_name(os.fsdecode(b"\xff<b>.iox"))
+            script.rename(odd)
+            ran("-q", odd, f"--{name}").expect(0, REPLIES)
+            written = odd.with_suffix(suffix).read_bytes()
+            expect((written.startswith(begins), written.count(b"\\xff&lt;b&gt;.iox") > 0), (True, True))
 
 
 @case
@@ -104,6 +116,11 @@ def an_output_that_cannot_be_written_is_told_before_anything_runs():
             ran(f"--{name}", script.parent, script).expect_one_line(66, f"{script.parent}: Is a directory")
             missing = script.parent / "missing" / "out"
             ran(f"--{name}", missing, script).expect_one_line(66, f"{missing}: No such file or directory")
+            ran(f"--{name}", script / "out", script).expect_one_line(66, f"{script / 'out'}: Not a directory")
+            loop = script.with_name("loop")
+            loop.symlink_to(loop)
+            ran(f"--{name}", loop, script).expect_one_line(66, f"{loop}: Too many levels of symbolic links")
+            loop.unlink()
             ran(f"--{name}", os.devnull, script).expect(0, REPLIES, b"iox: wrote /dev/null\n")
             expect((os.listdir(script.parent), Path(os.devnull).is_file()), (["own.iox"], False))
 

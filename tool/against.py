@@ -32,6 +32,8 @@ from tool.trace import Trace
 DIFFERS = 5  # the status where a reply isn't allowed
 # In seconds: how long a reply may take, and the end of the program behind its last line.
 PATIENCE, ENDING = 20.0, 10.0
+# In bytes: what is read of a reply before its end.
+LONGEST_REPLY = 65_536
 # So often the shortest script is run, and of scripts up to that length two lines at once are left out.
 TIMES, MOST_PAIRED = 3, 30
 
@@ -81,7 +83,11 @@ class Side:
                 self.child.kill()
                 self.close()
                 return f"(no reply in {PATIENCE:.0f} s)"
-            piece = os.read(self.child.stdout.fileno(), 65536)
+            piece = os.read(self.child.stdout.fileno(), LONGEST_REPLY)
+            if len(self.rest) > LONGEST_REPLY:
+                self.child.kill()
+                self.close()
+                return f"(a reply of more than {LONGEST_REPLY} bytes)"
             if not piece:
                 status = self.child.wait()
                 self.close()

@@ -65,7 +65,7 @@ OPTIONS: list = [
     (["--strict"], "fail if a reply is err or skip", FLAG),
     (["--comments"], "skip blank lines and lines that begin with #", FLAG),
     (["--listen"], "serve one hub to all who connect by TCP", {"metavar": "[HOST:]PORT"}),
-    (["--against"], "hold another program's replies against the model", {"metavar": "CMD"}),
+    (["--against"], "check another program's replies by the model", {"metavar": "CMD"}),
     (["--random"], "with --against: N random scripts, or N,PROFILE,SEED", {"metavar": "N"}),
     (["--time"], "print the time taken at the end", FLAG),
     (["--numbers"], "repeat each line that got err or skip", FLAG),
@@ -80,7 +80,7 @@ OPTIONS: list = [
 ]
 # What an option can't be given with, beside those that argparse excludes.
 APART = {
-    "listen": ("file", "svg", "html", "expect", "strict", "time", "path"),
+    "listen": ("file", "svg", "html", "expect", "strict", "time", "path", "against", "random"),
     "path": ("svg", "html", "expect"),
 }
 

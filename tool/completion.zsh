@@ -14,7 +14,7 @@ _iox() {
         '(--strict)'--strict'[fail if a reply is err or skip]' \
         '(--comments)'--comments'[skip blank lines and lines that begin with #]' \
         '(--listen)'--listen'[serve one hub to all who connect by TCP]:[HOST:]PORT:_files' \
-        '(--against)'--against'[hold another program'\''s replies against the model]:CMD:_files' \
+        '(--against)'--against'[check another program'\''s replies by the model]:CMD:_files' \
         '(--random)'--random'[with --against\: N random scripts, or N,PROFILE,SEED]:N:_files' \
         '(--time)'--time'[print the time taken at the end]' \
         '(--numbers)'--numbers'[repeat each line that got err or skip]' \

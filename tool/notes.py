@@ -94,7 +94,7 @@ class Notes:
         self.out, self.follower, self.is_verbose, self.who = out, follower, options.verbose, who
         self.shows_lines = options.numbers or options.verbose
         self.is_silent = options.quiet and not self.shows_lines
-        self.is_asked = prompts or not self.is_silent
+        self.prompts, self.is_asked = prompts, prompts or not self.is_silent
         # What was said last, for who asks again, and hints that are given once.
         self.last, self.hints = "", set[str]()
 
@@ -111,13 +111,17 @@ class Notes:
         shown = [f"{at}{it.where}: {self.without_known_hint(it.text)}" for it in told]
         if self.shows_lines and reply.startswith((b"err", b"skip")):
             shown.insert(0, f"{at}: {readable(line.text)}")
-        meaning = meaning_behind(reply, told) if self.is_verbose else None
-        if meaning:
-            shown.append(f"{at}: {': '.join(filter(None, (meaning.when, meaning.what_to_do)))}")
-        return shown
+        return shown + (self.meaning(at, reply, told) if self.is_verbose else [])
+
+    def meaning(self, at: str, reply: bytes, told: list[Told]) -> list[str]:
+        """When the error comes, and what to do."""
+        meaning = meaning_behind(reply, told)
+        return [f"{at}: {': '.join(filter(None, (meaning.when, meaning.what_to_do)))}"] if meaning else []
 
     def take(self, line: Line, reply: bytes):
         shown = self.shown(line, reply) if self.is_asked else []
+        if self.prompts and not shown:
+            self.last = "\n".join(self.meaning(f"line {line.number}", reply, [])) or self.last
         if shown:
             self.last = "\n".join(shown)
             if not self.is_silent:

@@ -23,6 +23,8 @@ def look_at(path: str) -> os.stat_result | None:
         return os.stat(path)
     except FileNotFoundError:
         return None
+    except OSError as error:
+        stop(NO_INPUT, f"{path}: {error.strerror}")
 
 
 def is_file_at(number: int, found: os.stat_result) -> bool:
@@ -70,8 +72,8 @@ def choose_outputs(options: Namespace):
         out = getattr(options, name)
         if out is None:
             continue
-        if not out and not options.file:
-            stop(MISUSED, f"--{name} needs OUT, since the script has no name: see ./iox --help")
+        if not out and not (options.file and stat.S_ISREG(os.fstat(0).st_mode)):
+            stop(MISUSED, f"--{name} needs OUT, since the script is no file with a name: see ./iox --help")
         out = out or str(Path(options.file).with_suffix(suffix))
         setattr(options, name, out)
         if out != STANDARD_OUTPUT:

@@ -48,6 +48,8 @@ def history_file() -> Path:
 def help_on(word: str) -> str:
     if not word:
         return f"{help_on_all()}\n{WORDS}"
+    if word in (*OWN_WORDS, "?"):
+        return WORDS
     told = help_on_verb(VERBS[word]) if word in VERBS else help_on_option(word.rstrip("="))
     return told or f'no command or option "{word}"{meant(word.encode(), [*VERBS, *OPTIONS])}'
 
@@ -164,6 +166,8 @@ class Prompt:
             self.tell(told(snapshot(self.follower.catch_up())))
         elif line == ":why":
             self.tell(self.notes.last or "no line was skipped, refused or faulty so far")
+        elif word in OWN_WORDS:
+            self.tell(f"{word} takes no further words")
         elif any(f'"{it}"' in near for it in OWN_WORDS):
             self.tell(f'no command "{word}"{near}')
         elif line.startswith(":"):

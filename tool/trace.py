@@ -1,6 +1,7 @@
 """What became of each message of a conversation, by the Python model: who sent it, who received it, where it was lost."""
 from __future__ import annotations
 
+import os
 from argparse import Namespace
 from dataclasses import dataclass, field
 from pathlib import Path
@@ -205,9 +206,10 @@ class Trace:
 
     def write(self, options: Namespace):
         """Writes the picture and the page that are asked for, and says if the conversation was too long for all of it."""
+        from tool.notes import readable
         from tool.outputs import write_output
 
-        title = Path(options.file).name if options.file else "standard input"
+        title = readable(os.fsencode(Path(options.file).name)) if options.file else "standard input"
         if self.told.is_cut:
             say(f"the picture has the first {MOST_ROWS} lines")
         if options.svg:
