@@ -13,8 +13,9 @@ from cases.kit import COMMANDS, Differs, case, case_of_program, expect
 
 # Lines that take more instructions are counted only after the least number of times and the most.
 FEW = 20_000
-# So much more than its first figure may a line take that has no reason to; and than its figure in the table.
-GROWTH, MARGIN = 1.15, 1.05
+# So much more than its first figure may a line take that has no reason to; and than its figure in the table. Those figures are of a
+# build without proofs that is near to the proved one.
+GROWTH, MARGIN = 1.15, 1.15
 # In bytes, how much more may be in use after 10,000 times than after 10.
 KEPT = 16_384
 # What two sensors and two displays ask for in all, and the most bytes in use.
@@ -168,7 +169,8 @@ def a_message_in_threads_asks_for_no_memory():
     _, counted = counting.run(counting.built("example_threads"), "memory")
     asked = counted[-1]
     note(f"2,002 messages in threads: {asked.requests:,} requests, {asked.most:,} bytes at most")
-    if asked.requests > MARGIN * IN_THREADS.requests or asked.most > MARGIN * IN_THREADS.most:
+    # What threads ask for at their start depends on the C library and on their order; a request a message would be 2,002.
+    if asked.requests > 2 * IN_THREADS.requests or asked.most > 2 * IN_THREADS.most:
         raise Differs(f"{asked.requests:,} requests and {asked.most:,} bytes at most, and not {IN_THREADS.requests} and {IN_THREADS.most:,}")
 
 
