@@ -16,6 +16,8 @@ FEW = 20_000
 # So much more than its first figure may a line take that has no reason to; and than its figure in the table. Those figures are of a
 # build without proofs that is near to the proved one.
 GROWTH, MARGIN = 1.15, 1.15
+# What is known to grow is mended once it grows by less than this.
+GONE = 1.05
 # In bytes, how much more may be in use after 10,000 times than after 10.
 KEPT = 16_384
 # What two sensors and two displays ask for in all, and the most bytes in use.
@@ -61,7 +63,8 @@ def judge(name, line, found):
     if line.mark == "walks":
         return ""
     if line.mark == "known":
-        return "" if grown else f"{name}: `{line.text}`: {line.why}: no longer so ({told}): take the mark out of cases/costs/rows.txt"
+        is_so = any(it > GONE * least for it in found.values())
+        return "" if is_so else f"{name}: `{line.text}`: {line.why}: no longer so ({told}): take the mark out of cases/costs/rows.txt"
     return f"{name}: `{line.text}` takes {told}: more than {GROWTH} of the first" if grown else ""
 
 
