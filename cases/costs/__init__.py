@@ -195,12 +195,12 @@ def a_line_that_grows_and_a_known_one_that_does_not_are_told():
     expect_told(judge("visits", plain, flat))
     expect_told(judge("visits", plain, grown), "visits: `put p1 3` takes 1,000 after 10, 1,001 after 1,000, 1,151 after 10,000")
     expect_told(judge("visits", known, grown))
-    expect_told(judge("visits", known, flat), "it is lame: no longer so", "take the mark out of cases/costs/rows.txt")
+    expect_told(judge("visits", known, {10: 1_000, 10_000: 1_049}), "it is lame: no longer so", "take the mark out of cases/costs/rows.txt")
     expect_told(judge("visits", walking, grown))
     figure = Line("put p1 3", True, "takes", "1,000")
-    expect_told(above(Script("a message"), [(figure, {10: 1_049, 20: 1_049})]))
-    expect_told(above(Script("a message"), [(figure, {10: 1_051, 20: 1_051})]), "`put p1 3` takes 1,051, and 1,000 by")
-    expect_told(above(Script("a message"), [(figure, {10: 951, 20: 951})]), "takes 951")
+    expect_told(above(Script("a message"), [(figure, {10: 1_149, 20: 1_149})]))
+    expect_told(above(Script("a message"), [(figure, {10: 1_151, 20: 1_151})]), "`put p1 3` takes 1,151, and 1,000 by")
+    expect_told(above(Script("a message"), [(figure, {10: 869, 20: 869})]), "takes 869")
 
 
 @case
