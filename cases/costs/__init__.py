@@ -174,7 +174,8 @@ def a_message_in_threads_asks_for_no_memory():
     note(f"2,002 messages in threads: {asked.requests:,} requests, {asked.most:,} bytes at most")
     # What threads ask for at their start depends on the C library and on their order; a request a message would be 2,002.
     if asked.requests > 2 * IN_THREADS.requests or asked.most > 2 * IN_THREADS.most:
-        raise Differs(f"{asked.requests:,} requests and {asked.most:,} bytes at most, and not {IN_THREADS.requests} and {IN_THREADS.most:,}")
+        wanted = f"{IN_THREADS.requests} and {IN_THREADS.most:,}"
+        raise Differs(f"{asked.requests:,} requests and {asked.most:,} bytes at most, and not {wanted}")
 
 
 # ---- what the cases must not pass over
