@@ -14,7 +14,7 @@ use Rattle.iox_domain.specs.DomainValues.declared.service_sizes.ServiceSizes.{Se
 use Rattle.iox_domain.specs.DomainSlots.Uses.{nobody, offered}
 use Rattle.iox_domain.specs.DomainSlots.declared.stage.Stage.TheVariants as stage
 use Rattle.iox_domain.specs.DomainPorts.Messages.{Message}
-use Rattle.iox_domain.specs.DomainPorts.Places.{leads_to}
+use Rattle.iox_domain.specs.DomainPorts.Places.{is_attached, leads_to}
 use Rattle.iox_domain.specs.DomainPorts.Ports.{connection_of, connection_to, is_live}
 use Rattle.iox_domain.specs.DomainPorts.Sending.{Finishes}
 use Rattle.iox_domain.specs.DomainPorts.PublisherUpdating.{is_tie_to, Updates}
@@ -24,6 +24,7 @@ use Rattle.iox_domain.specs.DomainPorts.declared.subscriber_entry.SubscriberEntr
 use Rattle.iox_domain.specs.DomainPorts.Publishers.{port_of}
 use Rattle.iox_domain.specs.DomainPorts.declared.attached.Taken.{Taken}
 use Rattle.iox_domain.specs.Calls.{PortCall, Releases, Happens}
+use Rattle.iox_domain.specs.Order.{Happen}
 use Rattle.iox_domain.specs.Ports.{no_ports, AtSubscriber}
 use Rattle.iox_domain.specs.PortsPublishing.{UpdatesOne, SendsOne}
 use Rattle.iox_domain.specs.Reading.{sample_in}
@@ -79,8 +80,14 @@ pub record IsListApart (next : ℕ) (places : List (Option (Member SubscriberEnt
       → first.value.subscriber ≡ second.value.subscriber → one ≡ other
   pub below : (place : ℕ) (member : Member SubscriberEntry) → get_or places place None ≡ Some member → member.value.subscriber < next
 
+-- somebody reads at the connection of an index, or a place is tied to it
+abbrev pub IsKnown : {T U : Type 0} → ℕ → PublisherPort T U → Type 0
+IsKnown index port = (is_attached (get_or port.readers index None) ≡ true)
+    ⊎ ((place : ℕ) × (get_or port.ties.items place None ≡ Some index))
+
 -- The ties of a publisher are apart, and each is to a connection that goes on; each connection with a reader goes on; no place but its own
--- is tied to the connection of a listed subscriber; each tie is to a subscriber that came; and there is room for each place of the list.
+-- is tied to the connection of a listed subscriber; each tie is to a subscriber that came; there is room for each place of the list; and
+-- a connection goes on only where somebody reads, or a place is tied to it.
 pub record IsTiedWell {T U : Type 0} (next : ℕ) (places : List (Option (Member SubscriberEntry))) (port : PublisherPort T U) : Type 0 where
   pub apart : AreTiesApart port
   pub live : (place index : ℕ) → get_or port.ties.items place None ≡ Some index → is_live index port ≡ true
@@ -89,6 +96,7 @@ pub record IsTiedWell {T U : Type 0} (next : ℕ) (places : List (Option (Member
       → is_tie_to member.value.subscriber (get_or port.ties.items other None) port ≡ false
   pub below : (place subscriber : ℕ) → is_tie_to subscriber (get_or port.ties.items place None) port ≡ true → subscriber < next
   pub room : length places ≤ port.ties.room
+  pub known : (index : ℕ) → is_live index port ≡ true → IsKnown index port
 
 -- so it is with a publisher that stands
 abbrev pub IsWellEntry : {T U : Type 0} → ℕ → List (Option (Member SubscriberEntry)) → ℕ × PublisherPort T U → Type 0
@@ -124,6 +132,14 @@ pub record AtMostOnce (T U : Type 0) (overrides : ℕ → ℕ → Type 0) (may :
       → Updates may listed ports.subscriber_list.changes port outcome updated → AreTiesApart updated
   pub once : (old new : PublisherPort T U) (answer : Result Sent SendError) (index : ℕ) → AreTiesApart old
       → Finishes decide old answer new → GotAtMostOnce index old new
+
+-- Of any calls from a new service on: a connection of a publisher that stands goes on only where somebody reads, or a place of the list of
+-- subscribers is tied to it.
+pub record ConnectionsAreKnown (T U : Type 0) (overrides : ℕ → ℕ → Type 0) (may : DegradationInfo → DegradationAction
+    → Type 0) (decide : BackpressureInfo → BackpressureDecision → Type 0) : Type 0 where
+  pub known : (service : ℕ) (sizes : ServiceSizes) (calls : List (PortCall T U × ServicePorts T U)) (new : ServicePorts T U)
+      (publisher index : ℕ) (port : PublisherPort T U) → Happen overrides may decide calls (no_ports service sizes) new
+      → port_of publisher new.publishers ≡ Some port → port.stands ≡ true → is_live index port ≡ true → IsKnown index port
 
 -- each subscriber that is listed has a connection at a publisher
 abbrev pub ConnectsAll : {T U : Type 0} → ServicePorts T U → PublisherPort T U → Type 0

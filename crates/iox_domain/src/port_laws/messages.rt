@@ -1,7 +1,7 @@
 //! Laws of the calls of the ports of a service, in other words than theirs. They are the contracts of functions that do nothing.
 ghost use Rattle.iox_domain.specs.DomainValues.declared.degradation.DegradationCause.TheVariants as cause;
 ghost use Rattle.iox_domain.specs.Attaching.{AttachesWithoutMemory, KeysStay};
-ghost use Rattle.iox_domain.specs.PortLawsLaws.{HeldStays, ReceivedIsHeld, AtMostOnce, NeedsNoMemory};
+ghost use Rattle.iox_domain.specs.PortLawsLaws.{HeldStays, ReceivedIsHeld, AtMostOnce, ConnectionsAreKnown, NeedsNoMemory};
 ghost use Rattle.iox_domain.specs.Gaps.{GapsTell};
 ghost use Rattle.iox_domain.specs.Order.{InOrder};
 ghost use Rattle.iox_domain.specs.Tries.{SendReachesOnce, SendWaits};
@@ -25,6 +25,17 @@ pub fn received_is_held<T, U, D: Degrades>(_handler: &D)
 /// message into each mailbox at most once.
 pub fn at_most_once<T, U, O: Overrides, B: Decides + Degrades>(_overriding: &O, _handlers: &B)
     ensures { AtMostOnce T U (O.overrides _overriding.now)
+        (B.degrades _handlers.now cause.FailedToEstablishConnection)
+        (B.decides _handlers.now) }
+{}
+
+/// A connection of a publisher that exists goes on only where a subscriber reads, or a place of the list is tied to it, whatever was
+/// called since the service was new. So none is left of a subscriber that came and left before the publisher followed the list.
+pub fn connections_are_known<T, U, O: Overrides, B: Decides + Degrades>(
+    _overriding: &O,
+    _handlers: &B,
+)
+    ensures { ConnectionsAreKnown T U (O.overrides _overriding.now)
         (B.degrades _handlers.now cause.FailedToEstablishConnection)
         (B.decides _handlers.now) }
 {}
