@@ -41,7 +41,7 @@ impl<T> RelocatableOption<T> {
         }
     }
 
-    /// The value, if there is one.
+    /// A reference to the value, if there is one.
     pub fn as_option_ref(&self) -> Option<&T>
         ensures { option_copied result ≡ option_of self.now }
     {

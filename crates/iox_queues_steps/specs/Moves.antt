@@ -40,7 +40,7 @@ PushMoves = (kind : RingKind) (limit : ℕ) (words : RingWords) (q : List ℕ) (
     → Moves q (aside words.read push) (after_acts (overflows kind) limit q (placed_by_push limit words.read push))
     (aside (after_access words (push_next push)).read (push_take push (answer_of words (push_next push))))
 
--- Every step of a pop or a look.
+-- Every step of a pop or a look in a consistent state removes the oldest number and appends the number aside, or changes nothing.
 abbrev pub PopMoves : Type 0
 PopMoves = (kind : RingKind) (limit : ℕ) (words : RingWords) (q : List ℕ) (push : Push) (pop : Pop) → words.write + 1 < 2 ^ 64
     → Shape kind limit words q push pop

@@ -9,9 +9,9 @@ use std::marker::Model;
 /// A shared word of a ring.
 #[derive(Clone, Copy)]
 pub enum Word {
-    /// How many numbers were put so far: the position of the next one.
+    /// How many numbers were put so far, which is the position of the next one.
     Write,
-    /// How many numbers left so far: the position of the oldest one that waits.
+    /// How many numbers were taken or overflowed so far, which is the position of the oldest waiting number.
     Read,
     /// The cell of the number at this position.
     Cell(u64),

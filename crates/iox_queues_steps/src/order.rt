@@ -46,7 +46,7 @@ pub struct PushCall {
     pub last: u64,
 }
 
-/// A finished pop or look: its first and its last moment.
+/// A finished pop or look, with the numbers of its first and its last step.
 #[derive(Clone, Copy)]
 pub struct PopCall {
     pub answer: PopAnswer,

@@ -9,12 +9,12 @@ use crate::rings::overflowing::{Pop as OverflowingPop, Push as OverflowingPush};
 use crate::rings::refusing::{Pop as RefusingPop, Push as RefusingPush};
 use crate::{Access, Act, End, PopAnswer, PushAnswer};
 
-/// What a push into a full ring does.
+/// What a ring does with a push when it is full.
 #[derive(Clone, Copy, Debug, PartialEq, Eq)]
 pub enum RingKind {
-    /// It hands its oldest number out.
+    /// The ring removes its oldest number and returns it.
     Overflowing,
-    /// It refuses the push.
+    /// The ring refuses the push.
     Refusing,
 }
 
@@ -46,7 +46,7 @@ impl Push {
         }
     }
 
-    /// The access that comes next.
+    /// The next access of the push.
     pub fn next(&self) -> Access
         ensures { result ≡ push_next self.now }
     {
