@@ -6,7 +6,7 @@ ghost use Rattle.iox_queues_steps.specs.Overflowing.{push_is_idle, push_is_over,
 
 use crate::{Access, Act, End, PushAnswer, Word};
 
-/// Where a push stands. Between `Begun` and `Pushed` each stage is one access.
+/// The stage of a push. Each stage from `Begun` to `Pushed` is one access after the one before.
 #[derive(Clone, Copy)]
 pub enum Push {
     Idle,
@@ -52,21 +52,21 @@ pub enum Push {
 }
 
 impl Push {
-    /// A push of the value into a ring where at most `limit` numbers wait.
+    /// A push of the value into a ring in which at most `limit` numbers wait.
     pub fn begin(limit: u64, value: u64) -> Push
         ensures { result ≡ Push.Begun limit value }
     {
         Push::Begun { limit, value }
     }
 
-    /// No call is under way.
+    /// Whether no push is in progress.
     pub fn is_idle(&self) -> bool
         ensures { result ≡ push_is_idle self.now }
     {
         matches!(*self, Push::Idle)
     }
 
-    /// The put that stands at the next step, where the read position is `position`.
+    /// The put that takes effect at the next step while the read position is `position`, if one does.
     pub fn placed(&self, limit: u64, position: u64) -> Option<Act>
         ensures { option_to_list result ≡ placed_by_push limit position self.now }
     {
@@ -85,7 +85,7 @@ impl Push {
         }
     }
 
-    /// The put that waits for the next move of the read position, which is `position`.
+    /// The put that takes effect at the next move of the read position, which is `position`, if one does.
     pub fn late(&self, position: u64) -> Option<Act>
         ensures { option_to_list result ≡ late_put position self.now }
     {
@@ -178,7 +178,7 @@ impl End for Push {
     }
 }
 
-// A put for which nothing left, unless it waits.
+// A put that removes no number, unless it is delayed.
 fn put_kept(value: u64, waits: bool) -> Option<Act>
     ensures { option_to_list result ≡ (if waits then [] else Act.Put value PushAnswer.Kept ∷ []) }
 {
@@ -191,7 +191,7 @@ fn put_kept(value: u64, waits: bool) -> Option<Act>
     })
 }
 
-// A put for which the oldest left, if its exchange is won.
+// A put that removes the oldest number, if its exchange succeeds.
 fn put_swapped(value: u64, oldest: u64, won: bool) -> Option<Act>
     ensures { option_to_list result ≡ (if won then Act.Put value (PushAnswer.LeftOut oldest) ∷ [] else []) }
 {
@@ -204,7 +204,7 @@ fn put_swapped(value: u64, oldest: u64, won: bool) -> Option<Act>
     })
 }
 
-// After the store of the write position: done, unless more than the limit may wait now.
+// The stage after the store of the write position: done, unless more than `limit` numbers may wait now.
 fn filled(limit: u64, value: u64, next: u64, read: u64) -> Push
     ensures { result ≡ push_filled limit value next read }
 {
@@ -222,7 +222,7 @@ fn filled(limit: u64, value: u64, next: u64, read: u64) -> Push
     }
 }
 
-// After the exchange of the read position: the oldest left by this push, or by a pop before it.
+// The stage after the exchange of the read position: the oldest number was removed by this push, or by a pop before it.
 fn swapped(value: u64, won: bool, oldest: u64) -> Push
     ensures { result ≡ push_swapped value won oldest }
 {

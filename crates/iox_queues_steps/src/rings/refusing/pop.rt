@@ -5,8 +5,8 @@ ghost use Rattle.iox_queues_steps.specs.Refusing.{pop_is_idle, pop_is_over, pop_
 
 use crate::{Access, Act, End, PopAnswer, Word};
 
-/// Where a pop stands, or a look that only asks whether something waits. Between `Begun` and
-/// `Popped`, or `LookBegun` and `Looked`, each stage is one access.
+/// The stage of a pop, or of a look, which only returns whether a number waits. Each stage from `Begun` to `Popped`, or from `LookBegun` to
+/// `Looked`, is one access after the one before.
 #[derive(Clone, Copy)]
 pub enum Pop {
     Idle,
@@ -35,14 +35,14 @@ impl Pop {
         Pop::LookBegun
     }
 
-    /// No call is under way.
+    /// Whether no pop or look is in progress.
     pub fn is_idle(&self) -> bool
         ensures { result ≡ pop_is_idle self.now }
     {
         matches!(*self, Pop::Idle)
     }
 
-    /// The take or look that stands at the next step, where the write position is `position`.
+    /// The take or look that takes effect at the next step while the write position is `position`, if one does.
     pub fn placed(&self, position: u64) -> Option<Act>
         ensures { option_to_list result ≡ placed_by_pop position self.now }
     {
@@ -98,7 +98,7 @@ impl End for Pop {
     }
 }
 
-// A take that found nothing, if it did.
+// A take that found no number, if the ring is empty.
 fn none_if(empty: bool) -> Option<Act>
     ensures { option_to_list result ≡ (if empty then Act.Take (PopAnswer.Got None) ∷ [] else []) }
 {
@@ -110,7 +110,7 @@ fn none_if(empty: bool) -> Option<Act>
     })
 }
 
-// After the load of the write position: done if nothing waits.
+// The stage after the load of the write position: done if no number waits.
 fn emptied(empty: bool, read: u64) -> Pop
     ensures { result ≡ pop_emptied empty read }
 {
