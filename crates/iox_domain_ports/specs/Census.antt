@@ -43,7 +43,7 @@ tallied (Some owner) census = count_under owner census.owners.entries
 abbrev pub shared : {P : Type 0} → (P → Share) → Option ℕ → List (ℕ × P) → ℕ
 shared share owner ports = sum_by (λ port. amount owner (share port)) (values_of ports)
 
--- If the counts are valid, they are those of these ports, except that the port borrowed last is counted by the share that was
+-- If the counts are valid, they are those of these ports, except that the port handed out last is counted by the share that was
 -- noted of it before.
 pub record IsCensusOf {P : Type 0} (share : P → Share) (census : Census) (ports : List (ℕ × P)) : Type 0 where
   pub counts : census.holds ≡ true → (owner : Option ℕ) →
@@ -51,7 +51,7 @@ pub record IsCensusOf {P : Type 0} (share : P → Share) (census : Census) (port
       ≡ shared share owner ports + amount owner census.noted
 
 -- If the counts are valid after the change, they were valid before, and `after` is counted in place of `before`. What is noted
--- of the port borrowed last is unchanged.
+-- of the port handed out last is unchanged.
 pub record Exchanges (before after : Share) (old new : Census) : Type 0 where
   pub held : new.holds ≡ true → old.holds ≡ true
   pub counts : new.holds ≡ true → (owner : Option ℕ) → tallied owner new + amount owner before ≡ tallied owner old + amount owner after

@@ -28,7 +28,7 @@ SegmentRoom allocation unit values elements room =
 pub record CountsElements : Type 0 where
   -- A loan of elements with one value each is as long as it has values.
   pub single : (values : ℕ) → extent 1 values values ≡ values
-  -- a loan fits where there is room for so many elements exactly if it has no more
+  -- A loan fits into a slot with room for `length` elements exactly if it has at most `length` elements.
   pub fits : (unit elements length : ℕ) → (extent unit (elements * unit) elements ≤ span unit length) ↔ (elements ≤ length)
   -- A segment has room for just as many elements as the strategy says, and for fewer than 2^32 values.
   pub opens : (allocation : AllocationStrategy) (unit elements room : ℕ)

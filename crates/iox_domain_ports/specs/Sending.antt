@@ -57,7 +57,7 @@ with_message index (Some message) port
 abbrev pub put_at : {T U : Type 0} → ℕ → PublisherPort T U → PublisherPort T U
 put_at index port = if is_live index port then with_message index port.sender.uses.sending port else port
 
--- it is put where a place is tied to
+-- The publisher after the message was put into the connection of this tie, if there is one.
 abbrev pub met_by : {T U : Type 0} → Option ℕ → PublisherPort T U → PublisherPort T U
 met_by None port = port
 met_by (Some index) port = put_at index port
