@@ -167,8 +167,8 @@ impl<T: Copy, U: Copy> PublisherPort<T, U> {
         self.conclude(arrived)
     }
 
-    /// Tries the place at which the send waits once more, `elapsed` nanoseconds after the first try, and continues. Answers as
-    /// `send` does.
+    /// Tries the place at which the send waits once more, and continues; answers as `send` does. `elapsed` is the number of
+    /// nanoseconds since this mailbox was first found full, as the caller measured it.
     ///
     /// Specific to this port: `iceoryx2::port::publisher::Publisher::send` waits itself.
     pub fn retry<B: Decides>(&mut self, elapsed: u64, handlers: &B) -> Result<Sent, SendError>
