@@ -51,12 +51,12 @@ pub record ReadsApart {T U : Type 0} (ports : ServicePorts T U) (number : ℕ) (
   -- The subscriber is listed at its place.
   pub listed : (member : Member SubscriberEntry) × (get_or ports.subscriber_list.places port.place None ≡ Some member)
       × (member.value.subscriber ≡ number)
-  -- it reads from each connection that it has
+  -- The subscriber reads from each connection that it has.
   pub reads : (key : ℕ) (attached : Attached) → attached_at key port ≡ Some attached → IsAttached number attached ports.publishers
   -- No two of its keys are for the same publisher.
   pub apart : (key other : ℕ) (one two : Attached) → attached_at key port ≡ Some one → attached_at other port ≡ Some two
       → one.publisher ≡ two.publisher → key ≡ other
-  -- the key of a connection to a publisher that is listed is that of the place where it is listed
+  -- The key of a connection to a listed publisher is tied to the place at which the publisher is listed.
   pub placed : (key place : ℕ) (attached : Attached) (member : Member PublisherEntry) → attached_at key port ≡ Some attached
       → get_or ports.publisher_list.places place None ≡ Some member
       → attached.publisher ≡ member.value.publisher → get_or port.places.items place None ≡ Some key
