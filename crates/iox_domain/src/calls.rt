@@ -23,7 +23,7 @@ use std::alloc::Global;
 
 /// The ports of the domain with this id, if the home contains it.
 ///
-/// Specific to this port.
+/// Not in `iceoryx2`.
 pub fn ports<'a, T: Copy, U: Copy, H: Home<T, U>>(
     home: &'a H,
     id: DomainId,
@@ -41,7 +41,7 @@ where
 
 /// A mutable reference to the ports of the domain with this id, if the home contains it.
 ///
-/// Specific to this port.
+/// Not in `iceoryx2`.
 pub fn ports_mut<'a, T: Copy, U: Copy, H: Home<T, U>>(
     home: &'a mut H,
     id: DomainId,
@@ -141,7 +141,7 @@ pub fn put<T: Copy, U: Copy, H: Home<T, U>>(
 /// `ServicePorts::retry` says what that does. The call answers None, and nothing happens, also if the home doesn't contain the
 /// domain.
 ///
-/// Specific to this port: `iceoryx2::port::publisher::Publisher::send` waits itself.
+/// Not in `iceoryx2`: `iceoryx2::port::publisher::Publisher::send` waits itself.
 pub fn retry<T: Copy, U: Copy, H: Home<T, U>>(
     home: &mut H,
     id: DomainId,

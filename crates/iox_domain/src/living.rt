@@ -8,7 +8,7 @@ impl<T: Copy, U: Copy, B, D> Domain<T, U, B, D> {
     /// How much of the owner is alive: its ports, its loans, its waiting sends, and its samples, as `ServicePorts::living`
     /// counts them. At most 2^64 - 1 is answered.
     ///
-    /// Specific to this port: `iceoryx2` counts the references of a service.
+    /// Not in `iceoryx2`, which counts the references of a service.
     pub fn living(&self, owner: u64) -> u64
         ensures { result ≡ min (living (Some owner) self.now.state.ports) (2 ^ 64 - 1) }
     {
@@ -17,7 +17,7 @@ impl<T: Copy, U: Copy, B, D> Domain<T, U, B, D> {
 
     /// How much of all owners is alive, as `living` counts it of one.
     ///
-    /// Specific to this port: `iceoryx2` counts the references of a service.
+    /// Not in `iceoryx2`, which counts the references of a service.
     pub fn living_in_all(&self) -> u64
         ensures { result ≡ min (living None self.now.state.ports) (2 ^ 64 - 1) }
     {

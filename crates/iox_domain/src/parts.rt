@@ -14,7 +14,7 @@ use iox_domain_values::{DegradationHandler, Handlers, ServiceSizes};
 /// The parts of a domain: its configuration, the places of its ports, the publishers with their slots, connections and
 /// histories, the subscribers, and the handlers. The parts are the domain's own fields, so neither conversion allocates.
 ///
-/// Specific to this port.
+/// Not in `iceoryx2`.
 #[derive(Drop)]
 pub struct DomainParts<T, U, B = Handlers, D = DegradationHandler> {
     /// The id of the domain.

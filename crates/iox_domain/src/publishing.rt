@@ -144,7 +144,7 @@ impl<T: Copy, U: Copy, B: Decides + Degrades, D: Degrades> DomainState<T, U, B, 
     /// Tries the place at which the publisher's send waits once more, `elapsed` nanoseconds after its mailbox was first found
     /// full: `ServicePorts::retry` says what that does.
     ///
-    /// Specific to this port: `iceoryx2::port::publisher::Publisher::send` waits itself.
+    /// Not in `iceoryx2`: `iceoryx2::port::publisher::Publisher::send` waits itself.
     pub fn retry(&mut self, number: u64, elapsed: u64) -> Option<Result<Sent, SendError>>
         ensures retries { AtPublisher number
             (RetriesOne (kept_decides (λ kept. B.decides kept) (kept_under number self.old.publisher_handlers)) elapsed)

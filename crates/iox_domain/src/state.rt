@@ -6,7 +6,7 @@ use iox_domain_values::{DegradationHandler, Handlers};
 
 /// All of a domain that the calls of its ports change: the ports, and their handlers. A home lends it by the domain's id.
 ///
-/// Specific to this port.
+/// Not in `iceoryx2`.
 #[derive(Drop)]
 pub struct DomainState<T, U, B = Handlers, D = DegradationHandler> {
     /// The ports.

@@ -170,7 +170,7 @@ impl<T: Copy, U: Copy> PublisherPort<T, U> {
     /// Tries the place at which the send waits once more, and continues; answers as `send` does. `elapsed` is the number of
     /// nanoseconds since this mailbox was first found full, as the caller measured it.
     ///
-    /// Specific to this port: `iceoryx2::port::publisher::Publisher::send` waits itself.
+    /// Not in `iceoryx2`: `iceoryx2::port::publisher::Publisher::send` waits itself.
     pub fn retry<B: Decides>(&mut self, elapsed: u64, handlers: &B) -> Result<Sent, SendError>
         ensures { Finishes (B.decides handlers.now) (with_progress (tried_again elapsed self.old.progress) self.old) result self.new }
     {

@@ -7,7 +7,7 @@ use thiserror::Error;
 
 /// Why a connection couldn't be made.
 ///
-/// Ported from `iceoryx2_cal::zero_copy_connection::ZeroCopyCreationError`; the first two variants are specific to this port.
+/// Ported from `iceoryx2_cal::zero_copy_connection::ZeroCopyCreationError`; the first two variants aren't in `iceoryx2`.
 #[derive(Clone, Copy, Debug, PartialEq, Eq, Hash, Error)]
 #[error("{}", self.text())]
 pub enum ZeroCopyCreationError {

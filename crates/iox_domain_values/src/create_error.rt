@@ -40,7 +40,7 @@ impl PublisherCreateError {
 
 /// Why a subscriber couldn't be created.
 ///
-/// Ported from `iceoryx2::port::subscriber::SubscriberCreateError`; the last variant is specific to this port.
+/// Ported from `iceoryx2::port::subscriber::SubscriberCreateError`; the last variant isn't in `iceoryx2`.
 #[derive(Clone, Copy, Debug, PartialEq, Eq, Hash, Error)]
 #[error("{}", self.text())]
 pub enum SubscriberCreateError {
@@ -75,7 +75,7 @@ impl SubscriberCreateError {
     }
 }
 
-/// Why a domain couldn't be created. Specific to this port.
+/// Why a domain couldn't be created. Not in `iceoryx2`.
 #[derive(Clone, Copy, Debug, PartialEq, Eq, Hash, Error)]
 #[error("{}", self.text())]
 pub enum DomainError {

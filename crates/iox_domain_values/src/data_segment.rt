@@ -40,7 +40,7 @@ impl AllocationStrategy {
     /// How many values fit into a slot of the segment that a slice of `values` values opens, if it is too long for the slots so
     /// far. None if no segment is opened: with `Static`, and for a length above 2^32 - 1.
     ///
-    /// Ported from `iceoryx2_cal::shm_allocator::ShmAllocator::resize_hint`; the lengths are specific to this port.
+    /// Ported from `iceoryx2_cal::shm_allocator::ShmAllocator::resize_hint`; the lengths are chosen differently here.
     pub fn segment_length(&self, values: usize) -> Option<usize>
         ensures { SegmentLength self.now values result }
     {

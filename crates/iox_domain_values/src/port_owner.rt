@@ -3,7 +3,8 @@
 /// The owner of a port.
 #[derive(Clone, Copy, Debug, PartialEq, Eq)]
 pub struct PortOwner {
-    /// The number of the open service that created the port. The ports, loans and samples of one owner are counted together.
+    /// The number of the owner, which in a hub is the factory that created the port. The ports, loans and samples of one owner are
+    /// counted together.
     pub number: u64,
     /// The node in which the port was created.
     pub node_id: u64,

@@ -10,7 +10,7 @@ impl<T: Copy, U: Copy> ServicePorts<T, U> {
     /// sent, also if the publisher is closed; each waiting send of these; and each sample that its subscribers received until
     /// it is released, also if the subscriber is closed. At most 2^64 - 1 is answered.
     ///
-    /// Specific to this port: `iceoryx2` counts the references of a service.
+    /// Not in `iceoryx2`, which counts the references of a service.
     pub fn living(&self, owner: u64) -> u64
         ensures { result ≡ min (living (Some owner) self.now) (2 ^ 64 - 1) }
     {
@@ -19,7 +19,7 @@ impl<T: Copy, U: Copy> ServicePorts<T, U> {
 
     /// How much of all owners is alive, as `living` counts it of one.
     ///
-    /// Specific to this port: `iceoryx2` counts the references of a service.
+    /// Not in `iceoryx2`, which counts the references of a service.
     pub fn living_in_all(&self) -> u64
         ensures { result ≡ min (living None self.now) (2 ^ 64 - 1) }
     {

@@ -56,7 +56,7 @@ impl<T: Copy, U: Copy> ServicePorts<T, U> {
     /// full, and continues; answers as `send` does. The call answers None, and nothing happens, if no publisher has this
     /// number, or no send of it waits.
     ///
-    /// Specific to this port: `iceoryx2::port::publisher::Publisher::send` waits itself.
+    /// Not in `iceoryx2`: `iceoryx2::port::publisher::Publisher::send` waits itself.
     pub fn retry<B: Decides>(
         &mut self,
         number: u64,
@@ -75,7 +75,7 @@ impl<T: Copy, U: Copy> ServicePorts<T, U> {
     /// Gives up the publisher's waiting send, and answers how many connections took its message. The call answers None, and
     /// nothing happens, if no publisher has this number, or no send of it waits.
     ///
-    /// Specific to this port.
+    /// Not in `iceoryx2`.
     pub fn give_up(&mut self, number: u64) -> Option<usize>
         ensures { AtPublisher number GivesUpOne (port_of number self.old.publishers) self.old result self.new }
     {
