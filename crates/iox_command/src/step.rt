@@ -1,7 +1,8 @@
 //! What a foreign process does between the storage operations of a command.
 use crate::service::ServiceOptions;
 
-/// One step of a foreign process, with the number of its node. It acts on the pattern and the name of its command.
+/// One step of a foreign process, with the number of its node. It acts on the pattern and the name of its command. A step that
+/// doesn't fit changes nothing.
 ///
 /// Not in `iceoryx2`.
 #[derive(Clone, Copy)]
@@ -10,12 +11,13 @@ pub enum ForeignStep {
     Lock(u64),
     /// If the node has the lock, it releases the lock.
     GiveUp(u64),
-    /// If the node has the lock, it publishes a service with these settings, adjusted, and registers in it.
+    /// If the node has the lock, and the adjusted settings are of the command's pattern and within the limits of a description,
+    /// the node publishes a service with them, and registers in it.
     Publish(u64, ServiceOptions),
-    /// Like `Publish`, but with the first version of descriptions, which has no setting for sequence numbers; so it doesn't fit
-    /// a service that numbers messages.
+    /// Like `Publish`, but with the first version of descriptions, which has no setting for sequence numbers; so settings with
+    /// sequence numbers don't fit.
     PublishV1(u64, ServiceOptions),
-    /// If a service exists, the node registers in it.
+    /// If a service exists that has room for one more node, and the node isn't registered in it, the node registers.
     Register(u64),
     /// If the node is registered, it leaves.
     Leave(u64),

@@ -32,7 +32,7 @@ pub struct PublisherSide {
 }
 
 impl<T: Copy, U: Copy, K> Publisher<T, U, K> {
-    /// The publisher with this id as a value. `initial_max_slice_len` is how many values its loans may have at first: 1 for
+    /// The publisher with this id as a value. `initial_max_slice_len` is how many elements its loans may have at first: 1 for
     /// single values.
     ///
     /// Not in `iceoryx2`: code that creates ports by number returns them in this way.

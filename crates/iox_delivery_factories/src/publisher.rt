@@ -241,7 +241,8 @@ impl<T: Copy, U: Copy + Default, B: Decides + Degrades, O: Overrides> PortFactor
     /// Creates the publisher, of slices, in the home of its domain, as `create` does. A slot of the first segment has room for
     /// as many elements as `initial_max_slice_len` says.
     ///
-    /// The call fails as `create` does, and with `UnableToCreateDataSegment` also if these elements have 2^32 values or more.
+    /// The call fails as `create` does, and with `UnableToCreateDataSegment` also if these are 2^32 elements or more, or have 2^32
+    /// values or more.
     ///
     /// Ported from `PortFactoryPublisher::create`.
     /// Example: `let publisher = builder.create_slice(alloc, home)?;`

@@ -76,7 +76,7 @@ pub record AreRoomy {T U : Type 0} (ports : ServicePorts T U) : Type 0 where
   pub keyed : AreKeyed ports
   -- No two places of the list of subscribers are tied to the same connection.
   pub tied : IsApart ports
-  -- no publisher is listed twice
+  -- No publisher is listed twice, and the number of each is below the next one.
   pub list : IsListOnce ports.next_port ports.publisher_list.places
   -- Each connection that leads to a subscriber is live.
   pub lead : All LeadsOnEntry ports.publishers

@@ -58,7 +58,7 @@ impl<H: Drop> Kept<H> {
     {
         match before {
             Some(value) => {
-                // A number that is there takes no memory.
+                // Replacing the value of a number that exists allocates nothing.
                 let _ = self.values.insert(number, value);
             }
             None => self.forget(number),

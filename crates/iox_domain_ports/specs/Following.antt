@@ -45,7 +45,7 @@ PartsFor None place key port ports is_free new new_ports = (is_free ≡ false) �
 PartsFor (Some out) place key port ports is_free new new_ports =
     (is_free ≡ true) × (new ≡ replaced_port place out key port) × (new_ports ≡ replaced_ports out port ports)
 
--- If nothing is borrowed of the connection with `key`, it ends. Otherwise it expires in place of the first expired connection
+-- If nothing is borrowed from the connection with `key`, it ends. Otherwise it expires in place of the first expired connection
 -- of which nothing is borrowed.
 abbrev pub PartsBorrowed : {T U : Type 0} → Bool → ℕ → SubscriberPort → List (ℕ × PublisherPort T U) → Bool → SubscriberPort
     → List (ℕ × PublisherPort T U) → Type 0

@@ -94,7 +94,7 @@ pub record StandsAlone {T U : Type 0} (message : Message T U) (uses : Uses (Loan
 abbrev pub place_in : {T U : Type 0} → ℕ → Uses (Loan T U) (Message T U) → ℕ
 place_in slot uses = position_or_len (λ loan. loan.slot == slot) uses.loans
 
--- Whether a message in this slot is borrowed of the connection.
+-- Whether a message in this slot is borrowed from the connection.
 abbrev pub has_borrowed : {T U : Type 0} → ℕ → Connection (Message T U) → Bool
 has_borrowed slot connection = is_some (position (λ message. message.slot == slot) connection.borrowed)
 

@@ -35,12 +35,12 @@ connection_at_port index (Some port) = connection_of index port
 abbrev pub connection_in : {T U : Type 0} → ℕ → ℕ → List (ℕ × PublisherPort T U) → Connection (Message T U)
 connection_in number index ports = connection_at_port index (port_of number ports)
 
--- The maximum number of messages borrowed of each connection of the publisher; 0 if there is no publisher.
+-- The maximum number of messages borrowed from each connection of the publisher; 0 if there is no publisher.
 abbrev pub most_borrowed_at_port : {T U : Type 0} → Option (PublisherPort T U) → ℕ
 most_borrowed_at_port None = 0
 most_borrowed_at_port (Some port) = port.sender.uses.most_borrowed
 
--- The maximum number of messages borrowed of each connection of the publisher with this number; 0 if there is none.
+-- The maximum number of messages borrowed from each connection of the publisher with this number; 0 if there is none.
 abbrev pub most_borrowed_in : {T U : Type 0} → ℕ → List (ℕ × PublisherPort T U) → ℕ
 most_borrowed_in number ports = most_borrowed_at_port (port_of number ports)
 

@@ -20,7 +20,7 @@ abbrev pub connection_by : {T U : Type 0} → Option Attached → List (ℕ × P
 connection_by None ports = nobody
 connection_by (Some attached) ports = connection_in attached.publisher attached.index ports
 
--- The maximum number of messages borrowed of the connection; 0 if there is no connection.
+-- The maximum number of messages borrowed from the connection; 0 if there is no connection.
 abbrev pub most_by : {T U : Type 0} → Option Attached → List (ℕ × PublisherPort T U) → ℕ
 most_by None ports = 0
 most_by (Some attached) ports = most_borrowed_in attached.publisher ports
@@ -37,7 +37,7 @@ seen_of attached ports = record {
 abbrev pub has_data : {T U : Type 0} → SubscriberPort → List (ℕ × PublisherPort T U) → ℕ → Bool
 has_data port ports key = nat_lt 0 (length (connection_by (attached_at key port) ports).waiting)
 
--- Whether fewer messages are borrowed of the connection with this key than the limit allows.
+-- Whether fewer messages are borrowed from the connection with this key than the limit allows.
 abbrev pub is_below : {T U : Type 0} → SubscriberPort → List (ℕ × PublisherPort T U) → ℕ → Bool
 is_below port ports key = nat_lt (length (connection_by (attached_at key port) ports).borrowed) (most_by (attached_at key port) ports)
 

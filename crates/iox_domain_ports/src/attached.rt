@@ -29,7 +29,7 @@ pub(crate) struct Seen {
     pub waiting: usize,
     /// How many messages of it are borrowed.
     pub borrowed: usize,
-    /// The maximum number of messages borrowed of it.
+    /// The maximum number of messages borrowed from it.
     pub most: usize,
 }
 

@@ -101,7 +101,7 @@ fn flag(flags: &mut Vec<bool>, key: usize, most: usize)
         return;
     }
     if flags.len() <= key {
-        // Its room is there.
+        // `new` allocated the memory.
         let _resized = flags.resize(key + 1, false);
     }
     if key < flags.len() {

@@ -213,7 +213,7 @@ impl<T: Copy, U: Copy> Publishers<T, U> {
         }
     }
 
-    /// Releases the first message in this slot that is borrowed of a connection of the publisher with this number; a publisher
+    /// Releases the first message in this slot that is borrowed from a connection of the publisher with this number; a publisher
     /// that is over then is removed. The call answers false, and nothing has changed, if no such message is borrowed.
     pub fn give_back(&mut self, number: u64, index: usize, slot: usize) -> bool
         ensures answer { result ≡ is_some (place_of slot (connection_in number index self.old)) }
@@ -226,7 +226,7 @@ impl<T: Copy, U: Copy> Publishers<T, U> {
         true
     }
 
-    // Releases the first message in this slot that is borrowed of a connection of the publisher with this number.
+    // Releases the first message in this slot that is borrowed from a connection of the publisher with this number.
     fn give_back_there(&mut self, number: u64, index: usize, slot: usize) -> bool
         ensures answer { result ≡ is_some (place_of slot (connection_in number index self.old)) }
         ensures new { self.new ≡ changed number (given_back_at index (place_of slot (connection_in number index self.old))) self.old }

@@ -17,7 +17,7 @@ pub fn waiting_at<T: Copy, U: Copy>(port: &PublisherPort<T, U>, index: usize) ->
     }
 }
 
-/// How many messages are borrowed of the connection at this index; 0 if there is none.
+/// How many messages are borrowed from the connection at this index; 0 if there is none.
 pub fn borrowed_at<T: Copy, U: Copy>(port: &PublisherPort<T, U>, index: usize) -> usize
     ensures { result ≡ length (connection_of index port.now).borrowed }
 {
@@ -60,7 +60,7 @@ fn is_there_with_data<T: Copy, U: Copy>(port: &PublisherPort<T, U>, index: usize
     }
 }
 
-/// Releases the first message in this slot that is borrowed of the connection at this index; answers false, and changes
+/// Releases the first message in this slot that is borrowed from the connection at this index; answers false, and changes
 /// nothing, if there is none.
 pub fn give_back_at<T: Copy, U: Copy>(
     port: &mut PublisherPort<T, U>,
@@ -77,7 +77,7 @@ pub fn give_back_at<T: Copy, U: Copy>(
     true
 }
 
-// Whether a message in this slot is borrowed of the connection at this index.
+// Whether a message in this slot is borrowed from the connection at this index.
 fn has_at<T: Copy, U: Copy>(port: &PublisherPort<T, U>, index: usize, slot: usize) -> bool
     ensures answer { result ≡ is_some (place_of slot (connection_of index port.now)) }
     ensures inside { result ≡ true → slot < port.now.sender.uses.first + port.now.sender.uses.size }
@@ -88,7 +88,7 @@ fn has_at<T: Copy, U: Copy>(port: &PublisherPort<T, U>, index: usize, slot: usiz
     }
 }
 
-/// The values of the first message in this slot that is borrowed of the connection at this index; None if there is none.
+/// The values of the first message in this slot that is borrowed from the connection at this index; None if there is none.
 pub fn payload_at<T: Copy, U: Copy>(
     port: &PublisherPort<T, U>,
     index: usize,
@@ -102,7 +102,7 @@ pub fn payload_at<T: Copy, U: Copy>(
     Some(port.sender.payload(slot))
 }
 
-/// The user header of the first message in this slot that is borrowed of the connection at this index; None if there is none.
+/// The user header of the first message in this slot that is borrowed from the connection at this index; None if there is none.
 pub fn user_header_at<T: Copy, U: Copy>(
     port: &PublisherPort<T, U>,
     index: usize,
@@ -116,7 +116,7 @@ pub fn user_header_at<T: Copy, U: Copy>(
     Some(port.sender.user_header(slot))
 }
 
-/// How many elements the first message in this slot has that is borrowed of the connection at this index; None if there is
+/// How many elements the first message in this slot has that is borrowed from the connection at this index; None if there is
 /// none.
 pub fn elements_at<T: Copy, U: Copy>(
     port: &PublisherPort<T, U>,
@@ -131,7 +131,7 @@ pub fn elements_at<T: Copy, U: Copy>(
     Some(port.sender.elements(slot))
 }
 
-/// The sequence number of the first message in this slot that is borrowed of the connection at this index, which is
+/// The sequence number of the first message in this slot that is borrowed from the connection at this index, which is
 /// `Some(None)` if messages aren't numbered; None if no message in this slot is borrowed.
 pub fn sequence_at<T: Copy, U: Copy>(
     port: &PublisherPort<T, U>,

@@ -72,7 +72,7 @@ impl Ties {
             return false;
         }
         if self.items.len() < count {
-            // Its room is there.
+            // `new` allocated the memory.
             let _resized = self.items.resize(count, None);
         }
         true

@@ -47,7 +47,7 @@ impl SlotUses {
         ensures step { LoanUse self.old result self.new }
         ensures enough { self.old.sending ≡ None → worst_case self.old ≤ self.old.size → IsSome result }
     {
-        // So few that the worst case suffices.
+        // By the contract of `len` the connections use no more slots than the worst case says.
         let _indices = self.links.len();
         self.links.take_back(&mut self.slots);
         self.slots.loan()
@@ -78,7 +78,7 @@ impl SlotUses {
     {
         self.slots.begin(slot);
         self.sending = Some(slot);
-        // So few that all uses can be counted.
+        // By the contract of `len` there are so few connections that all uses of a slot can be counted.
         let _indices = self.links.len();
         self.slots.remember(slot);
     }
@@ -102,7 +102,7 @@ impl SlotUses {
         requires within { slot < self.old.first + self.old.size }
         ensures { self.new ≡ record self.old { sending = Some slot } }
     {
-        // So few that all uses can be counted.
+        // By the contract of `len` there are so few connections that all uses of a slot can be counted.
         let _indices = self.links.len();
         self.slots.claim(slot);
         self.sending = Some(slot);
@@ -118,7 +118,7 @@ impl SlotUses {
         let Some(slot) = self.sending else {
             return;
         };
-        // So few that all uses can be counted.
+        // By the contract of `len` there are so few connections that all uses of a slot can be counted.
         let _indices = self.links.len();
         self.slots.remember(slot);
     }

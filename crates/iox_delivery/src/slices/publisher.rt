@@ -22,7 +22,7 @@ use std::alloc::Global;
 pub type Publisher<T, U> = publisher::Publisher<T, U, Slice>;
 
 impl<T: Copy, U: Copy> Publisher<T, U> {
-    /// The maximum number of values of a loan in the first segment.
+    /// The maximum number of elements of a loan in the first segment.
     ///
     /// Ported from `iceoryx2::port::publisher::Publisher::initial_max_slice_len`.
     /// Example: `let values = publisher.initial_max_slice_len();`

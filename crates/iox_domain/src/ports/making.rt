@@ -145,7 +145,7 @@ impl<T: Copy, U: Copy> ServicePorts<T, U> {
         )?;
         let listed = self.subscriber_list.listed();
         let changes = self.subscriber_list.changes();
-        // It comes also where it isn't connected.
+        // The publisher is created even if a connection fails.
         let _ = port.update(alloc, listed, changes, handler);
         self.publishers.insert(number, port)?;
         let _ = self

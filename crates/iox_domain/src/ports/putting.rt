@@ -34,7 +34,7 @@ impl<T: Copy, U: Copy> ServicePorts<T, U> {
         ensures { AtPublisher number (PutsOne (B.degrades handlers.now cause.FailedToEstablishConnection) (B.decides handlers.now)
             self.old.subscriber_list values.now) (port_of number self.old.publishers) self.old result self.new }
     {
-        // One that exists stays, whatever it sends: no look at whether it is over.
+        // An open publisher isn't over, whatever it sends, so that isn't checked.
         let port = self.publishers.get_mut(number)?;
         put_one(port, alloc, values, blank, &self.subscriber_list, handlers)
     }

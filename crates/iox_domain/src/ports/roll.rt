@@ -35,7 +35,7 @@ impl<V: Copy> Roll<V> {
     pub fn new(alloc: Global, places: usize) -> Result<Roll<V>, AllocError>
         ensures { IfOk result (λ roll. roll ≡ new_roll places) }
     {
-        // A container knows whose its members are, so that those of a process that died can be taken away: here nobody dies.
+        // A container knows the owner of each member, so that the members of a dead process can be removed; here no process dies.
         let Ok(owner) = OwnerId::new(1) else {
             return Err(AllocError);
         };
@@ -82,7 +82,7 @@ impl<V: Copy> Roll<V> {
         let Some(handle) = self.container.handle(place) else {
             return;
         };
-        // It is the handle of a member that is in.
+        // The handle is that of a member, so the removal succeeds.
         let _ = self.container.remove(handle, ReleaseMode::Default);
     }
 

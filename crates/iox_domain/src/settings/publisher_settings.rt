@@ -13,7 +13,7 @@ pub struct PublisherSettings {
     pub max_loaned_samples: usize,
     /// What a send does at a full mailbox if the service doesn't overflow and no handler decides.
     pub strategy: BackpressureStrategy,
-    /// The maximum number of values of a loan in the first segment.
+    /// The maximum number of elements of a loan in the first segment.
     pub initial_max_slice_len: usize,
     /// What a loan of a longer slice does.
     pub allocation: AllocationStrategy,

@@ -27,7 +27,7 @@ pub enum Marking {
 /// Contracts see a mark for each value.
 #[derive(Drop)]
 pub struct Marks {
-    // As long as the slots' values; it tells the marks only where each value has its own.
+    // Rows as long as the slots' values; a row has the marks only if each value of its slot has its own.
     rows: Payloads<bool>,
     markings: Vec<Marking>,
 }

@@ -437,7 +437,7 @@ impl<T: Copy, U: Copy> Sender<T, U> {
         self.uses.take(index)
     }
 
-    /// Releases the oldest message in this slot that is borrowed of the connection.
+    /// Releases the oldest message in this slot that is borrowed from the connection.
     pub fn give_back(&mut self, index: usize, slot: usize)
         requires { has_borrowed slot (connection_at index self.old.uses) ≡ true }
         ensures { self.new ≡ with_uses (with_connection index
@@ -527,7 +527,7 @@ impl<T: Copy, U: Copy> Sender<T, U> {
         self.uses.forget_history();
     }
 
-    /// Whether a message in this slot is borrowed of the connection.
+    /// Whether a message in this slot is borrowed from the connection.
     pub fn has_borrowed(&self, index: usize, slot: usize) -> bool
         requires { is_there (connection_at index self.now.uses) ≡ true }
         ensures answer { result ≡ has_borrowed slot (connection_at index self.now.uses) }
@@ -565,7 +565,7 @@ impl<T: Copy, U: Copy> Sender<T, U> {
         self.uses.links().most_waiting()
     }
 
-    /// The maximum number of messages borrowed of one connection.
+    /// The maximum number of messages borrowed from one connection.
     pub fn most_borrowed(&self) -> usize
         ensures { result ≡ self.now.uses.most_borrowed }
     {

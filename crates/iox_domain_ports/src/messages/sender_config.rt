@@ -17,6 +17,6 @@ pub struct SenderConfig {
     pub history: usize,
     /// The highest limit of waiting messages that a connection may have.
     pub most_waiting: usize,
-    /// The maximum number of messages borrowed of one connection.
+    /// The maximum number of messages borrowed from one connection.
     pub most_borrowed: usize,
 }
