@@ -16,7 +16,7 @@ pub trait AnswersLines: Drop {
 
     /// Answers a line, of which at most the first 1,025 bytes are given, and appends the answer without a newline.
     ///
-    /// Fails only if an allocation fails. Then what was there before stays, and what was appended is removed again.
+    /// Fails only if an allocation fails. Then what was there before stays; a part of the answer may follow it, which the caller removes.
     fn answer_line(
         &mut self,
         alloc: Global,
