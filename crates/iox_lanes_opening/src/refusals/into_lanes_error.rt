@@ -5,7 +5,7 @@ ghost use Rattle.iox_lanes_opening.specs.Texts.{into_lanes_text};
 use std::fmt;
 use thiserror::Error;
 
-/// Why a domain can't become lanes. iceoryx2 has no such error.
+/// Why a domain can't become lanes. This port's own.
 #[derive(Clone, Copy, Debug, PartialEq, Eq, Hash, Error)]
 pub enum IntoLanesError {
     /// A send of some publisher waits at a full mailbox.
