@@ -11,7 +11,8 @@
 //!
 //! The crate re-exports what a program on lanes needs: [`Lanes`] over their [`LaneMachine`], [`Message`], [`Party`], [`Call`], [`Move`],
 //! the answers of a step ([`Stepped`]) and of a send ([`Delivery`]), the order of a connection ([`Order`], [`PlacedMessage`], [`Placed`],
-//! [`Act`]), [`Positions`],
+//! [`Act`]), [`Positions`], [`Words`], [`FewWords`], [`values_in`], [`WithSequence`], and for threads [`open_threads`], [`LanePublisher`],
+//! [`LaneSubscriber`].
 //!
 //! First calls:
 //!
