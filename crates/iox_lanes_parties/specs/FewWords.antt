@@ -1,4 +1,4 @@
--- Values of so few words that one more can stand in front of them.
+-- Values of so few words that one more fits in front of them.
 use Rattle.std.specs.Prelude.{ℕ, ◌≡◌, ◌+◌, ◌^◌, ◌<◌, List, ◌∷◌, length}
 use Rattle.std.proofs.Common.{arith}
 
