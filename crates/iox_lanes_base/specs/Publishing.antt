@@ -200,6 +200,7 @@ overflowing_push_change place (overflowing.SawOldest value read next oldest) ans
     if answer == read then change.LeftOut place oldest else change.Nothing
 overflowing_push_change place (overflowing.Pushed value answered) answer = change.Nothing
 
+-- What the next access of a push on a ring of either kind changes, with this answer.
 abbrev pub push_change : ℕ → Push → ℕ → PublisherChange
 push_change place (ring.Overflowing push) answer = overflowing_push_change place push answer
 push_change place (ring.Refusing push) answer = refusing_push_change place push

@@ -8,7 +8,9 @@ use iox_lanes_base::calls::{Delivery, Receipt};
 /// A publisher or a subscriber, by its number among those of its kind.
 #[derive(Clone, Copy)]
 pub enum Party {
+    /// The publisher with this number.
     Publisher(usize),
+    /// The subscriber with this number.
     Subscriber(usize),
 }
 
@@ -64,12 +66,19 @@ pub struct Entry {
 /// A call, without the words of a write.
 #[derive(Clone, Copy)]
 pub enum CallName {
+    /// A loan.
     LoanUninit,
+    /// A write into this loan.
     Write { loan: u64 },
+    /// A send of this loan.
     Send { loan: u64 },
+    /// The dropping of this loan.
     DropLoan { loan: u64 },
+    /// A receive.
     Receive,
+    /// A read of this sample.
     Read { sample: u64 },
+    /// A release of this sample.
     Release { sample: u64 },
 }
 

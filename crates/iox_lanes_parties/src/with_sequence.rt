@@ -22,7 +22,9 @@ pub trait FewWords: Words {
 /// A user header, and the sequence number of its message. It doesn't matter which number is written: the send of the loan sets it.
 #[derive(Clone, Copy)]
 pub struct WithSequence<U> {
+    /// The sequence number of the message.
     pub sequence: u64,
+    /// The user header.
     pub user_header: U,
 }
 

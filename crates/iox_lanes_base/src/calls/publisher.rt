@@ -84,6 +84,7 @@ pub enum PublisherCall {
 /// What a step changes of what a publisher keeps for itself.
 #[derive(Clone, Copy)]
 pub enum PublisherChange {
+    /// Nothing changes.
     Nothing,
     /// A free slot is loaned, if there is one and fewer loans are out than may be.
     Lend,

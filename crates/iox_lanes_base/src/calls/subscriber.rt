@@ -73,6 +73,7 @@ pub enum SubscriberCall {
 /// What a step changes of what a subscriber keeps for itself.
 #[derive(Clone, Copy)]
 pub enum SubscriberChange {
+    /// Nothing changes.
     Nothing,
     /// The slot is borrowed from the connection at this place.
     Borrow { place: u64, slot: u64 },
