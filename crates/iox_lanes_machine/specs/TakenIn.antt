@@ -310,9 +310,9 @@ pub record HeadsSay (f : Found) (who : ℕ) (was now : List (List ℕ)) : Type 0
   pub as_many : length now ≡ number_with (new_slots f who) (length was)
 
 -- A publisher after a finding. Its history, what its record says of its connections, and the uses of its slots grow by what the finding
--- adds. It has the slots and the loan limit that it is given, and no other slot becomes a loan. It knows the buffers of its connections;
--- its headers name what they are given; its sends fail as was found; and its sequence numbers go on after the last one that it is given.
--- Nothing else of it changes.
+-- adds. It has the slots and the loan limit that it is given; which slots are loans stays the same. It knows the buffers of its
+-- connections; its headers name what they are given; its sends fail as was found; and its sequence numbers go on after the last one that
+-- it is given. Nothing else of it changes.
 pub record PublisherGrows (m : World) (f : Found) (who : ℕ) (was now : PublisherLaneState) : Type 0 where
   pub routes : RoutesKnow m f (λ place. place) was.port.routes now.port.routes
   pub history : now.port.book.history ≡ was.port.book.history ++ more_history f who
