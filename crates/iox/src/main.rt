@@ -17,7 +17,8 @@ const EXPIRED_CONNECTION_BUFFER: u32 = 128;
 /// 375 kB of one that was built without its proofs.
 const STACK: usize = (512 << 10) / 8;
 
-/// Writes to each word of so much stack, and answers one of them, which is an odd number. No compiler can tell which, and leave words out.
+/// Writes to each word of so much stack, and returns one of them, which is an odd number. No compiler can know which, so none can leave
+/// words out.
 #[inline(never)]
 fn reached() -> u64 {
     let mut room = [1u64; STACK];
