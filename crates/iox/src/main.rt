@@ -10,7 +10,7 @@
 use iox_script::{HubConfig, Input, Output, serve, status};
 use std::process::ExitCode;
 
-/// At least how many connections of closed publishers a subscriber keeps.
+/// How many connections of closed publishers a subscriber keeps, or as many as samples of one may be borrowed, if that is more.
 const EXPIRED_CONNECTION_BUFFER: u32 = 128;
 
 /// How much of the stack is taken, in words: more than the deepest call takes, which is some 140 kB of a proved program and some
