@@ -18,7 +18,9 @@ pub type Bus<T = u64> = Hub<T, u64, Nobody, Nobody>;
 /// The message that a node heard.
 #[derive(Drop)]
 pub struct Heard {
+    /// The time stamp of the message.
     pub stamp: u64,
+    /// The values of the message.
     pub values: Vec<u64>,
 }
 

@@ -16,7 +16,7 @@ use std::sync::Wait;
 use std::thread::Threads;
 use std::{io, thread};
 
-// The last number of a sensor, and the most that a display looks for it.
+// The last number of a sensor, and the maximum number of times that a display looks for it.
 const LAST: u64 = 1000;
 
 const LOOKS: u64 = 1 << 24;
@@ -41,7 +41,7 @@ fn sizes() -> LaneSizes
     }
 }
 
-// Sends the numbers up to the last one; how many were sent.
+// Sends the numbers up to the last one; returns how many were sent.
 fn measure(port: &mut LanePublisher, sensor: u64) -> u64 {
     let mut sent = 0u64;
     for number in 0..=LAST {
@@ -64,7 +64,7 @@ struct Shown {
     of_second: u64,
 }
 
-// What a display shows after a message; None where its two numbers differ, or are below the one before.
+// What a display shows after a message; None if its two numbers differ, or are below the one before.
 fn after(before: &Shown, reading: &Reading) -> Option<Shown>
     ensures { IfSome result (λ next. (before.now.of_first ≤ next.of_first) × (before.now.of_second ≤ next.of_second)) }
 {
@@ -93,7 +93,7 @@ fn after_read(before: &Shown, port: &LaneSubscriber) -> Option<Shown> {
     after(before, &reading)
 }
 
-// Shows what comes until the last number of both sensors did.
+// Shows the messages that arrive until the last number of both sensors has arrived.
 fn display(rt: &impl Wait, port: &mut LaneSubscriber) -> Shown {
     let mut now = Shown {
         of_first: 0,
@@ -122,14 +122,14 @@ fn is_last(display: &Shown) -> bool {
     display.of_first == LAST && display.of_second == LAST
 }
 
-// Both sensors at once: how many numbers each sent.
+// Runs both sensors at once: how many numbers each sent.
 fn sense<R: Threads + Sync>(rt: &R, ports: &mut [LanePublisher]) -> Option<(u64, u64)> {
     let (first, others) = ports.split_first_mut()?;
     let second = others.first_mut()?;
     Some(thread::join(rt, || measure(first, 0), || measure(second, 1)))
 }
 
-// Both displays at once: what each shows in the end.
+// Runs both displays at once: what each shows in the end.
 fn show<R: Threads + Wait + Sync>(rt: &R, ports: &mut [LaneSubscriber]) -> Option<(Shown, Shown)> {
     let (here, elsewhere) = ports.split_first_mut()?;
     let there = elsewhere.first_mut()?;
@@ -150,7 +150,7 @@ fn lines(
     )
 }
 
-// All four at once, and then the end of their ports.
+// Runs all four at once, and then ends their ports.
 fn run<R: Threads + Wait + Sync>(
     rt: &R,
     alloc: Global,

@@ -12,9 +12,13 @@ use std::alloc::{AllocError, Global};
 /// The way of a message: the line and the port that received it, and the line and the port that sent it, if these are known.
 #[derive(Clone, Copy)]
 pub struct Arrow<'a> {
+    /// The line that received the message.
     pub receipt: usize,
+    /// The subscriber that received it.
     pub subscriber: &'a [u8],
+    /// The line that sent the message, if that is known.
     pub origin: Option<usize>,
+    /// The publisher that sent it; empty if the origin isn't known.
     pub publisher: &'a [u8],
 }
 
@@ -176,13 +180,13 @@ fn is_untold(arrows: &[Arrow<'_>], subscriber: &[u8], line: usize) -> bool
 /// message before.
 pub fn trace<'a>(alloc: Global, conversation: &[Exchange<'a>]) -> Result<Vec<Arrow<'a>>, AllocError>
     ensures trace { IfOk result (λ arrows. Trace conversation.now (length conversation.now) arrows.items) }
-    // Each sample that was received has one arrow.
+    // Each received sample has one arrow.
     ensures one_each { IfOk result (λ arrows. length arrows.items ≡ count_by gives_sample conversation.now) }
     // An arrow leads from a message that was sent to a later line that received a sample, and the values fit.
     ensures joins { IfOk result (λ arrows. All (Joins conversation.now) arrows.items) }
-    // Of one publisher a subscriber gets messages in the order of sending, each at most once.
+    // A subscriber gets the messages of one publisher in the order of sending, each at most once.
     ensures order { IfOk result (λ arrows. AllPairs KeepsOrder arrows.items) }
-    // What an arrow shows as lost to its subscriber, no arrow leads there, before it or behind it.
+    // To a message that an arrow shows as lost to its subscriber no arrow of that subscriber leads, before it or after it.
     ensures lost { IfOk result (λ arrows. LostForGood conversation.now arrows.items) }
 {
     let mut arrows = Vec::new(alloc);

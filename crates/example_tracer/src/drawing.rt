@@ -39,7 +39,7 @@ fn push_escaped(out: &mut String, byte: u8) -> Result<(), AllocError>
 /// Writes the bytes of a text.
 fn push_text(out: &mut String, text: &[u8]) -> Result<(), AllocError>
     ensures written { OnOk result (string_bytes out.new ≡ string_bytes out.old ++ flat_map escaped text.now) }
-    // Whatever the text is, no reader of the drawing finds an element in it.
+    // Whatever the text is, a reader of the drawing finds no element in it.
     ensures inert { list_all opens_nothing (flat_map escaped text.now) ≡ true }
 {
     for byte in text {

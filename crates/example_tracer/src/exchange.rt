@@ -11,14 +11,18 @@ use std::alloc::{AllocError, Global};
 /// A line of a script, and the reply to it.
 #[derive(Clone, Copy)]
 pub struct Exchange<'a> {
+    /// The line.
     pub line: &'a [u8],
+    /// The reply.
     pub reply: &'a [u8],
 }
 
 /// What a line sent or received: by which port or loan, and the values, if line and reply have them.
 #[derive(Clone, Copy)]
 pub struct Message<'a> {
+    /// The port or loan that the line names.
     pub port: &'a [u8],
+    /// The values, if line and reply have them.
     pub values: Option<&'a [u8]>,
 }
 

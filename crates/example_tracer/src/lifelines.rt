@@ -128,7 +128,7 @@ impl<'a> Frame<'a> {
         conversation: &[Exchange<'a>],
     ) -> Result<Shapes<'a>, AllocError>
         ensures ways { IfOk result (λ shapes. ways_in shapes.items ≡ []) }
-        // Each line stands in its row, and so does each reply.
+        // Each line is in its row, and so is each reply.
         ensures lines { IfOk result (λ shapes. texts_of (codes "line") shapes.items
             ≡ map (line_in conversation.now) (range_with_len 0 (length conversation.now))) }
         ensures replies { IfOk result (λ shapes. texts_of (codes "reply") shapes.items

@@ -10,14 +10,15 @@
 use iox_script::{HubConfig, Input, Output, serve, status};
 use std::process::ExitCode;
 
-/// At least how many connections of closed publishers a subscriber keeps.
+/// How many connections of closed publishers a subscriber keeps, or as many as samples of one may be borrowed, if that is more.
 const EXPIRED_CONNECTION_BUFFER: u32 = 128;
 
 /// How much of the stack is taken, in words: more than the deepest call takes, which is some 140 kB of a proved program and some
 /// 375 kB of one that was built without its proofs.
 const STACK: usize = (512 << 10) / 8;
 
-/// Writes to each word of so much stack, and answers one of them, which is an odd number. No compiler can tell which, and leave words out.
+/// Writes to each word of so much stack, and returns one of them, which is an odd number. No compiler can know which, so none can leave
+/// words out.
 #[inline(never)]
 fn reached() -> u64 {
     let mut room = [1u64; STACK];

@@ -38,11 +38,11 @@ pub fn serve<M: AnswersLines, R: Read, W: Write>(
 ) -> Result<(), ServeError>
     requires calls { input.old.calls + 2 ^ 20 < 2 ^ 64 }
     requires used { M.used machine + 2 ^ 36 < 2 ^ 64 }
-    // The premise is that the reader tells the bytes that it has left.
+    // The premise is that the reader says which bytes it still has.
     ensures conversation { OnOk result (IfSome (R.remaining input.old.reader) (λ bytes.
         (text : List ℕ) × Appends (W.contents output.old.writer) (W.contents output.new.writer) text
         × IsConversation M.answers machine bytes text)) }
-    // As many bytes are read at most as so many read calls give.
+    // At most as many bytes are read as the maximum number of read calls returns.
     ensures few { OnOk result (IfSome (R.remaining input.old.reader) (λ bytes. length bytes ≤ 2 ^ 36)) }
     ensures broken { IfErr result (λ error. BreaksOff M.answers M.used error input.new.ended (record { machine = machine; line = [] })
         (R.remaining input.old.reader) (R.remaining input.new.reader) (W.contents output.old.writer) (W.contents output.new.writer)) }

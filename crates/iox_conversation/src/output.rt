@@ -82,7 +82,7 @@ impl<W: Write> Output<W> {
         None
     }
 
-    /// One write call: how many bytes it took, or `None` where a signal interrupted it. One that took none has failed.
+    /// Makes one write call: the answer is how many bytes it took, or `None` if a signal interrupted it. A call that took none has failed.
     fn write_once(&mut self, bytes: &[u8]) -> io::Result<Option<usize>>
         ensures bound { IfOk result (λ took. IfSome took (λ count. (0 < count) × (count ≤ length bytes.now))) }
         ensures taken { IfOk result (λ took. IfSome took

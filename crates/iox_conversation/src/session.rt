@@ -57,8 +57,8 @@ impl<M: AnswersLines> Session<M> {
         };
     }
 
-    /// Ends the line under way by these bytes, and appends its reply line, or nothing where memory is wanting for it. A line that
-    /// lies there whole isn't copied.
+    /// Ends the line under way with these bytes, and appends its reply line, or nothing if memory runs out for it. A line that is whole in
+    /// these bytes isn't copied.
     fn end_line(&mut self, alloc: Global, part: &[u8], out: &mut Vec<u8>) -> Result<(), AllocError>
         requires unbroken { list_all (λ b. not (b == 10)) part.now ≡ true }
         requires used { M.used self.old.machine + 1 < 2 ^ 64 }
@@ -116,7 +116,7 @@ impl<M: AnswersLines> Session<M> {
     }
 }
 
-/// Answers one line, and appends the answer and a newline, or nothing where memory is wanting for it.
+/// Answers one line, and appends the answer and a newline, or nothing if memory runs out for it.
 fn answer<M: AnswersLines>(
     alloc: Global,
     machine: &mut M,
@@ -137,7 +137,7 @@ fn answer<M: AnswersLines>(
     answered
 }
 
-/// The same, but that something of the answer may stand there where memory is wanting for it.
+/// Answers one line, and appends the answer and a newline. If memory runs out, a part of the answer may have been appended.
 fn append_answer<M: AnswersLines>(
     alloc: Global,
     machine: &mut M,

@@ -57,13 +57,14 @@ ReadsAreFollowed T fixed degrades decides fixed_reader reader_degrades = (calls 
     → AreFollowed fixed degrades decides fixed_reader reader_degrades calls → all_asked calls.asked + 1 < 2 ^ 56
     → AreFollowed fixed degrades decides fixed_reader reader_degrades (record calls { asked = calls.asked ++ command.Read sample ∷ [] })
 
--- The premises except that about handlers: no two services of the names that are asked for share a hash, the calls and the actions of other
--- nodes that they name are fewer than 2 ^ 56, and each received message fits in a vector.
+-- The premises without that about handlers: no two services of the names that are asked for share a hash, the calls and the actions of
+-- other nodes that they name are fewer than 2 ^ 56, and each received message fits in a vector.
 abbrev pub StandUndecided : {T : Type 0} → Calls T → Type 0
 StandUndecided calls = HaveOwnHashes (names_in calls.asked) × (all_asked calls.asked < 2 ^ 56)
     × AllByRecursion (λ values. length values < 2 ^ 63) calls.received
 
--- Handlers of these types are made of fixed actions, and decide by these; so the other premises are all.
+-- If the premises without that about handlers hold, all premises hold: handlers of these types decide by the fixed actions of which they
+-- are made.
 abbrev pub DecidesForCalls : (T : Type 0) → {B D : Type 0} → (BackpressureStrategy → Option BackpressureAction → DegradationAction → B)
     → (B → DegradationCause → DegradationInfo → DegradationAction → Type 0) → (B → BackpressureInfo → BackpressureDecision → Type 0)
     → (DegradationAction → D) → (D → DegradationCause → DegradationInfo → DegradationAction → Type 0) → Type 0

@@ -50,7 +50,7 @@ impl<P: Drop, D: Drop> GivenHandlers<P, D> {
         Ok(self.places.len() as u64)
     }
 
-    // What lies at a place, counted from 1.
+    // The handler at a place, counted from 1.
     fn at(&self, place: u64) -> Option<&GivenHandler<P, D>>
         ensures { option_copied result ≡ lies_at place self.now.places.items }
     {
@@ -60,7 +60,7 @@ impl<P: Drop, D: Drop> GivenHandlers<P, D> {
         self.places.get(place as usize - 1)?.as_ref()
     }
 
-    // Whether a handler that is asked at a full mailbox lies at the place that is named, or none is named.
+    // Whether the named place has a handler for full mailboxes, or no place is named.
     pub(crate) fn holds_backpressure(&self, place: Option<u64>) -> bool
         ensures { result ≡ is_some (named (λ lies. backpressure_of lies) place self.now.places.items) }
     {
@@ -70,7 +70,7 @@ impl<P: Drop, D: Drop> GivenHandlers<P, D> {
         }
     }
 
-    // Whether a handler that is asked where a connection failed lies at the place that is named, or none is named.
+    // Whether the named place has a handler for failed connections, or no place is named.
     pub(crate) fn holds_degradation(&self, place: Option<u64>) -> bool
         ensures { result ≡ is_some (named (λ lies. degradation_of lies) place self.now.places.items) }
     {
@@ -80,7 +80,7 @@ impl<P: Drop, D: Drop> GivenHandlers<P, D> {
         }
     }
 
-    // Takes what lies at a place, counted from 1.
+    // Takes the handler at a place, counted from 1.
     fn take(&mut self, place: u64) -> Option<GivenHandler<P, D>>
         requires { IsSome (lies_at place self.old.places.items) }
         ensures was { result ≡ lies_at place self.old.places.items }
@@ -89,7 +89,7 @@ impl<P: Drop, D: Drop> GivenHandlers<P, D> {
         self.places[place as usize - 1].take()
     }
 
-    // Takes the handler that is asked at a full mailbox from the place that is named, if one is.
+    // Takes the handler for full mailboxes from the named place, if a place is named.
     pub(crate) fn take_backpressure(&mut self, place: Option<u64>) -> Option<P>
         requires { IsSome (named (λ lies. backpressure_of lies) place self.old.places.items) }
         ensures was { named (λ lies. backpressure_of lies) place self.old.places.items ≡ Some result }
@@ -101,7 +101,7 @@ impl<P: Drop, D: Drop> GivenHandlers<P, D> {
         }
     }
 
-    // Takes the handler that is asked where a connection failed from the place that is named, if one is.
+    // Takes the handler for failed connections from the named place, if a place is named.
     pub(crate) fn take_degradation(&mut self, place: Option<u64>) -> Option<D>
         requires { IsSome (named (λ lies. degradation_of lies) place self.old.places.items) }
         ensures was { named (λ lies. degradation_of lies) place self.old.places.items ≡ Some result }

@@ -18,8 +18,8 @@ use iox_domain_values::{Decides, DegradationAction, Degrades, PortOwner};
 use iox_hub_commands::NumberedHub;
 use std::alloc::Global;
 
-// The domain of the factory that goes by a number, and whose its ports are; None where none of publish-subscribe does, or its domain isn't
-// here.
+// The domain of the factory with this number, and the owner of its ports; None if the number has no publish-subscribe factory, or its
+// domain isn't in the hub.
 fn place_here<T: Copy, U: Copy, B: Decides + Degrades, D: Degrades>(
     hub: &NumberedHub<T, U, B, D>,
     factory: u64,
@@ -36,7 +36,7 @@ fn place_here<T: Copy, U: Copy, B: Decides + Degrades, D: Degrades>(
     }
 }
 
-// Who decides for a publisher: these handlers, and the actions that the command names where there are none.
+// The handlers of a publisher: the given ones, and the actions that the command names in the place of missing ones.
 fn publisher_handlers<P, D, B: TakesHandlers<P, D>>(
     options: &PublisherOptions,
     at_full: Option<P>,

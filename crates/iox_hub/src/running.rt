@@ -61,9 +61,10 @@ pub fn run<
     ensures grows { GrowsOn hub.old.hub hub.new.hub }
     ensures agreed { HaveGrown hub.old.hub.services.domains → AreAsAgreed hub.new.hub.services.domains }
     ensures one_agreement { AreOfOneAgreement hub.old.factories.made hub.old.hub → AreOfOneAgreement hub.new.factories.made hub.new.hub }
-    // Just the places that commands name which are replied to, and not skipped, are emptied; each held a handler, and no two are the same.
+    // Exactly the places are emptied that were named by commands that have a reply and weren't skipped; each had a handler, and no place
+    // was named twice.
     ensures once { TakesOnce (taken commands.entry.items result.replies.items) given.old.places.items given.new.places.items }
-    // What a new hub replies is what a new machine may answer, where those were handed in who were, by the premises in the definition.
+    // The replies of a new hub are ones that a new machine with the same handed-in handlers may give, by the premises in the definition.
     ensures answers { (config : HubConfig) → AnswersWithHandlers (types_of T.name T.size T.alignment U.name U.size U.alignment) T.is_default
         B.fixed (λ strategy action degrading at_full at_failure. B.handled strategy action degrading at_full at_failure)
         (λ handlers. B.degrades handlers) (λ handlers. B.decides handlers) D.fixed (λ handler. D.degrades handler) config
@@ -73,7 +74,7 @@ pub fn run<
     carry_out_all(hub, alloc, commands, given)
 }
 
-// The same, without what that comes to in other words.
+// Carries out the commands, with the run alone as contract, not its consequences.
 fn carry_out_all<
     T: Words + ZeroCopySend + Default,
     U: Copy + ZeroCopySend + Default,

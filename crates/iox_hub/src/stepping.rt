@@ -56,7 +56,7 @@ pub fn step<
     carry_out(hub, alloc, command, given)
 }
 
-// The same, without what it comes to in other words.
+// Carries out one command, with the step alone as contract, not its consequences.
 fn carry_out<
     T: Words + ZeroCopySend + Default,
     U: Copy + ZeroCopySend + Default,

@@ -21,6 +21,7 @@ another : (b : Bool) (number key : ℕ) → at number key ≡ b → (number ≡ 
 another true number key is apart = absurd (apart (is_number number key is))
 another false number key is apart = refl
 
+-- A number that differs from the key doesn't pass the test.
 pub not_number : (number key : ℕ) → (number ≡ key → ⊥) → is_at (nat_cmp number) key ≡ false
 not_number number key apart = another (at number key) number key refl apart
 

@@ -18,7 +18,7 @@ use std::mem;
 /// Contracts see the values with their numbers, by rising number.
 #[derive(Drop)]
 pub(crate) struct ByNumber<X> {
-    // By rising number. Each value has a box of its own, so that few bytes move where an entry comes or goes.
+    // By rising number. Each value has a box of its own, so that few bytes move when an entry is added or removed.
     entries: Vec<(u64, Box<X>)>,
 }
 
@@ -182,7 +182,7 @@ impl<X: Drop> RoomyByNumber<X> {
                 ByNumber { entries }
             }
             Err(place) => {
-                // There is room for it.
+                // There is capacity for it.
                 let _ = entries.insert(place, (number, boxed));
                 ByNumber { entries }
             }
@@ -199,7 +199,7 @@ impl<X: Drop> RoomyByNumber<X> {
     }
 }
 
-// Where a number stands, if it does. While no number before it is missing it stands as far behind the first as it is above that.
+// The place of a number, if it has a value. While no number before it is missing, its place is its distance from the first number.
 fn place_of<X>(entries: &[(u64, Box<X>)], number: u64) -> Option<usize>
     requires { IsStrictlySortedBy nat_cmp (keys_of entries.now) }
     ensures within { IfSome result (λ place. place < length entries.now) }
@@ -213,7 +213,7 @@ fn place_of<X>(entries: &[(u64, Box<X>)], number: u64) -> Option<usize>
     search_of(entries, number).ok()
 }
 
-// Where a number stands, or else where it would.
+// The place of a number, or the place at which it would be inserted.
 pub(crate) fn search_of<V>(entries: &[(u64, V)], number: u64) -> Result<usize, usize>
     ensures bound { IsSearchInRange result (length entries.now) }
     ensures position { IsBinarySearchResult (λ entry. nat_cmp entry.0 number) entries.now result }

@@ -53,7 +53,7 @@ impl<T: Copy, U: Copy, B: Drop, D: Drop> Hub<T, U, B, D> {
         self.is_kept_open(factory.number(), factory.owner())
     }
 
-    // Whether something lives that keeps a factory from being closed, by the number of its service and its own.
+    // Whether something keeps a factory from being closed, by the number of its service and its own.
     fn is_kept_open(&self, number: u64, owner: u64) -> bool
         ensures { result ≡ in_use number owner self.now }
     {
@@ -70,14 +70,14 @@ impl<T: Copy, U: Copy, B: Drop, D: Drop> Hub<T, U, B, D> {
         }
     }
 
-    // Whether a service has one factory at most.
+    // Whether a service has at most one factory.
     fn is_last(&self, number: u64) -> bool
         ensures { result ≡ is_last number self.now.factory_counts }
     {
         self.factory_counts.of(number) <= 1
     }
 
-    // One factory of a service less; with the last its domain ends.
+    // Counts one factory fewer of a service; with the last its domain ends.
     fn let_go(&mut self, number: u64)
         ensures { self.new ≡ less_one number self.old }
     {

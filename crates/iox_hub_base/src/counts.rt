@@ -121,7 +121,7 @@ impl RoomyCounts {
                 Counts { entries }
             }
             Err(place) => {
-                // There is room for it.
+                // There is capacity for it.
                 let _ = entries.insert(place, (number, 1));
                 Counts { entries }
             }

@@ -35,7 +35,7 @@ impl<E: Copy> Lacking<E> {
         }
     }
 
-    // The error where no memory was found.
+    // The error if memory ran out.
     fn error(self, no_room: NoRoom) -> E
         ensures { result ≡ (if no_room.was_new then self.created else self.opened) }
     {
@@ -47,15 +47,15 @@ impl<E: Copy> Lacking<E> {
     }
 }
 
-// That no memory was found for a service that was negotiated, and whether it had been created.
+// Memory ran out for a service that was negotiated; and whether that had been created.
 #[derive(Clone, Copy)]
 struct NoRoom {
     was_new: bool,
 }
 
 impl<T: Copy, U: Copy, B: Drop, D: Drop> Hub<T, U, B, D> {
-    // The services and the counts of their factories, with room for one service more. The hub is without them until they are put back.
-    // Fails only where an allocation fails, and then nothing has changed.
+    // The services and the counts of their factories, with capacity for one service more. The hub is without them until they are put back.
+    // Fails only if an allocation fails, and then nothing has changed.
     fn make_room(&mut self, alloc: Global) -> Result<ServiceRoom<T, U, B, D>, AllocError>
         ensures lent { IfOk result (λ room. (room.counts ≡ self.old.factory_counts) × (room.services ≡ self.old.services)) }
         ensures rest { OnOk result (self.new ≡ record self.old { factory_counts = self.new.factory_counts; services = self.new.services }) }
@@ -71,7 +71,7 @@ impl<T: Copy, U: Copy, B: Drop, D: Drop> Hub<T, U, B, D> {
         }
     }
 
-    // The table, with these lists of steps to do before its accesses. The hub is without it until it is put back.
+    // The table, with these lists of actions to do before its accesses. The hub is without it until it is put back.
     fn lend_table(&mut self, alloc: Global, steps: Vec<StepList>) -> Stepped
         ensures lent { result ≡ record { table = self.old.table; lists = steps.items } }
         ensures rest { self.new ≡ record self.old { table = self.new.table } }
@@ -100,7 +100,7 @@ impl<T: Copy, U: Copy, B: Drop, D: Drop> Hub<T, U, B, D> {
         Ok(OpeningParts { table, room })
     }
 
-    // Closes a factory for which no memory was found.
+    // Closes a factory for which memory ran out.
     fn give_back<P: Pattern>(&mut self, service: negotiated::PortFactory<P>) -> NoRoom
         requires { service.membership.storage ≡ self.old.table.id }
         ensures was_new { result.was_new ≡ service.membership.service.is_new }
@@ -143,7 +143,7 @@ impl<T: Words + ZeroCopySend, U: Copy + ZeroCopySend, B: Drop, D: Drop> Hub<T, U
         }
     }
 
-    // The factory of the hub for a service that was negotiated. Only memory of a domain that is to be made may lack.
+    // The factory of the hub for a service that was negotiated. Only memory for a domain that is to be made may run out.
     fn enter<P: Pattern>(
         &mut self,
         alloc: Global,

@@ -34,7 +34,7 @@ impl<T: Copy, U: Copy, B: Drop, D: Drop> Hub<T, U, B, D> {
     }
 }
 
-// Does the steps in turn, up to the first that finds no memory.
+// Does the actions one after the other, up to the first that runs out of memory.
 fn act_all(table: &mut Table, hash: &ServiceHash, steps: &[ForeignStep]) -> Result<(), AllocError>
     ensures { ActsAll hash.now steps.now table.old result table.new }
 {

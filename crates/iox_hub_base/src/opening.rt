@@ -54,7 +54,7 @@ pub(crate) fn create<
     hub.settle(alloc, table, room, answer, lacking)
 }
 
-// The same over the table that a hub lends.
+// The creation over the table that a hub hands out.
 fn created<P: Negotiated>(
     alloc: Global,
     builder: ServiceBuilder<P>,
@@ -103,7 +103,7 @@ pub(crate) fn open<
     hub.settle(alloc, table, room, answer, lacking)
 }
 
-// The same over the table that a hub lends.
+// The opening over the table that a hub hands out.
 fn opened<P: Negotiated>(
     alloc: Global,
     builder: ServiceBuilder<P>,
@@ -154,7 +154,7 @@ pub(crate) fn open_or_create<
     hub.settle(alloc, table, room, answer, lacking)
 }
 
-// The same over the table that a hub lends.
+// The opening or creation over the table that a hub hands out.
 fn opened_or_created<P: Negotiated>(
     alloc: Global,
     builder: ServiceBuilder<P>,
@@ -175,7 +175,7 @@ fn opened_or_created<P: Negotiated>(
     }
 }
 
-// The errors of a call that opens or creates, where no memory is found after its last access.
+// The errors of a call that opens or creates, if memory runs out after its last access.
 fn lacking_either<P: Negotiated>() -> Lacking<P::OpenOrCreateError>
     ensures opened { result.opened ≡ P.open_or_create_error (lacking_either false) }
     ensures created { result.created ≡ P.open_or_create_error (lacking_either true) }

@@ -64,8 +64,8 @@ impl<T: Copy, U: Copy, B: Drop, D: Drop> Hub<T, U, B, D> {
     }
 }
 
-// A function that makes a builder may call none that makes one, and so these say again what those of `iox_delivery_factories`
-// say: a builder holds an object, and a hub may hold some.
+// A function that makes a builder can't call another that makes one, so these repeat what those of `iox_delivery_factories` do: a builder
+// holds an object, and a hub may hold some.
 impl<T: Copy + ZeroCopySend, U: Copy, B: Drop, D: Drop> Hub<T, U, B, D> {
     /// The builder of publishers of a factory's service, with sizes from its agreement and no option set yet. None if the domain is out, or
     /// none was made.
@@ -131,7 +131,7 @@ impl<T: Copy, U: Copy, B: Drop, D: Drop> Hub<T, U, B, D> {
     }
 }
 
-// How many values of this size an element of a size has.
+// How many values of this size in bytes an element of a size has.
 fn values_each(element: u64, value: u64) -> usize
     ensures { result ≡ values_each element value }
 {

@@ -101,7 +101,7 @@ impl<T: Copy, U: Copy, B, D> Presence<T, U, B, D> {
     }
 }
 
-// Whether the same is agreed.
+// Whether two agreements are the same.
 fn is_same(a: &StaticConfig, b: &StaticConfig) -> bool
     ensures { result ≡ same_agreement a.now b.now }
 {

@@ -106,7 +106,7 @@ impl<T: Words + ZeroCopySend, U: Copy + ZeroCopySend, B: Drop, D: Drop> RoomySer
     }
 }
 
-// A new domain, which is here, in a box of its own.
+// A new domain in the hub, in a box of its own.
 fn new_here<T: Words + ZeroCopySend, U: Copy + ZeroCopySend, B: Drop, D: Drop>(
     alloc: Global,
     id: DomainId,

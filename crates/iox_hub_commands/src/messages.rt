@@ -128,7 +128,7 @@ pub fn sequence<T: Copy, U: Copy, H: Home<T, U>>(made: &Made, home: &H, sample: 
     sequence_reply(made.sequence(home, sample))
 }
 
-// A list of the same values; fails only where there are some, and no memory for them.
+// A list of the same values. Fails only if there are values and memory runs out for them.
 pub(crate) fn copied<T: Copy>(alloc: Global, values: &[T]) -> Result<Vec<T>, AllocError>
     ensures copy { IfOk result (λ copy. copy.items ≡ values.now) }
     ensures lacking { OnErr result (0 < length values.now) }

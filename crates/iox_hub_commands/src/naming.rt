@@ -88,7 +88,7 @@ pub fn publisher_handlers<B: PublisherHandlers>(options: &PublisherOptions) -> B
     )
 }
 
-// How many slots a publisher gets.
+// The number of slots that a publisher gets.
 pub(crate) fn named_slots(options: &PublisherOptions) -> NamedSlots
     ensures { result ≡ named_slots options.now }
 {

@@ -48,7 +48,7 @@ impl<
         self.carry_out_port(alloc, command)
     }
 
-    // A command of a port, without what it comes to in other words.
+    // Carries out a command of a port, with the step alone as contract, not its consequences.
     pub(crate) fn carry_out_port(
         &mut self,
         alloc: Global,

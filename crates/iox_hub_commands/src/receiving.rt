@@ -42,7 +42,7 @@ pub fn receive<T: Copy, U: Copy, H: Home<T, U>>(
     }
 }
 
-// The reply of a sample that came, and is held: its number, and its values. Fails only where it has some and no memory is found for them.
+// The reply to a received sample that is held: its number, and its values. Fails only if it has values and memory runs out for them.
 fn arrival<T: Copy, U: Copy, H: Home<T, U>>(
     alloc: Global,
     made: &Made,

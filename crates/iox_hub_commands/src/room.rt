@@ -25,7 +25,7 @@ pub struct Pledged {
     pub samples: u64,
 }
 
-// Makes room in a table for so many values more.
+// Makes capacity in a table for so many values more.
 fn room_for<V>(numbers: &mut Numbered<V>, more: usize) -> Result<(), AllocError>
     ensures same { SameNumbers numbers.old numbers.new }
     ensures room { OnOk result (FitsMore more numbers.new) }
@@ -39,8 +39,8 @@ fn room_for<V>(numbers: &mut Numbered<V>, more: usize) -> Result<(), AllocError>
     numbers.reserve(room)
 }
 
-// Makes room in a table for so many values more, and for one beside them: so it isn't full when they come, and none of them looks for room.
-// Fails only where there isn't as much already, and an allocation fails.
+// Makes capacity in a table for so many values more, and for one beside them: so the table isn't full when they are added, and none of them
+// needs an allocation. Fails only if there isn't as much already, and an allocation fails.
 fn room_beside<V>(numbers: &mut Numbered<V>, left: u64, more: u64) -> Result<(), AllocError>
     ensures same { SameNumbers numbers.old numbers.new }
     ensures room { OnOk result (FitsBeside (left + more) numbers.new) }
@@ -56,7 +56,7 @@ fn room_beside<V>(numbers: &mut Numbered<V>, left: u64, more: u64) -> Result<(),
     room_for(numbers, beside as usize)
 }
 
-// How many numbers of a table are pledged once so many more are; None where there is no room for these, and for one beside.
+// How many numbers of a table are reserved once so many more are; None if there is no capacity for these, and for one beside.
 fn pledged_more<V>(numbers: &Numbered<V>, pledged: u64, more: u64) -> Option<u64>
     ensures { IfSome result (λ all. (all ≡ pledged + more) × (all < numbers.now.room) × (all + 1 < 2 ^ 64)) }
 {
@@ -68,8 +68,8 @@ fn pledged_more<V>(numbers: &Numbered<V>, pledged: u64, more: u64) -> Option<u64
     }
 }
 
-// Pledges the numbers of a table anew: of what stands there, of so many values that may still come, and of so many more. Room is made
-// for these, and for one beside; where memory is found, for as many again, and for some more for each factory. So this is seldom needed.
+// Reserves the numbers of a table anew: those of its entries, of so many values that may still be added, and of so many more. Capacity is
+// made for these, and for one beside; if there is memory, for as many again, and for some more for each factory. So this is seldom needed.
 fn pledged_anew<V>(
     numbers: &mut Numbered<V>,
     left: u64,

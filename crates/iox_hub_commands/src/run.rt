@@ -58,7 +58,7 @@ impl<
         self.carry_out_all(alloc, commands)
     }
 
-    // The same, without what that comes to in other words.
+    // Carries out the commands, with the run alone as contract, not its consequences.
     fn carry_out_all(&mut self, alloc: Global, commands: Vec<Command<T>>) -> RunReport<T>
         requires { numbers_used self.old + length commands.items < 2 ^ 64 }
         ensures ran { IsRun (Step (terms_of T.name T.size T.alignment T.is_default U.name U.size U.alignment U.is_default B.fixed

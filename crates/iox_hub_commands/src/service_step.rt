@@ -27,8 +27,8 @@ use iox_domain_values::{Decides, Degrades, PortOwner};
 use iox_queues_base::Words;
 use std::alloc::Global;
 
-// What holds names, settings or descriptions by value stands in a frame of its own, so that each other command needs little stack. What a
-// command names is dropped there, too.
+// A function that holds names, settings or descriptions by value has a stack frame of its own, so that every other command needs little
+// stack. What a command names is dropped there, too.
 impl<T: Words + ZeroCopySend, U: Copy + ZeroCopySend, B: Drop, D: Drop> NumberedHub<T, U, B, D> {
     pub(crate) fn node(&mut self) -> Reply<T>
         ensures pledged { self.new.pledged ≡ self.old.pledged }

@@ -55,7 +55,7 @@ impl<
         self.carry_out(alloc, command)
     }
 
-    // The same, without what that comes to in other words.
+    // Carries out one command, with the step alone as contract, not its consequences.
     fn carry_out(&mut self, alloc: Global, command: Command<T>) -> Result<Reply<T>, AllocError>
         requires { numbers_used self.old + 1 < 2 ^ 64 }
         ensures comes { OfPorts (KeepsRoom self.old self.new) command.entry }
@@ -71,7 +71,8 @@ impl<
         }
     }
 
-    // A command of nodes and services, or one by which a port comes. One of a port that there is is handed back, and nothing happens.
+    // Carries out a command on nodes and services, or one that creates a port. A command on an existing port is handed back, and nothing
+    // happens.
     fn carry_out_service<'a>(
         &mut self,
         alloc: Global,

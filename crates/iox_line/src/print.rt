@@ -45,7 +45,7 @@ fn append_reply(reply: &Reply<u64>, out: &mut Vec<u8>) -> Result<(), AllocError>
     }
 }
 
-// These texts are short, so their bytes are put down one by one.
+// These texts are short, so their bytes are written one by one.
 #[inline(always)]
 fn append(text: &[u8], out: &mut Vec<u8>) -> Result<(), AllocError>
     ensures ok { OnOk result (out.new.items ≡ out.old.items ++ text.now) }

@@ -61,7 +61,7 @@ pub enum ServiceVerb {
     Foreign,
 }
 
-// Whether a word is this text. Verbs are short: to look at their bytes in turn is quicker than to compare slices.
+// Whether a word is this text. Verbs are short: comparing their bytes one by one is quicker than comparing slices.
 #[inline(always)]
 fn is(word: &[u8], text: &[u8]) -> bool
     ensures { result ≡ same word.now text.now }

@@ -54,7 +54,7 @@ module _ {T : Type 0} where
       (λ agreed nodes. agreed.settings ≡ settings.PublishSubscribe service.settings)
       × (list_any (λ entry. is_service_of entry.1 service) state.factories ≡ true)
 
-  -- The service of the factory is published, and the factory's node is in it. If it is publish-subscribe, the hub has it open.
+  -- The service of the factory is published, and the factory's node is in it. If the service is publish-subscribe, it is open in the hub.
   abbrev pub IsIn : State T → Factory → Type 0
   IsIn state factory =
       IsPublished (state.phases factory.pattern factory.name) (λ agreed nodes. is_in (Own factory.node) nodes ≡ true)

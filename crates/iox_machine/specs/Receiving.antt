@@ -50,8 +50,8 @@ module _ {T : Type 0} (number : ℕ) where
       (record box { waiting = drop 1 box.waiting; borrowed = box.borrowed ++ take 1 box.waiting })
       (record old { samples = old.samples ++ (sample, record { publisher = publisher; subscriber = number; message = message }) ∷ [] }))
 
-  -- A subscriber receives. If no connection gives, it is refused if some connection has data, since the maximum is borrowed there;
-  -- otherwise the reply is that nothing waits.
+  -- A subscriber receives. Idle expired connections that come before the first that gives end. If no connection gives, the receive is
+  -- refused if some connection has data, since the maximum is borrowed there; otherwise the reply is that nothing waits.
   abbrev pub Receives : ℕ → Subscriber → Service T → Reply T → Service T → Type 0
   Receives sample subscriber old answer new =
       let swept = record old {

@@ -1,4 +1,4 @@
--- Theorems about sequence numbers in every run of the machine: they rise by one, none changes, and a gap between them tells what was lost.
+-- Theorems about sequence numbers in every run of the machine: they rise by one, none changes, and a gap between them shows what was lost.
 use Rattle.std.specs.Prelude.{ℕ, ◌+◌, ◌≡◌, ⊤, Bool, true, false, not, ◌&&◌, nat_lt, List, [], ◌∷◌, ◌++◌, length, map, filter, find, Option}
 use Rattle.std.specs.Prelude.{None, Some, is_some, if◌then◌else◌}
 use Rattle.std.specs.Global.{Vec}

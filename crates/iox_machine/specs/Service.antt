@@ -20,8 +20,8 @@ pub record Send (T : Type 0) : Type 0 where
   pub fails : Bool
 
 -- A publisher; it `stands` while it is open. A loan of more than `room` values needs a new segment. The messages from number `first` on are
--- in the current segment, and at most `slots` of them may be in use at once. The publisher's next message has the number `next`. If its
--- service numbers messages, its next send gives the sequence number behind `last_sequence`; otherwise that is none.
+-- in the current segment, and at most `slots` of them may be in use at once. The publisher's next message has the number `next`. Its next
+-- send gives the sequence number after `last_sequence`, which is none if the service doesn't number messages.
 pub record Publisher (T : Type 0) : Type 0 where
   pub factory : ℕ
   pub stands : Bool

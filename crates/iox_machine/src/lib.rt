@@ -202,9 +202,8 @@ pub fn gaps_are_losses<T: Default, B: Decides + Degrades, D: Degrades>()
 
 /// In every run of a new machine, let a subscriber receive two messages of a publisher, one directly after the other, with sequence
 /// numbers, which samples of them report while they are held. The publisher sent one message with each number between theirs, and each of
-/// these was lost for exactly one cause. It was dropped: with safe overflow a later message was put into their mailbox, where this one was
-/// the oldest. Or it was skipped: its send went past the mailbox, which was full, or was given up while it was blocked there or before it
-/// came there.
+/// these was lost for exactly one cause. It was dropped: with safe overflow a later message was put into their mailbox, and this one had to
+/// make way. Or it was skipped: its send went past the mailbox, which was full, or was given up while it was blocked there or earlier.
 pub fn gaps_have_causes<T: Default, B: Decides + Degrades, D: Degrades>()
     ensures { (handed : Handed B D) → GapsHaveCauses (chosen_by T.is_default (λ who. B.decides who) (λ who. B.degrades who)
         (λ who. D.degrades who) handed) }
@@ -224,7 +223,7 @@ pub fn order_is_of_sends()
 
 /// In every run of a new machine, there is at most one service of a pattern and name. It has the settings that are published there, and the
 /// hub has a factory of it. Each factory is of a published service in which the factory's node is, and so all factories of a name have one
-/// agreement; if the service is publish-subscribe, the hub has it open.
+/// agreement; a service that is publish-subscribe is open in the hub.
 pub fn services_agree<T: Default, B: Decides + Degrades, D: Degrades>()
     ensures { (handed : Handed B D) → OneAgreement (chosen_by T.is_default (λ who. B.decides who) (λ who. B.degrades who)
         (λ who. D.degrades who) handed) }

@@ -27,7 +27,7 @@ reply_lines reads replies = []
 
 -- Each command among what was read has a reply. If no two services of the names that are asked for share a hash, whatever their patterns
 -- are, a new machine may give these replies to all these commands. Its messages are slices of 64-bit numbers, with one such number as user
--- header; the default value is 0; it keeps at least so many expired connections; and each port does what was named for it.
+-- header; the default value is 0; its subscribers may have `buffer` expired connections; and each port does what was named for it.
 abbrev pub NewMachineMayReply : ℕ → List (Result (Command ℕ) LineError) → List (Reply ℕ) → Type 0
 NewMachineMayReply buffer reads replies =
     let commands = filter_map (λ read. result_ok read) reads in

@@ -48,7 +48,7 @@ impl AnswersLines for Script {
 }
 
 impl Script {
-    // The same of any line. Most lines ask ports, and those are small.
+    // Answers any line. Most lines are commands on existing ports, which are small values and handled before.
     fn answer_any(
         &mut self,
         alloc: Global,
@@ -71,7 +71,7 @@ impl Script {
     }
 }
 
-// Appends why a line is no command. What stood there before stays, also where memory is wanting.
+// Appends why a line isn't a command. What was there before stays, even if memory runs out.
 fn print_fault(fault: LineError, out: &mut Vec<u8>) -> Result<(), AllocError>
     ensures ok { OnOk result (out.new.items ≡ out.old.items ++ (codes "err " ++ fault_text fault)) }
     ensures kept { OnErr result (StartsWith out.new.items out.old.items) }
@@ -103,12 +103,12 @@ pub fn serve<R: Read, W: Write>(
     output: &mut Output<W>,
 ) -> Result<(), ServeError>
     requires { input.old.calls + 2 ^ 20 < 2 ^ 64 }
-    // The premise is that the reader tells the bytes that it has left.
+    // The premise is that the reader says which bytes it still has.
     ensures conversation { OnOk result (IfSome (R.remaining input.old.reader) (λ bytes.
         (text : List ℕ) × (script : Script) × IsNewScript config script
         × Appends (W.contents output.old.writer) (W.contents output.new.writer) text
         × IsConversation AnswersLine script bytes text)) }
-    // The same in the machine's words, where no two services of the names asked for share a hash (`NewMachineMayReply`).
+    // The same in terms of the machine, if no two services of the names that are asked for share a hash (`NewMachineMayReply`).
     ensures answered { OnOk result (IfSome (R.remaining input.old.reader) (λ bytes.
         (text : List ℕ) × Appends (W.contents output.old.writer) (W.contents output.new.writer) text
         × AnswersAsNewMachine config.expired_connection_buffer (heard_whole true bytes) text)) }
@@ -116,7 +116,7 @@ pub fn serve<R: Read, W: Write>(
         (R.remaining input.new.reader) (W.contents output.old.writer) (W.contents output.new.writer)) }
     ensures beginning { OnErr result (WritesABeginningAnew config input.new.ended (R.remaining input.old.reader)
         (R.remaining input.new.reader) (W.contents output.old.writer) (W.contents output.new.writer)) }
-    // The same of where it broke off, by the same premise.
+    // What is written when the conversation breaks off, in terms of the machine, by the same premise.
     ensures begun { IfErr result (λ error. BeginsAsNewMachine config.expired_connection_buffer error input.new.ended
         (R.remaining input.old.reader) (R.remaining input.new.reader) (W.contents output.old.writer) (W.contents output.new.writer)) }
     ensures ended { OnOk result (input.new.ended ≡ true) }

@@ -20,7 +20,7 @@ impl<T> Model for History<T> {
 }
 
 impl<T> History<T> {
-    // The history that its caller says: from what was before, what was asked, what was answered, and what the hub is then.
+    // The history that its caller states: from the one before, the command, the answer, and the hub afterwards.
     pub(crate) fn told<A, B, C, D>(_before: &A, _asked: &B, _answer: &C, _after: &D) -> History<T>
         ghost calls: { Calls T }
         ensures { result.calls ≡ calls }

@@ -171,7 +171,7 @@ impl<
     }
 }
 
-// A publisher lends so many values to be written, if it may lend.
+// Loans so many values of a publisher to be written, if it may loan.
 fn lend_uninit_if<T: Copy, U: Copy, H: Home<T, U>>(
     home: &mut H,
     alloc: Global,
@@ -190,7 +190,7 @@ fn lend_uninit_if<T: Copy, U: Copy, H: Home<T, U>>(
     Some(publisher.loan_slice_uninit(alloc, home, len))
 }
 
-// A publisher lends so many defaults, if it may lend.
+// Loans so many default values of a publisher, if it may loan.
 fn lend_if<T: Copy + Default, U: Copy, H: Home<T, U>>(
     home: &mut H,
     alloc: Global,
@@ -212,7 +212,7 @@ fn lend_if<T: Copy + Default, U: Copy, H: Home<T, U>>(
     Some(publisher.loan_slice(alloc, home, len))
 }
 
-// All values of a loan are written, if it has as many; it is told whether it is written so.
+// Writes all values of a loan, if it has as many; returns whether it is written so.
 fn write_all<T: Copy, U: Copy, H: Home<T, U>>(
     home: &mut H,
     loan: slice::SampleMutUninit<T, U>,
@@ -241,7 +241,7 @@ fn is_written_with<T: Copy, U: Copy, H: Home<T, U>>(
     sample.holds(home) && sample.payload(home).len() == count
 }
 
-// The history that its caller says, where a publisher of this number was asked for a loan of so many values.
+// The history that its caller states, if a publisher with this number was asked for a loan of so many values.
 fn told_lent<T: Words + ZeroCopySend + Default, U: Copy + ZeroCopySend + Default, S>(
     history: &History<T>,
     number: &Number,
@@ -254,7 +254,7 @@ fn told_lent<T: Words + ZeroCopySend + Default, U: Copy + ZeroCopySend + Default
     History::told(history, number, &(), &())
 }
 
-// The history, where a loan of this number was to be filled with these values.
+// The history, if a loan with this number was to be filled with these values.
 fn told_filled<T: Words + ZeroCopySend + Default>(
     history: &History<T>,
     number: &Number,
@@ -269,7 +269,7 @@ fn told_filled<T: Words + ZeroCopySend + Default>(
     History::told(history, number, &filled, &())
 }
 
-// A loan is sent if it is written, and no send of its publisher waits; else it is handed back.
+// Sends a loan if it is written, and no send of its publisher is blocked; otherwise hands it back.
 fn send_if<T: Copy, U: Copy, H: Home<T, U>>(
     home: &mut H,
     alloc: Global,

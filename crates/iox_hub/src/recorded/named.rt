@@ -18,7 +18,7 @@ impl Model for Number {
 }
 
 impl Number {
-    // The number that its caller says, from what is at hand.
+    // The number that its caller states, from the values at hand.
     pub(crate) fn given<A>(_from: &A) -> Number
         ghost value: { ℕ }
         ensures { result.value ≡ value }

@@ -79,7 +79,7 @@ pub struct RecordedHub<
 > {
     pub(crate) hub: Hub<T, U, B, D>,
     pub(crate) history: History<T>,
-    // Whether it is known that each message that was received fits in a vector.
+    // Whether it is known that each received message fits in a vector.
     fit: bool,
 }
 
@@ -144,8 +144,7 @@ impl<
         let _ = &self.hub;
     }
 
-    /// Whether it is known that each received message fits in a vector, which is one of the premises. In fact each does: a slice of 2^63
-    /// values or more is never received, and each received sample was held.
+    /// Whether it is known that each received message fits in a vector, which is one of the premises. Under `AreFollowed` it is known.
     /// Example: `let is_known = hub.received_fit();`
     pub fn received_fit(&self) -> bool
         ensures fit { result ≡ true → AllByRecursion (λ values. length values < 2 ^ 63) self.now.calls.received }

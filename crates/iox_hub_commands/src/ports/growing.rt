@@ -94,7 +94,7 @@ impl Made {
     }
 }
 
-// Makes room for one value more, if there is none.
+// Makes capacity for one value more, if there is none.
 pub(crate) fn room_for_one<V>(numbers: &mut Numbered<V>) -> Result<(), AllocError>
     ensures same { SameNumbers numbers.old numbers.new }
     ensures room { OnOk result (length numbers.new.entries < numbers.new.room) }

@@ -102,7 +102,7 @@ impl Made {
         }
     }
 
-    // The same, if that publisher may lend: its domain is here, it didn't leave, and no send of it waits.
+    // The port of the publisher, if it may also loan: its domain is in the home, it is open, and no send of it is blocked.
     pub(crate) fn ready_lender<T: Copy, U: Copy, H: Home<T, U>>(
         &self,
         home: &H,

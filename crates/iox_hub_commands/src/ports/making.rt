@@ -156,7 +156,7 @@ impl Made {
     }
 }
 
-// Why a publisher of this config doesn't come to a domain, if that is here.
+// Why a publisher with this configuration can't be created in a domain, if the domain is in the home.
 pub(crate) fn why_no_publisher<T: Copy, U: Copy, H: Home<T, U>>(
     home: &H,
     domain: DomainId,
@@ -168,7 +168,7 @@ pub(crate) fn why_no_publisher<T: Copy, U: Copy, H: Home<T, U>>(
     Some(Err(ports.publisher_refusal(config)))
 }
 
-// Why a subscriber of this config doesn't come to a domain, if that is here.
+// Why a subscriber with this configuration can't be created in a domain, if the domain is in the home.
 pub(crate) fn why_no_subscriber<T: Copy, U: Copy, H: Home<T, U>>(
     home: &H,
     domain: DomainId,

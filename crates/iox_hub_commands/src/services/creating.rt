@@ -66,7 +66,7 @@ impl Factories {
     }
 }
 
-// The refusal where no memory is found before the first access.
+// The refusal if memory runs out before the first access.
 pub(crate) fn create_lacking(options: &ServiceOptions) -> Refusal
     ensures { result ≡ create_lacking options.now }
 {

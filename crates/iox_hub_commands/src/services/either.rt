@@ -64,7 +64,7 @@ impl Factories {
     }
 }
 
-// The refusal where no memory is found before the first access.
+// The refusal if memory runs out before the first access.
 pub(crate) fn either_lacking(options: &ServiceOptions) -> Refusal
     ensures { result ≡ either_lacking options.now }
 {

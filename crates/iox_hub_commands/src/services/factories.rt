@@ -48,8 +48,8 @@ impl Factories {
         }
     }
 
-    // Makes ready what a call that opens needs: room for one factory more, and the lists of steps. It takes no memory where there is
-    // room and no steps are named.
+    // Prepares what a call that opens needs: capacity for one factory more, and the lists of actions. It takes no memory if there is
+    // capacity and no actions are named.
     pub(crate) fn prepare(
         &mut self,
         alloc: Global,
@@ -65,7 +65,7 @@ impl Factories {
         step_lists(alloc, name, types, steps)
     }
 
-    // The factory gets the next number; its description is one, whoever agreed on it.
+    // Gives the factory the next number; its description has the form of one, whoever made it.
     pub(crate) fn number(&mut self, factory: MadeFactory) -> u64
         requires room { length self.old.made.entries < self.old.made.room }
         requires number { self.old.made.next + 1 < 2 ^ 64 }
@@ -77,7 +77,7 @@ impl Factories {
         self.made.insert_next(factory)
     }
 
-    // Makes room for one factory more, where there is none.
+    // Makes capacity for one factory more, if there is none.
     fn make_room(&mut self) -> Result<(), AllocError>
         ensures { MakesRoom self.old.made result self.new.made }
     {

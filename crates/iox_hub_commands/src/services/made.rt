@@ -79,7 +79,7 @@ impl MadeFactory {
     }
 }
 
-// Closes a factory that nothing keeps from that.
+// Closes a factory that nothing keeps from being closed.
 fn close_unused<P: Pattern, T: Copy, U: Copy, B: Drop, D: Drop>(
     factory: PortFactory<P>,
     hub: &mut Hub<T, U, B, D>,

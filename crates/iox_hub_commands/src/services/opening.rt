@@ -51,7 +51,7 @@ impl Factories {
     }
 }
 
-// The refusal where no memory is found before the first access.
+// The refusal if memory runs out before the first access.
 pub(crate) fn open_lacking(options: &ServiceOptions) -> Refusal
     ensures { result ≡ open_lacking options.now }
 {

@@ -28,7 +28,7 @@ pub fn uncreated<T: ZeroCopySend, U: ZeroCopySend>(
     uncreated_of(options, message_types::<T, U>())
 }
 
-// The same, for messages of these types.
+// Why no service can be created with the settings that are asked for, if so, for messages of these types.
 fn uncreated_of(options: &ServiceOptions, types: MessageTypeDetails) -> Option<CreateFailure>
     ensures { IsUncreated (settings_of types options.now) result }
 {
@@ -77,7 +77,7 @@ pub fn either_refused(options: &ServiceOptions, failure: CreateFailure) -> Refus
     }
 }
 
-// The refusal of the pattern that is asked for, of who opens where no service stands.
+// The refusal of an opening if the service doesn't exist, by the pattern that is asked for.
 fn open_absent(options: &ServiceOptions) -> Refusal
     ensures { result ≡ open_absent options.now }
 {
@@ -94,7 +94,7 @@ fn open_absent(options: &ServiceOptions) -> Refusal
     }
 }
 
-// That of who opens where another is about to create the service.
+// The refusal of an opening if another node is about to create the service.
 fn open_locked(options: &ServiceOptions) -> Refusal
     ensures { result ≡ open_locked options.now }
 {
@@ -111,7 +111,7 @@ fn open_locked(options: &ServiceOptions) -> Refusal
     }
 }
 
-// That of who opens or creates where another is about to create the service.
+// The refusal of `open_or_create` if another node is about to create the service.
 fn either_locked(options: &ServiceOptions) -> Refusal
     ensures { result ≡ either_locked options.now }
 {
@@ -132,7 +132,7 @@ fn either_locked(options: &ServiceOptions) -> Refusal
     }
 }
 
-// What the first look of a call finds, unless a step is named before it.
+// What the first look of a call finds, unless an action is named before it.
 pub(crate) fn first_look<T: Copy, U: Copy, B: Drop, D: Drop>(
     hub: &mut Hub<T, U, B, D>,
     asked: &ServiceAsked,
@@ -147,7 +147,7 @@ pub(crate) fn first_look<T: Copy, U: Copy, B: Drop, D: Drop>(
     Some(hub.state_under(asked.options.pattern(), &asked.name))
 }
 
-// Why nothing is opened, if a first look that finds this tells it.
+// Why nothing is opened, if a first look that finds this decides it.
 pub(crate) fn open_told(options: &ServiceOptions, found: Option<HashState>) -> Option<Refusal>
     ensures { result ≡ open_told options.now found }
 {
@@ -158,7 +158,7 @@ pub(crate) fn open_told(options: &ServiceOptions, found: Option<HashState>) -> O
     }
 }
 
-// Why nothing is created, if settings that are refused so, or a first look that finds this, tell it.
+// Why nothing is created, if settings that are refused so, or a first look that finds this, decide it.
 pub(crate) fn create_told(
     options: &ServiceOptions,
     refused: Option<CreateFailure>,
@@ -176,7 +176,7 @@ pub(crate) fn create_told(
     }
 }
 
-// Why nothing is opened or created, if a first look that finds this tells it, where it is so that these settings are refused.
+// Why nothing is opened or created, if a first look that finds this decides it, with settings that are refused so.
 pub(crate) fn either_told(
     options: &ServiceOptions,
     refused: Option<CreateFailure>,

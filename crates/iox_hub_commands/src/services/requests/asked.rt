@@ -79,7 +79,7 @@ pub fn request_response(
     }
 }
 
-// What a setting that may be off is required to be, where it is named.
+// The value that is required of a setting that can be off, if it is named.
 fn named(option: Option<NumberOrOff>) -> Option<Option<u64>>
     ensures { result ≡ option_map set_to option }
 {

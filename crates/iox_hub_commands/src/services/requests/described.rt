@@ -45,7 +45,7 @@ pub fn agreed_has_form(
     parts_have_form(*name, hash, settings(options, *types), attributes);
 }
 
-// The settings that a service is created with of which options ask.
+// The settings with which a service with these options is created.
 fn settings(options: &ServiceOptions, types: MessageTypeDetails) -> Settings
     ensures { result ≡ settings_of types options.now }
 {
@@ -60,7 +60,7 @@ fn settings(options: &ServiceOptions, types: MessageTypeDetails) -> Settings
     }
 }
 
-// Those that a service of a pattern is created with of which this is asked.
+// The settings with which a service of a pattern with this requirement is created.
 fn created_settings<P: Pattern>(requirement: &P::Requirement) -> Settings
     ensures { result ≡ P.settings (P.adjusted (P.asked requirement.now)) }
 {

@@ -56,7 +56,7 @@ pub fn step_lists(
     Ok(lists)
 }
 
-// The steps before one access.
+// The actions before one access.
 fn list_before(
     alloc: Global,
     access: u64,
@@ -76,7 +76,7 @@ fn list_before(
     Ok(StepList::new(list))
 }
 
-// The last access before which there are steps; 0 where there are none.
+// The last access before which there are actions; 0 if there are none.
 fn last_access(steps: &[StepBefore]) -> u64
     ensures { result ≡ last_access steps.now }
 {
@@ -110,7 +110,7 @@ pub fn steps_have_form(name: &ServiceName, types: &MessageTypeDetails, steps: &[
     }
 }
 
-// A step on the service of a name.
+// An action on the service of a name.
 fn step(named: &Named, name: &ServiceName, types: &MessageTypeDetails) -> ForeignStep
     ensures value { result ≡ step_of name.now types.now named.now }
     ensures form { PublishesInForm result }
