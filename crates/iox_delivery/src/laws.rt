@@ -1,4 +1,4 @@
-//! Theorems about the calls of ports, said without their steps. They are the contracts of functions that do nothing.
+//! Theorems about the calls of ports. They are the contracts of functions that do nothing.
 ghost use Rattle.std.specs.Prelude.{◌≡◌, ℕ, Option, is_some};
 ghost use Rattle.iox_domain.specs.declared.ports.service_ports.ServicePorts.{ServicePorts};
 ghost use Rattle.iox_domain.specs.DomainPorts.Messages.{Loan as Lent};

@@ -1,4 +1,4 @@
--- Calls at a domain match commands at the machine's service.
+-- Calls at a domain match commands at the machine's service; `Matches` says what that means.
 use Rattle.std.specs.Prelude.{ℕ, ◌≡◌, ◌≢◌, Bool, true, false, List, [], ◌∷◌, length, is_some, Option, None, Some, if◌then◌else◌}
 use Rattle.std.specs.Global.{Vec}
 use Rattle.std.specs.Vec.{vec_items}

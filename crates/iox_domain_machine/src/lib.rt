@@ -161,8 +161,8 @@ pub fn lending_matches<T: Default, U, B: Decides + Degrades, D: Degrades>()
 /// Updating a subscriber matches the command: connections of closed publishers end or expire, and listed publishers are
 /// connected, which may fail if memory runs out or if no more connections may expire. Nothing is done if the list was seen
 /// already, and the command is skipped if the subscriber isn't open. The ports must be roomy, as they are after any calls
-/// (`iox_domain::allowances::samples::samples_left_by_calls`), and each answer of the handler for a failed connection must be
-/// allowed as a choice for the machine's subscriber.
+/// (`iox_domain::allowances::samples::samples_left_by_calls`), and each answer of the handler for a failed connection must be a
+/// choice of the machine's subscriber.
 pub fn updating_a_subscriber_matches<T: Default, U, B: Decides + Degrades, D: Degrades>(
     _handler: &D,
 )
@@ -173,7 +173,7 @@ pub fn updating_a_subscriber_matches<T: Default, U, B: Decides + Degrades, D: De
 /// Asking whether some connection of a subscriber has data, also one of a closed publisher, matches the command; the subscriber
 /// updates first, and a failed connection may let the call fail. If the subscriber isn't open nothing happens. The ports must
 /// be roomy, as they are after any calls (`iox_domain::allowances::samples::samples_left_by_calls`), and each answer of the
-/// handler for a failed connection must be allowed as a choice for the machine's subscriber.
+/// handler for a failed connection must be a choice of the machine's subscriber.
 pub fn asking_for_samples_matches<T: Default, U, B: Decides + Degrades, D: Degrades>(_handler: &D)
     ensures { (handed : Handed B D) → HasMatches T U (chosen_by T.is_default (λ who. B.decides who)
         (λ who. B.degrades who) (λ who. D.degrades who) handed) (D.degrades _handler.now cause.FailedToEstablishConnection) }
@@ -182,7 +182,7 @@ pub fn asking_for_samples_matches<T: Default, U, B: Decides + Degrades, D: Degra
 /// Updating a publisher matches the command: connections of closed subscribers end, and each listed subscriber gets a
 /// connection, with as much of the history as may wait if the connection is new, or the connection fails because memory runs
 /// out. An update that the handler lets fail returns the first failure. The command is skipped if a send waits or the publisher
-/// is closed, and nothing changes if the list didn't. Each answer of the handler must be allowed as a choice for the machine's
+/// is closed, and nothing changes if the list didn't. Each answer of the handler must be a choice of the machine's
 /// publisher. Ties must be apart, and sizes those allowed, as they are after any calls
 /// (`iox_domain::port_laws::messages::at_most_once`, `iox_domain::port_laws::service::sizes_agree`).
 pub fn updating_a_publisher_matches<T: Default, U, B: Decides + Degrades, D: Degrades>(_handler: &D)
@@ -193,8 +193,8 @@ pub fn updating_a_publisher_matches<T: Default, U, B: Decides + Degrades, D: Deg
 /// Retrying a waiting send matches the command: in both the send comes to the same subscribers in the same order, makes the
 /// same decisions at full mailboxes, and waits again, is finished or fails. If no send waits, or the publisher is closed,
 /// nothing happens. The ports must be roomy, as they are after any calls
-/// (`iox_domain::allowances::samples::samples_left_by_calls`), and each decision at a full mailbox must be allowed as a choice
-/// for the machine's publisher.
+/// (`iox_domain::allowances::samples::samples_left_by_calls`), and each decision at a full mailbox must be a choice of the
+/// machine's publisher.
 pub fn retrying_a_send_matches<T: Default, U, B: Decides + Degrades, D: Degrades>(_handlers: &B)
     ensures { (handed : Handed B D) → RetryMatches T U (chosen_by T.is_default (λ who. B.decides who)
         (λ who. B.degrades who) (λ who. D.degrades who) handed) (B.decides _handlers.now) }
@@ -205,7 +205,7 @@ pub fn retrying_a_send_matches<T: Default, U, B: Decides + Degrades, D: Degrades
 /// follows it first; if memory runs out and the handler lets the call fail, the loan is dropped and the error returned. The
 /// send of a closed publisher drops the loan, too. If some of the loan isn't written, or a send waits, nothing happens. The
 /// ports must be roomy, as they are after any calls (`iox_domain::allowances::samples::samples_left_by_calls`). Each decision
-/// at a full mailbox, and each answer for a failed connection, must be allowed as a choice for the machine's publisher.
+/// at a full mailbox, and each answer for a failed connection, must be a choice of the machine's publisher.
 pub fn sending_a_loan_matches<T: Default, U, B: Decides + Degrades, D: Degrades>(_handlers: &B)
     ensures { (handed : Handed B D) → SendMatches T U (chosen_by T.is_default (λ who. B.decides who)
         (λ who. B.degrades who) (λ who. D.degrades who) handed) (B.decides _handlers.now)
@@ -216,7 +216,7 @@ pub fn sending_a_loan_matches<T: Default, U, B: Decides + Degrades, D: Degrades>
 /// publisher is closed, nothing happens. The call fails if the machine's does, with the error of the loan or of the send. If
 /// the list of subscribers changed the publisher follows it between the loan and the send, as in a send. The ports must be
 /// roomy, as they are after any calls (`iox_domain::allowances::samples::samples_left_by_calls`), and each decision at a full
-/// mailbox, and each answer for a failed connection, must be allowed as a choice for the machine's publisher. The header and
+/// mailbox, and each answer for a failed connection, must be a choice of the machine's publisher. The header and
 /// the user header that a subscriber reads of the message are recorded as its send begins, as in `headers_are_as_sent`.
 pub fn putting_matches<T: Default, U, B: Decides + Degrades, D: Degrades>(_handlers: &B)
     ensures { (handed : Handed B D) → PutMatches T U (chosen_by T.is_default (λ who. B.decides who)
@@ -230,8 +230,8 @@ pub fn putting_matches<T: Default, U, B: Decides + Degrades, D: Degrades>(_handl
 /// messages. The idle expired connections that were examined before end, and a closed publisher of which nothing else is in use
 /// is then removed from the domain. If the subscriber isn't open nothing happens. The subscriber must hold fewer than 2^64 - 1
 /// samples, no sample may have the next number, the ports must be roomy, as they are after any calls
-/// (`iox_domain::allowances::samples::samples_left_by_calls`), and each answer of the handler for a failed connection must be
-/// allowed as a choice for the machine's subscriber.
+/// (`iox_domain::allowances::samples::samples_left_by_calls`), and each answer of the handler for a failed connection must be a
+/// choice of the machine's subscriber.
 pub fn receiving_matches<T: Default, U, B: Decides + Degrades, D: Degrades>(_handler: &D)
     ensures { (handed : Handed B D) → ReceiveMatches T U (chosen_by T.is_default (λ who. B.decides who)
         (λ who. B.degrades who) (λ who. D.degrades who) handed) (D.degrades _handler.now cause.FailedToEstablishConnection) }

@@ -30,7 +30,7 @@ use std::marker::Model;
 #[derive(Drop)]
 pub struct Publishers<T, U> {
     ports: BTreeMap<u64, PublisherPort<T, U>>,
-    // How much of each owner lives.
+    // How much of each owner is alive.
     census: Census,
 }
 

@@ -229,9 +229,9 @@ impl<T: Copy, U: Copy> PublisherPort<T, U> {
 
     /// Follows the list of subscribers, and then sends the written loan in this slot to each live connection, in the order of
     /// the list. The message is no loan any longer, and the newest of the history. It has the next sequence number if messages
-    /// are numbered. With safe overflow a full mailbox drops its oldest message; without it the handlers decide at a full
-    /// mailbox, and the send may wait. The call answers None, and nothing happens, if no written loan is in the slot or another
-    /// send waits.
+    /// are numbered. With safe overflow a full mailbox drops its oldest message. Without it the send skips a full mailbox from
+    /// which no subscriber reads; at another one the handlers decide, and the send may wait. The call answers None, and nothing
+    /// happens, if no written loan is in the slot or another send waits.
     ///
     /// The call fails with `ConnectionBrokenSinceSenderNoLongerExists` if the publisher is closed, with `InternalError` if its
     /// last sequence number is 2^64 - 1, and with `ConnectionError` if following the list fails; then the loan is dropped, and

@@ -1,4 +1,4 @@
-//! Theorems about the calls of a service's ports, said without their steps. They are the contracts of functions that do
+//! Theorems about the calls of a service's ports. They are the contracts of functions that do
 //! nothing.
 ghost use Rattle.iox_domain.specs.DomainValues.declared.degradation.DegradationCause.TheVariants as cause;
 ghost use Rattle.iox_domain.specs.Attaching.{AttachesWithoutMemory, KeysStay};
