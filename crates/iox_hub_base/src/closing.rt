@@ -44,7 +44,7 @@ impl<T: Copy, U: Copy, B: Drop, D: Drop> Hub<T, U, B, D> {
 
     /// Whether a factory of this hub is in use, so that `close` would refuse with `StillInUse`.
     ///
-    /// This port's own.
+    /// Not in `iceoryx2`.
     /// Example: `let stays = hub.is_in_use(&factory);`
     pub fn is_in_use<P: Pattern>(&self, factory: &PortFactory<P>) -> bool
         requires { factory.now.service.membership.storage ≡ self.now.table.id }

@@ -46,7 +46,7 @@ impl Builder {
 
     /// A builder of the service with this name, for this node of the hub with this id.
     ///
-    /// This port's own.
+    /// Not in `iceoryx2`.
     /// Example: `Builder::of_hub(hub.id(), node.number(), name)`
     pub fn of_hub(hub: u64, node: u64, name: ServiceName) -> Self
         ensures { result ≡ record { hub = hub; node = node; name = name } }
@@ -116,7 +116,7 @@ impl Builder {
 
     /// A builder of a service of this pattern with this requirement. It doesn't allocate.
     ///
-    /// This port's own.
+    /// Not in `iceoryx2`.
     /// Example: `Builder::new(1, name).with_requirement::<Event>(requirement)`
     pub fn with_requirement<P: Negotiated>(self, requirement: P::Requirement) -> ServiceBuilder<P>
         ensures { result ≡ record { hub = self.hub; node = self.node; name = self.name; requirement = requirement } }
@@ -145,7 +145,7 @@ pub struct ServiceBuilder<P: Negotiated> {
 impl<P: Negotiated> ServiceBuilder<P> {
     /// The id of the hub to which the builder belongs; 0 if it belongs to no hub.
     ///
-    /// This port's own.
+    /// Not in `iceoryx2`.
     /// Example: `builder.hub()`
     pub fn hub(&self) -> u64
         ensures { result ≡ self.now.hub }

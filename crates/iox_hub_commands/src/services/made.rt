@@ -13,7 +13,7 @@ use iox_negotiate_base::errors::CloseError;
 
 /// A service that is open, by its pattern.
 ///
-/// This port's own.
+/// Not in `iceoryx2`.
 #[derive(Drop)]
 pub enum MadeFactory {
     /// A publish-subscribe service.

@@ -5,7 +5,7 @@ ghost use Rattle.iox_lanes_opening.specs.Texts.{into_lanes_text};
 use std::fmt;
 use thiserror::Error;
 
-/// Why a domain can't become lanes. This port's own.
+/// Why a domain can't become lanes. Not in `iceoryx2`.
 #[derive(Clone, Copy, Debug, PartialEq, Eq, Hash, Error)]
 pub enum IntoLanesError {
     /// A send of some publisher waits at a full mailbox.
