@@ -1,8 +1,8 @@
 //! Two sensors and two displays of one service, each in a thread of its own, with no lock between them.
 //!
-//! A sensor counts, and sends each number at the head of a message of eight words. A display has room for four messages of each
-//! sensor: what comes while it's full takes the place of the oldest. So a display may miss numbers, but it sees those of a sensor
-//! rise, and it ends with the last number of both. What is printed is the same whatever the threads do.
+//! A sensor counts, and sends each number at the beginning of a message of eight words. A display has capacity for four messages of each
+//! sensor; a message that arrives while it is full replaces the oldest. So a display may miss numbers, but it sees those of a sensor rise,
+//! and it ends with the last number of both. The output is the same whatever the threads do.
 #![tactic(auto)]
 
 ghost use Rattle.std.specs.Prelude.{◌≡◌, ◌≤◌, IfSome};

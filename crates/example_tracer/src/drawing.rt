@@ -6,11 +6,11 @@ ghost use Rattle.example_tracer.specs.Drawing.{middle_of, escaped, opens_nothing
 use std::alloc::{AllocError, Global};
 use std::fmt::Write;
 
-/// A place in a drawing: how far to the right, in pixels, and in which row.
+/// A place in a drawing: how many pixels from the left, and in which row.
 pub type Place = (usize, usize);
 
-/// What is drawn, each with its class, by which the drawing's style says how it looks: a stroke from a place to another, or a
-/// text at a place.
+/// What is drawn: a stroke from one place to another, or a text at a place. Each has a class, by which the drawing's style says how it
+/// looks.
 #[derive(Clone, Copy)]
 pub enum Shape<'a> {
     Stroke(&'static str, Place, Place),

@@ -33,7 +33,7 @@ pub struct Attribute {
 #[derive(Clone, Copy, Debug, PartialEq, Eq, Error)]
 pub enum AttributeError {
     /// The key or the value is outside the limits, or there are eight already.
-    #[error("{0}")]
+    #[error("AttributeError::LimitError({0:?})")]
     LimitError(LimitError),
     /// Memory ran out.
     #[error("AttributeError::OutOfMemory")]

@@ -381,7 +381,8 @@ ties_mid next places index subscriber sent taken place member old new (Err error
 ties_mid {T} {U} next places index subscriber sent taken place member old new (Ok done) listed well untied ties midway =
     let (at, joined, joins, is) = ties in
     let to : TiedTo place member.value.subscriber at old new
-    = tied_joined next places place at _ member (connection_to member.value.subscriber old) old joined new well listed refl joins is in
+    = tied_joined next places place at _ member (connection_to member.value.subscriber old) old joined new well listed refl joins is
+    untied in
     let between : Midway places index subscriber sent taken joined
     × Left old joined = joined_mid places index subscriber sent taken place at _ member (connection_to member.value.subscriber old)
     old joined listed joins midway in

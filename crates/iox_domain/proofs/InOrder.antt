@@ -293,7 +293,7 @@ call_added {T} {U} publisher index subscriber led may config user_header place s
     let are : new.publishers ≡ publishers.added old.next_port port old.publishers = ap (λ one. one.publishers) is_new in
     let next : new.next_port ≡ old.next_port + 1 = ap (λ one. one.next_port) is_new in
     let well : IsTiedWell old.next_port old.subscriber_list.places first
-    = new_well old.next_port old.subscriber_list.places first refl refl (omega (arith, apart.places)) in
+    = new_well old.next_port old.subscriber_list.places first refl refl refl (omega (arith, apart.places)) in
     let none_yet : publisher ≡ old.next_port
     → port_of publisher old.publishers ≡ None
     = λ same. not_found publisher old sound (omega (arith, same)) (port_of publisher old.publishers) refl in

@@ -17,8 +17,10 @@ use Rattle.iox_domain.specs.DomainValues.declared.port_error.ReceiveError.{Recei
 use Rattle.iox_domain.specs.DomainValues.declared.port_owner.PortOwner.{PortOwner}
 use Rattle.iox_domain.specs.DomainValues.declared.service_sizes.ServiceSizes.{ServiceSizes}
 use Rattle.iox_domain.specs.DomainPorts.Leaving.{new_port, departed}
+use Rattle.iox_domain.specs.DomainPorts.Ports.{goes_on}
 use Rattle.iox_domain.specs.DomainPorts.PublisherUpdating.{is_tie_to}
 use Rattle.iox_domain.specs.DomainPorts.Writing.{changed_if, given_up}
+use Rattle.iox_domain.specs.DomainSlots.Uses.{nobody}
 use Rattle.iox_domain.specs.DomainPorts.declared.publisher_port.PublisherPort.{PublisherPort}
 use Rattle.iox_domain.specs.DomainPorts.declared.subscriber_entry.SubscriberEntry.{SubscriberEntry}
 use Rattle.iox_domain.specs.DomainPorts.Arriving.{new_subscriber}
@@ -150,12 +152,14 @@ well_later next places port well = record {
   alone = well.alone;
   below = λ place subscriber is. omega (arith, well.below place subscriber is);
   room = well.room;
+  known = well.known;
 }
 
 -- a publisher that is connected to nobody
 pub new_well : {T U : Type 0} (next : ℕ) (places : List (Option (Member SubscriberEntry))) (port : PublisherPort T U)
-    → port.ties.items ≡ [] → port.readers ≡ [] → length places ≤ port.ties.room → IsTiedWell next places port
-new_well {T} {U} next places port items readers room = record {
+    → port.ties.items ≡ [] → port.readers ≡ [] → port.sender.uses.connections ≡ [] → length places ≤ port.ties.room
+    → IsTiedWell next places port
+new_well {T} {U} next places port items readers none room = record {
   apart = λ one other index is. absurd (no_tie one index is);
   live = λ place index is. absurd (no_tie place index is);
   read = λ subscriber index leads. let no : false ≡ true = rw readers at leads in absurd (cc);
@@ -163,6 +167,8 @@ new_well {T} {U} next places port items readers room = record {
   below = λ place subscriber is. let no : false ≡ true
       = sym (ap (λ tie. is_tie_to subscriber tie port) (ap (λ all. get_or all place None) items)) ∙ is in absurd (cc);
   room = room;
+  known = λ index live.
+      let no : false ≡ true = sym (ap (λ all. goes_on (get_or all index nobody).stage) none) ∙ live in absurd (cc);
 }
   where
     no_tie : (place index : ℕ) → get_or port.ties.items place None ≡ Some index → ⊥
@@ -184,7 +190,7 @@ added_apart {T} {U} may config user_header place slots old new (Ok number) adds 
           let well : IsTiedWell (old.next_port + 1) places port =
           (updates_well (old.next_port + 1) places may listed old.subscriber_list.changes first port outcome list
           (λ k within. told_same listed old.subscriber_list is_list k)
-          (new_well (old.next_port + 1) places first refl refl (omega (arith, apart.places))) updates).1 in
+          (new_well (old.next_port + 1) places first refl refl refl (omega (arith, apart.places))) updates).1 in
           record {
             places = apart.places;
             list = list;
@@ -261,6 +267,7 @@ well_listed next place places entry port named well = record {
   ];
   below = λ one subscriber is. omega (arith, well.below one subscriber is);
   room = omega (arith, well.room, length-set places place (Some entry));
+  known = well.known;
 }
 
 subscribes_apart : {T U : Type 0} (may : DegradationInfo → DegradationAction → Type 0) (owner : PortOwner) (place buffer_size : ℕ)
@@ -366,6 +373,7 @@ subscriber_leaves_apart {T} {U} true number port old new answer leaves =
               alone = λ place other member listed not. well.alone place other member (fewer.fewer place member listed) not;
               below = well.below;
               room = omega (arith, well.room, fewer.long);
+              known = well.known;
             }) (walked.well apart.well);
       };
     })

@@ -224,7 +224,7 @@ publisher_comes {T} {U} overrides may config user_header (Some needed) (Some pla
         let first : PublisherPort T U = new_port (identity_of config.owner place old) old.sizes.max_subscribers config.allocation
         config.unit (sequence_before config old) (sender_config config slots old) user_header in
         let well : IsTiedWell old.next_port old.subscriber_list.places first
-        = new_well old.next_port old.subscriber_list.places first refl refl (omega (arith, roomy.tied.places)) in
+        = new_well old.next_port old.subscriber_list.places first refl refl refl (omega (arith, roomy.tied.places)) in
         let lead : LeadsOn port = lead_updates old.next_port old.subscriber_list may listed first port outcome roomy.tied.list is_list
         well updates in
         let came : Member PublisherEntry = record

@@ -1,7 +1,7 @@
 -- The ties of a publisher stay apart through its own steps.
 use Rattle.std.proofs.Common.{arith, ◌≡◌, ◌≢◌, ◌+◌, ◌-◌, ◌<◌, ◌≤◌, ◌==◌, ◌∷◌, [], ◌++◌, ℕ, zero, suc, Bool, true, false, List, get_or}
 use Rattle.std.proofs.Common.{set, length, length-append, replicate, Option, None, Some, Result, Ok, Err, refl, sym, ap, ◌∙◌}
-use Rattle.std.proofs.Common.{if◌then◌else◌, inl, inr}
+use Rattle.std.proofs.Common.{◌⊎◌, if◌then◌else◌, inl, inr, is_some}
 use Rattle.std.proofs.lemmas.Bool.{cases_eq, eqb-true, eq-eqb}
 use Rattle.std.proofs.lemmas.List.{get_or-set_other, get_or-set_same, get_or_push, length-replicate}
 use Rattle.std.proofs.lemmas.List.Quantifiers.{position-Some}
@@ -12,7 +12,7 @@ use Rattle.iox_domain.specs.DomainValues.declared.degradation.DegradationAction.
 use Rattle.iox_domain.specs.DomainValues.declared.degradation.DegradationInfo.{DegradationInfo}
 use Rattle.iox_domain.specs.DomainSlots.Uses.{Connection, nobody, connected, ended, welcomed}
 use Rattle.iox_domain.specs.DomainPorts.Messages.{Message}
-use Rattle.iox_domain.specs.DomainPorts.Places.{reached, leads_to}
+use Rattle.iox_domain.specs.DomainPorts.Places.{is_attached, reached, leads_to}
 use Rattle.iox_domain.specs.DomainPorts.Ports.{connection_of, connection_to, goes_on, is_live, greeted_at, with_connection_of, Connects}
 use Rattle.iox_domain.specs.DomainPorts.Ports.{Joins, Attaches, attached_at}
 use Rattle.iox_domain.specs.DomainPorts.Ties.{tie_put}
@@ -21,7 +21,7 @@ use Rattle.iox_domain.specs.DomainPorts.PublisherUpdating.{FollowsTo, FollowsAll
 use Rattle.iox_domain.specs.DomainPorts.declared.publisher_port.PublisherPort.{PublisherPort}
 use Rattle.iox_domain.specs.DomainPorts.declared.reader.Reader.{Reader}
 use Rattle.iox_domain.specs.DomainPorts.declared.subscriber_entry.SubscriberEntry.{SubscriberEntry}
-use Rattle.iox_domain.specs.PortLawsLaws.{IsListApart, IsTiedWell}
+use Rattle.iox_domain.specs.PortLawsLaws.{IsKnown, IsListApart, IsTiedWell}
 use Rattle.iox_domain.proofs.Numbered.{bool_false}
 
 -- Ties are as before, connections that go on still do, and lead to whom they did.
@@ -31,6 +31,14 @@ pub record Kept {T U : Type 0} (old new : PublisherPort T U) : Type 0 where
   pub leads : (subscriber index : ℕ) → is_live index old ≡ true
       → leads_to subscriber (get_or new.readers index None) ≡ leads_to subscriber (get_or old.readers index None)
   pub read : (subscriber index : ℕ) → leads_to subscriber (get_or new.readers index None) ≡ true → is_live index new ≡ true
+  pub known : (index : ℕ) → is_live index new ≡ true
+      → IsKnown index new ⊎ ((is_live index old ≡ true) × (IsKnown index old → IsKnown index new))
+
+-- it is known still where its reader is the same, and each tie
+pub known_still : {T U : Type 0} (index : ℕ) (old new : PublisherPort T U) → get_or new.readers index None ≡ get_or old.readers index None
+    → new.ties ≡ old.ties → IsKnown index old → IsKnown index new
+known_still index old new reader ties (inl reads) = inl (ap is_attached reader ∙ reads)
+known_still index old new reader ties (inr (place, tie)) = inr (place, ap (λ all. get_or all.items place None) ties ∙ tie)
 
 tie_kept : {T U : Type 0} (old new : PublisherPort T U) (subscriber : ℕ) (tie : Option ℕ)
     → ((index : ℕ) → tie ≡ Some index
@@ -48,8 +56,13 @@ well_kept {T} {U} next places old new kept well = record {
   alone = λ place other member listed not. tie_same member.value.subscriber other ∙ well.alone place other member listed not;
   below = λ place subscriber is. well.below place subscriber (sym (tie_same subscriber place) ∙ is);
   room = omega (arith, well.room, ap (λ ties. ties.room) kept.ties);
+  known = λ index live. known index (kept.known index live);
 }
   where
+    known : (index : ℕ) → IsKnown index new ⊎ ((is_live index old ≡ true) × (IsKnown index old → IsKnown index new)) → IsKnown index new
+    known index (inl now) = now
+    known index (inr was) = was.1 (well.known index was.0)
+
     before : (place index : ℕ) → get_or new.ties.items place None ≡ Some index → get_or old.ties.items place None ≡ Some index
     before place index is = ap (λ ties. get_or ties.items place None) (sym kept.ties) ∙ is
 
@@ -138,6 +151,10 @@ well_alike next places old new alike well = well_kept next places old new (recor
   leads = λ subscriber index live. ap (λ readers. leads_to subscriber (get_or readers index None)) alike.readers;
   read = λ subscriber index leads. alike.live index ∙ well.read subscriber index
       (ap (λ readers. leads_to subscriber (get_or readers index None)) (sym alike.readers) ∙ leads);
+  known = λ index live. inr (
+    sym (alike.live index) ∙ live,
+    known_still index old new (ap (λ readers. get_or readers index None) alike.readers) alike.ties,
+  );
 }) well
 
 -- the connection that a place is tied to ends
@@ -147,6 +164,21 @@ record Ended {T U : Type 0} (place index : ℕ) (old new : PublisherPort T U) : 
   stands : new.stands ≡ old.stands
   readers : new.readers ≡ set old.readers index None
   live : (other : ℕ) → other ≢ index → is_live other new ≡ is_live other old
+  over : is_live index new ≡ false
+
+-- a connection that ended doesn't go on
+ended_stops : {T U : Type 0} (connection : Connection (Message T U)) → goes_on (ended connection).stage ≡ false
+ended_stops {T} {U} connection = by connection.borrowed
+  where
+    by : (borrowed : List (Message T U)) → goes_on (ended (record connection { borrowed = borrowed })).stage ≡ false
+    by [] = refl
+    by (message ∷ borrowed) = refl
+
+over_there : {T U : Type 0} (connections : List (Connection (Message T U))) (index : ℕ) (connection : Connection (Message T U))
+    → goes_on connection.stage ≡ false → goes_on (get_or (set connections index connection) index nobody).stage ≡ false
+over_there [] index connection is = refl
+over_there (one ∷ connections) zero connection is = is
+over_there (one ∷ connections) (suc index) connection is = over_there connections index connection is
 
 well_ended : {T U : Type 0} (next : ℕ) (places : List (Option (Member SubscriberEntry))) (place index : ℕ) (old new : PublisherPort T U)
     → get_or old.ties.items place None ≡ Some index → Ended place index old new
@@ -167,8 +199,26 @@ well_ended {T} {U} next places place index old new tie ended well = record {
     | inr apart ↦ well.below one subscriber (sym (tie_other subscriber one apart) ∙ is)
   ];
   room = omega (arith, well.room, ended.room);
+  known = λ at live. known at live (off at live) (well.known at (sym (ended.live at (off at live)) ∙ live));
 }
   where
+    off : (at : ℕ) → is_live at new ≡ true → at ≢ index
+    off at live same = let no : true ≡ false = sym live ∙ ap (λ i. is_live i new) same ∙ ended.over in cc
+
+    known : (at : ℕ) → is_live at new ≡ true → at ≢ index → IsKnown at old → IsKnown at new
+    known at live not (inl reads) =
+        inl (ap (λ readers. is_attached (get_or readers at None)) ended.readers
+        ∙ ap is_attached (get_or-set_other old.readers index at None None not) ∙ reads)
+    known at live not (inr (one, there)) =
+        let elsewhere : one ≢ place = λ same.
+        let both : Some index ≡ Some at = sym tie ∙ ap (λ p. get_or old.ties.items p None) (sym same) ∙ there in
+        let is : at ≡ index = cc in not is in
+        inr (
+          one,
+          ap (λ items. get_or items one None) ended.items
+              ∙ get_or-set_other old.ties.items place one None None elsewhere ∙ there,
+        )
+
     gone : get_or new.ties.items place None ≡ None
     gone = ap (λ items. get_or items place None) ended.items ∙ gone_there old.ties.items place
 
@@ -234,6 +284,11 @@ module _ {T U : Type 0} (next : ℕ) (places : List (Option (Member SubscriberEn
       ∙ ap (λ reader. leads_to subscriber reader) (gone_there old.readers index) in
       let no : false ≡ true = sym none ∙ leads in cc
 
+  not_live : (at : ℕ) → is_live at (gone_at index old) ≡ true → at ≢ index
+  not_live at live same =
+      let no : true ≡ false = sym live ∙ ap (λ i. is_live i (gone_at index old)) same
+      ∙ over_there old.sender.uses.connections index (ended (connection_of index old)) (ended_stops (connection_of index old)) in cc
+
   pub well_gone : IsTiedWell next places (gone_at index old)
   well_gone = record {
     apart = well.apart;
@@ -244,6 +299,10 @@ module _ {T U : Type 0} (next : ℕ) (places : List (Option (Member SubscriberEn
     alone = λ place other member listed not. same_tie member.value.subscriber other ∙ well.alone place other member listed not;
     below = λ place subscriber is. well.below place subscriber (sym (same_tie subscriber place) ∙ is);
     room = well.room;
+    known = λ at live.
+        let not = not_live at live in
+        known_still at old (gone_at index old) (get_or-set_other old.readers index at None None not) refl
+        (well.known at (sym (live_still at not) ∙ live));
   }
 
 -- What a step of an update comes to.
@@ -291,6 +350,7 @@ let_go_by {T} {U} next places place index true port gone tie live is =
         live = λ other not. ap (λ one. goes_on one.stage)
             (get_or-set_other gone.sender.uses.connections index other (ended (connection_of index gone)) nobody not)
             ∙ ap (λ one. is_live other one) is;
+        over = over_there gone.sender.uses.connections index (ended (connection_of index gone)) (ended_stops (connection_of index gone));
       });
     }
 let_go_by next places place index false port gone tie live is = record {
@@ -332,6 +392,9 @@ pub record TiedTo {T U : Type 0} (place subscriber index : ℕ) (old new : Publi
   leads_there : leads_to subscriber (get_or new.readers index None) ≡ true
   read : (one at : ℕ) → leads_to one (get_or new.readers at None) ≡ true → is_live at new ≡ true
   pub free : (other : ℕ) → other ≢ place → get_or old.ties.items other None ≡ Some index → ⊥
+  known : (at : ℕ) → at ≢ index → is_live at new ≡ true
+      → (is_live at old ≡ true) × (is_attached (get_or new.readers at None) ≡ is_attached (get_or old.readers at None))
+  vacant : get_or old.ties.items place None ≡ None
 
 well_tied : {T U : Type 0} (next : ℕ) (places : List (Option (Member SubscriberEntry))) (place index : ℕ)
     (member : Member SubscriberEntry) (old new : PublisherPort T U) → IsListApart next places → get_or places place None ≡ Some member
@@ -362,8 +425,20 @@ well_tied {T} {U} next places place index member old new list listed tied well =
     | inr not ↦ well.below one subscriber (sym (tie_other subscriber one not) ∙ is)
   ];
   room = omega (arith, well.room, tied.room);
+  known = λ at live. elim (cases_eq at index) [
+    | inl same ↦ inr (place, tied.here ∙ ap (λ i. Some i) (sym same))
+    | inr not ↦ let was = tied.known at not live in known at was.1 (well.known at was.0)
+  ];
 }
   where
+    known : (at : ℕ) → is_attached (get_or new.readers at None) ≡ is_attached (get_or old.readers at None) → IsKnown at old
+        → IsKnown at new
+    known at same (inl reads) = inl (same ∙ reads)
+    known at same (inr (one, there)) =
+        let elsewhere : one ≢ place = λ here.
+        let no : None ≡ Some at = sym tied.vacant ∙ ap (λ p. get_or old.ties.items p None) (sym here) ∙ there in cc in
+        inr (one, tied.others one elsewhere ∙ there)
+
     here_is : (one at : ℕ) → one ≡ place → get_or new.ties.items one None ≡ Some at → index ≡ at
     here_is one at same is = let both : Some index ≡ Some at = sym tied.here ∙ ap (λ p. get_or new.ties.items p None) (sym same) ∙ is in cc
 
@@ -478,8 +553,8 @@ pub tied_joined : {T U : Type 0} (next : ℕ) (places : List (Option (Member Sub
     (member : Member SubscriberEntry) (found : Option ℕ) (old joined new : PublisherPort T U)
     → IsTiedWell next places old → get_or places place None ≡ Some member → connection_to member.value.subscriber old ≡ found
     → Joins member.value.subscriber limit found (within_reach place old) (Ok index) joined → new ≡ tied place index joined
-    → TiedTo place member.value.subscriber index old new
-tied_joined {T} {U} next places place index limit member found old joined new well listed is_found joins is
+    → get_or old.ties.items place None ≡ None → TiedTo place member.value.subscriber index old new
+tied_joined {T} {U} next places place index limit member found old joined new well listed is_found joins is vacant
     = elim found as (λ found. connection_to member.value.subscriber old ≡ found
     → Joins member.value.subscriber limit found (within_reach place old) (Ok index) joined
     → TiedTo place member.value.subscriber index old new) [
@@ -496,6 +571,10 @@ tied_joined {T} {U} next places place index limit member found old joined new we
           (ap (λ port. leads_to one (get_or port.readers at None)) (sym joined_is.1) ∙ lead))
           (λ other not tie. let no : true ≡ false
           = sym leads ∙ ap (λ t. is_tie_to member.value.subscriber t old) (sym tie) ∙ well.alone place other member listed not in cc)
+          (λ at not live. (
+            sym (ap (λ port. is_live at port) joined_is.1) ∙ live,
+            ap (λ port. is_attached (get_or port.readers at None)) joined_is.1,
+          ))
       | None ↦ λ is_none made_is.
           let made : MadeAt member.value.subscriber index (within_reach place old) joined
           = connects_made member.value.subscriber limit index false (within_reach place old) joined made_is in
@@ -510,6 +589,7 @@ tied_joined {T} {U} next places place index limit member found old joined new we
             | inr not ↦ made.live at not ∙ well.read one at (ap (λ reader. leads_to one reader) (sym (made.readers at not)) ∙ lead)
           ])
           (λ other not tie. let no : true ≡ false = sym (well.live other index tie) ∙ made.none in cc)
+          (λ at not live. (sym (made.live at not) ∙ live, ap is_attached (made.readers at not)))
     ] is_found joins
   where
     finish : joined.ties ≡ (within_reach place old).ties → joined.stands ≡ old.stands
@@ -519,8 +599,10 @@ tied_joined {T} {U} next places place index limit member found old joined new we
         → leads_to member.value.subscriber (get_or joined.readers index None) ≡ true
         → ((one at : ℕ) → leads_to one (get_or joined.readers at None) ≡ true → is_live at joined ≡ true)
         → ((other : ℕ) → other ≢ place → get_or old.ties.items other None ≡ Some index → ⊥)
+        → ((at : ℕ) → at ≢ index → is_live at joined ≡ true
+        → (is_live at old ≡ true) × (is_attached (get_or joined.readers at None) ≡ is_attached (get_or old.readers at None)))
         → TiedTo place member.value.subscriber index old new
-    finish ties stands live leads goes leads_there read free =
+    finish ties stands live leads goes leads_there read free known =
         let given : PublisherPort T U = record joined { ties = tie_put place (Some index) joined.ties } in
         let alike : Alike given new = alike_on given (tied place index joined) new
         (greeted_alike index (is_live index given) (connection_of index given).waiting given)
@@ -542,20 +624,40 @@ tied_joined {T} {U} next places place index limit member found old joined new we
           read = λ one at lead. alike.live at ∙ read one at
               (ap (λ readers. leads_to one (get_or readers at None)) (sym alike.readers) ∙ lead);
           free = free;
+          known = λ at not is_on.
+              let was = known at not (sym (alike.live at) ∙ is_on) in
+              (was.0, ap (λ readers. is_attached (get_or readers at None)) alike.readers ∙ was.1);
+          vacant = vacant;
         }
 
 steps_ties : {T U : Type 0} (next : ℕ) (places : List (Option (Member SubscriberEntry))) (place : ℕ) (member : Member SubscriberEntry)
     (old new : PublisherPort T U) (outcome : Result (Unit {0}) AllocError) → IsListApart next places
-    → get_or places place None ≡ Some member → IsTiedWell next places old → Ties place member.value old outcome new
-    → (new.stands ≡ old.stands) × IsTiedWell next places new
-steps_ties next places place member old new (Err error) list listed well ties =
+    → get_or places place None ≡ Some member → IsTiedWell next places old → get_or old.ties.items place None ≡ None
+    → Ties place member.value old outcome new → (new.stands ≡ old.stands) × IsTiedWell next places new
+steps_ties next places place member old new (Err error) list listed well vacant ties =
     let steps = steps_is next places old new ties.1 in
     (steps.stands, steps.well well)
-steps_ties {T} {U} next places place member old new (Ok done) list listed well ties =
+steps_ties {T} {U} next places place member old new (Ok done) list listed well vacant ties =
     let (index, joined, joins, is) = ties in
     let to = tied_joined next places place index _ member (connection_to member.value.subscriber old) old joined new well listed refl
-    joins is in
+    joins is vacant in
     (to.stands, well_tied next places place index member old new list listed to well)
+
+-- a place that is untied is tied to none
+either_vacant : {T U : Type 0} (live : Bool) (place : ℕ) (one other : PublisherPort T U) → get_or one.ties.items place None ≡ None
+    → get_or other.ties.items place None ≡ None → get_or (if live then one else other).ties.items place None ≡ None
+either_vacant true place one other first second = first
+either_vacant false place one other first second = second
+
+let_go_vacant : {T U : Type 0} (place : ℕ) (tie : Option ℕ) (port : PublisherPort T U) → get_or port.ties.items place None ≡ tie
+    → get_or (let_go_of place tie port).ties.items place None ≡ None
+let_go_vacant place None port is = is
+let_go_vacant {T} {U} place (Some index) port is =
+    let gone : PublisherPort T U = record port { ties = tie_put place None port.ties } in
+    either_vacant (is_live index gone) place _ gone (gone_there port.ties.items place) (gone_there port.ties.items place)
+
+untied_vacant : {T U : Type 0} (place : ℕ) (port : PublisherPort T U) → get_or (untied place port).ties.items place None ≡ None
+untied_vacant place port = let_go_vacant place (get_or port.ties.items place None) port refl
 
 -- a place is followed
 follows_to_well : {T U : Type 0} (next : ℕ) (places : List (Option (Member SubscriberEntry))) (place : ℕ)
@@ -568,7 +670,8 @@ follows_to_well next places place member true old new outcome list listed well f
     (steps.stands, steps.well well)
 follows_to_well next places place member false old new outcome list listed well follows =
     let one = steps_untied next places place old in
-    let two = steps_ties next places place member (untied place old) new outcome list listed (one.well well) follows in
+    let two = steps_ties next places place member (untied place old) new outcome list listed (one.well well) (untied_vacant place old)
+    follows in
     (two.0 ∙ one.stands, two.1)
 
 pub follows_well : {T U : Type 0} (next : ℕ) (places : List (Option (Member SubscriberEntry))) (place : ℕ)
@@ -654,6 +757,17 @@ attaches_kept {T} {U} subscriber limit index (Some there) old joined new read is
         live = λ at live. live_same at ∙ live;
         leads = λ one at live. leads_same one at;
         read = λ one at lead. live_same at ∙ read one at (sym (leads_same one at) ∙ lead);
+        known = λ at live. elim (cases_eq at index) [
+          | inl here ↦ inl (inl (ap (λ i. is_attached (get_or new.readers i None)) here
+              ∙ ap (λ all. is_attached (get_or all index None)) readers
+              ∙ ap is_attached (get_or-set_same old.readers index (Some reader) None within)))
+          | inr not ↦ inr (
+            sym (live_same at) ∙ live,
+            known_still at old new (ap (λ all. get_or all at None) readers
+                ∙ get_or-set_other old.readers index at (Some reader) None not)
+                (ap (λ port. port.ties) is ∙ ap (λ port. port.ties) joins.1),
+          )
+        ];
       },
     )
   where
@@ -678,8 +792,27 @@ attaches_kept {T} {U} subscriber limit index None old joined new read is_found j
           | inl same ↦ live_same at ∙ ap (λ i. is_live i joined) same ∙ made.goes
           | inr not ↦ live_same at ∙ made.live at not ∙ read one at (ap (λ r. leads_to one r) (sym (reader_other at not)) ∙ lead)
         ];
+        known = λ at live. elim (cases_eq at index) [
+          | inl here ↦ inl (inl (ap (λ i. is_attached (get_or new.readers i None)) here
+              ∙ ap (λ all. is_attached (get_or all index None)) readers
+              ∙ ap is_attached (set_reader joined.readers index reader (reader_there (get_or joined.readers index None) made.leads_there))))
+          | inr not ↦ inr (
+            sym (made.live at not) ∙ sym (live_same at) ∙ live,
+            known_still at old new (reader_other at not) (ap (λ port. port.ties) is ∙ made.ties),
+          )
+        ];
       },
     )
+  where
+    reader_there : (found : Option Reader) → leads_to subscriber found ≡ true → is_some found ≡ true
+    reader_there None leads = cc
+    reader_there (Some reader) leads = refl
+
+    set_reader : (readers : List (Option Reader)) (at : ℕ) (reader : Reader) → is_some (get_or readers at None) ≡ true
+        → get_or (set readers at (Some reader)) at None ≡ Some reader
+    set_reader [] at reader is = let no : false ≡ true = is in absurd (cc)
+    set_reader (one ∷ readers) zero reader is = refl
+    set_reader (one ∷ readers) (suc at) reader is = set_reader readers at reader is
 
 pub attaches_well : {T U : Type 0} (next : ℕ) (places : List (Option (Member SubscriberEntry))) (subscriber limit index : ℕ)
     (old new : PublisherPort T U) → Attaches subscriber limit old (Ok index) new → IsTiedWell next places old

@@ -1,6 +1,8 @@
 -- The ties of the publishers of a service stay apart, step by step.
 use Rattle.std.proofs.Common.{◌≡◌, ◌≢◌, ◌+◌, ◌&&◌, ◌∷◌, [], ℕ, zero, suc, Bool, true, false, not, List, get_or, set, length, Option, None}
-use Rattle.std.proofs.Common.{Some, Result, Ok, Err, refl, sym, ap, ◌∙◌, if◌then◌else◌}
+use Rattle.std.proofs.Common.{Some, Result, Ok, Err, refl, sym, ap, ◌∙◌, if◌then◌else◌, inl, inr}
+use Rattle.std.proofs.lemmas.Bool.{cases_eq}
+use Rattle.std.proofs.lemmas.List.{get_or-set_other}
 use Rattle.std.specs.List.{All, remove}
 use Rattle.std.specs.declared.alloc.AllocError.{AllocError}
 use Rattle.iox_domain.specs.Container.declared.container.Member.{Member}
@@ -19,7 +21,7 @@ use Rattle.iox_domain.specs.DomainPorts.Places.{leads_to, left, is_attached}
 use Rattle.iox_domain.specs.DomainPorts.Ports.{connection_of, connection_to, goes_on, is_live, ended_at, detached_at, Joins, Attaches}
 use Rattle.iox_domain.specs.DomainPorts.Ports.{unread_at, with_connection_of}
 use Rattle.iox_domain.specs.DomainPorts.Ties.{has_tie}
-use Rattle.iox_domain.proofs.DomainPorts.Untied.{none_tied}
+use Rattle.iox_domain.proofs.DomainPorts.Untied.{none_tied, some_tied}
 use Rattle.iox_domain.specs.DomainPorts.Sending.{ready_loan}
 use Rattle.iox_domain.specs.DomainPorts.PublisherUpdating.{Updates}
 use Rattle.iox_domain.specs.DomainPorts.declared.meeting.Sent.{Sent}
@@ -37,7 +39,7 @@ use Rattle.iox_domain.specs.Rolls.{RollState, IsListOf}
 use Rattle.iox_domain.proofs.Carrying.{Carries, carry_sends}
 use Rattle.iox_domain.proofs.Numbered.{at_number, FoundEntry, found_of_all, all_set, all_gone}
 use Rattle.iox_domain.proofs.TiedWell.{Alike, alike_is, alike_still, alike_waiting, well_alike, well_kept, still_there, updates_well}
-use Rattle.iox_domain.proofs.TiedWell.{attaches_well, well_gone}
+use Rattle.iox_domain.proofs.TiedWell.{attaches_well, known_still, well_gone}
 use Rattle.iox_domain.proofs.Walks.{Walks, WalksTaking, WalksLeaving}
 
 -- a publisher that stands is tied well after a step if it was before
@@ -173,20 +175,24 @@ goes_gone next places index true port untied well stands = well_gone next places
 goes_gone next places index false port untied well stands = well stands
 
 goes_unread : {T U : Type 0} (next : ℕ) (places : List (Option (Member SubscriberEntry))) (index : ℕ) (port : PublisherPort T U)
-    → Goes next places port (unread_at index port)
-goes_unread next places index port well stands =
+    → (place : ℕ) × (get_or port.ties.items place None ≡ Some index) → Goes next places port (unread_at index port)
+goes_unread next places index port tied well stands =
     let was : IsTiedWell next places port = well stands in
     well_kept next places port (unread_at index port) (record {
       ties = refl;
       live = λ at live. live;
       leads = λ subscriber at live. left_leads subscriber index at port.readers;
       read = λ subscriber at leads. was.read subscriber at (sym (left_leads subscriber index at port.readers) ∙ leads);
+      known = λ at live. elim (cases_eq at index) [
+        | inl same ↦ inl (inr (tied.0, tied.1 ∙ ap (λ i. Some i) (sym same)))
+        | inr not ↦ inr (live, known_still at port (unread_at index port) (get_or-set_other port.readers index at _ None not) refl)
+      ];
     }) was
 
 goes_detached_by : {T U : Type 0} (next : ℕ) (places : List (Option (Member SubscriberEntry))) (index : ℕ) (tied : Bool)
     (port : PublisherPort T U) → has_tie index port.ties ≡ tied
     → Goes next places port (if tied then unread_at index port else ended_at index port)
-goes_detached_by next places index true port is = goes_unread next places index port
+goes_detached_by next places index true port is = goes_unread next places index port (some_tied index port.ties is)
 goes_detached_by next places index false port is
     = goes_gone next places index (is_live index port) port (none_tied index port.ties is)
 

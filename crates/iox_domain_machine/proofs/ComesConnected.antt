@@ -377,7 +377,7 @@ module _ {T U : Type 0} (types : MessageTypeDetails) (choices : Choices T) (buff
             found_place.1 found_place.0 refl refl refl refl refl refl first_is first_boxes led_apart
 
         well_first : IsTiedWell (next + 1) old.subscriber_list.places first
-        well_first = new_well (next + 1) old.subscriber_list.places first refl refl (omega (arith, roomy.tied.places))
+        well_first = new_well (next + 1) old.subscriber_list.places first refl refl refl (omega (arith, roomy.tied.places))
 
         apart_now : IsApart there_ports
         apart_now = record {
@@ -398,6 +398,7 @@ module _ {T U : Type 0} (types : MessageTypeDetails) (choices : Choices T) (buff
                 alone = was.alone;
                 below = λ at_place subscriber is. let it = was.below at_place subscriber is in omega (arith, it);
                 room = was.room;
+                known = was.known;
               }) roomy.tied.well);
         }
 

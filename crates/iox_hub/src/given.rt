@@ -1,17 +1,17 @@
-//! Handlers that are handed in, by their places.
+//! Handed-in handlers, by their places.
 ghost use Rattle.std.specs.Prelude.{◌≡◌, ◌++◌, [], ◌∷◌, Some, is_some, IsSome, IfOk, OnErr, length, option_copied};
 ghost use Rattle.iox_hub.specs.Places.{lies_at, emptied, emptied_if, named, backpressure_of, degradation_of};
 
 use std::alloc::{AllocError, Global};
 
-/// A handler that is handed in for a run. Which of the two it is, is its kind.
+/// A handler that is handed in for a run. Its variant is its kind.
 ///
-/// `P` decides at a full mailbox, `D` where a connection failed. This port's own.
+/// `P` decides at a full mailbox, `D` at a failed connection. This port's own.
 #[derive(Drop)]
 pub enum GivenHandler<P, D> {
-    /// It is asked at a full mailbox.
+    /// A handler for full mailboxes.
     Backpressure(P),
-    /// It is asked where a connection failed.
+    /// A handler for failed connections.
     Degradation(D),
 }
 
@@ -25,7 +25,7 @@ pub struct GivenHandlers<P, D> {
 }
 
 impl<P, D> GivenHandlers<P, D> {
-    /// No handlers. It takes no memory.
+    /// A value without handlers. It takes no memory.
     /// Example: `let mut given = GivenHandlers::new(alloc);`
     pub fn new(alloc: Global) -> Self
         ensures { result.places.items ≡ [] }
@@ -37,9 +37,9 @@ impl<P, D> GivenHandlers<P, D> {
 }
 
 impl<P: Drop, D: Drop> GivenHandlers<P, D> {
-    /// Hands a handler in, and answers its place, which is the next one.
+    /// Hands in a handler, and returns its place, which is the next one.
     ///
-    /// Fails only where an allocation fails: then nothing has changed, and the handler is dropped.
+    /// Fails only if an allocation fails; then nothing has changed, and the handler is dropped.
     /// Example: `let place = given.hand_in(GivenHandler::Degradation(handler))?;`
     pub fn hand_in(&mut self, handler: GivenHandler<P, D>) -> Result<u64, AllocError>
         ensures place { IfOk result (λ place. place ≡ length self.new.places.items) }

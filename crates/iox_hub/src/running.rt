@@ -24,16 +24,16 @@ use iox_hub_commands::{NumberedHub, RunReport, SubscriberHandler};
 use iox_queues_base::Words;
 use std::alloc::Global;
 
-/// Carries out commands, one after another, once there is room for all replies. Those that make ports take the handlers that they name by
-/// their places; those that no port took are left in their places.
+/// Carries out commands, one after the other, once there is capacity for all replies. Commands that create ports take the handlers that
+/// they name by their places; all other handlers are left in their places.
 ///
-/// It stops before the first command, where an allocation fails for that room, and then nothing has changed; or at a command
-/// that receives or reads, where an allocation fails for the values of its reply, and those before it are replied to. It makes
-/// no room for numbers: each port made that when it came.
+/// It stops before the first command if an allocation fails for that capacity, and then nothing has changed; or at a command that receives
+/// or reads, if an allocation fails for the values of its reply, and then those before it have their replies. It makes no capacity for
+/// numbers: each port made that when it was created.
 ///
-/// What a new hub replies is what a new machine may answer (`docs/MACHINE.md`), for whose ports those decide who were handed in. That is
-/// where no two services of the names that are asked for share a hash, commands and steps are fewer than 2 ^ 56, and who is made of
-/// actions decides by these.
+/// The replies of a new hub are ones that a new machine with the same handed-in handlers may give (`docs/MACHINE.md`). This holds if no two
+/// services of the names that are asked for share a hash, commands and actions of other nodes are fewer than 2 ^ 56, and handlers that are
+/// made of fixed actions decide by these.
 /// Example: `let report = run(&mut hub, alloc, commands, &mut given);`
 pub fn run<
     T: Words + ZeroCopySend + Default,

@@ -1,4 +1,4 @@
-//! From a service that was negotiated to a factory of the hub.
+//! How a service that was negotiated becomes a factory of the hub.
 ghost use Rattle.std.specs.Prelude.{◌≡◌, Bool, false, true, if◌then◌else◌, IfOk, OnOk, OnErr};
 ghost use Rattle.std.specs.Result.{result_map_both};
 ghost use Rattle.iox_delivery_factories.specs.DescribeBase.Detail.{detail};
@@ -16,8 +16,8 @@ use iox_queues_base::Words;
 use std::alloc::{AllocError, Global};
 use std::mem;
 
-/// The errors of a call that negotiates a service, where no memory is found for it after the last access: where the service had been
-/// opened, and where it had been created.
+/// The errors of a call that negotiates a service, if memory runs out after its last access: one if the service was opened, one if it was
+/// created.
 #[derive(Clone, Copy)]
 pub(crate) struct Lacking<E> {
     pub(crate) opened: E,
@@ -25,7 +25,7 @@ pub(crate) struct Lacking<E> {
 }
 
 impl<E: Copy> Lacking<E> {
-    /// The same error, whether the service had been opened or created.
+    /// The same error, whether the service was opened or created.
     pub(crate) fn either_way(error: E) -> Self
         ensures { result ≡ record { opened = error; created = error } }
     {
@@ -79,8 +79,9 @@ impl<T: Copy, U: Copy, B: Drop, D: Drop> Hub<T, U, B, D> {
         Stepped::new(mem::replace(&mut self.table, Table::new(alloc, 0)), steps)
     }
 
-    /// What a call that opens a service needs: the table, with these lists of steps to do before its accesses, and room for the service.
-    /// The hub is without them until they are put back. Fails only where an allocation fails, and then nothing has changed.
+    /// What a call that opens a service needs: the table, with these lists of actions of other nodes to do before its accesses, and
+    /// capacity for the service. The hub is without them until they are put back. It fails only if an allocation fails, and then nothing
+    /// has changed.
     pub(crate) fn lend_parts(
         &mut self,
         alloc: Global,
@@ -112,7 +113,7 @@ impl<T: Copy, U: Copy, B: Drop, D: Drop> Hub<T, U, B, D> {
 }
 
 impl<T: Words + ZeroCopySend, U: Copy + ZeroCopySend, B: Drop, D: Drop> Hub<T, U, B, D> {
-    /// Puts back what was lent, and answers the factory of the hub for what was negotiated, if that is a service.
+    /// Puts back what was taken out of the hub for the call, and returns the factory of a service that was negotiated, or its error.
     pub(crate) fn settle<P: Pattern, E: Copy>(
         &mut self,
         alloc: Global,

@@ -1,4 +1,4 @@
-//! Nodes of others act on the services of a hub.
+//! Actions of other nodes on the services of a hub.
 ghost use Rattle.std.specs.Prelude.{◌≡◌};
 ghost use Rattle.iox_delivery_factories.specs.DescribeBase.Hash.{service_hash_of};
 ghost use Rattle.iox_negotiate_table.specs.Stepped.{ActsAll};
@@ -11,10 +11,10 @@ use iox_negotiate_table::{ForeignStep, StepList, Table};
 use std::alloc::AllocError;
 
 impl<T: Copy, U: Copy, B: Drop, D: Drop> Hub<T, U, B, D> {
-    /// Nodes of others do these steps on the service of this pattern and name, one after the other. A step that doesn't fit changes
+    /// Does these actions of other nodes on the service of this pattern and name, one after the other. An action that doesn't fit changes
     /// nothing.
     ///
-    /// Refused with `HubError::OutOfMemory` at the first step that finds no memory; the steps before it stay done.
+    /// Refused with `HubError::OutOfMemory` at the first action that runs out of memory; the actions before it stay done.
     ///
     /// This port's own: in `iceoryx2` other processes act by themselves.
     /// Example: `hub.foreign(MessagingPattern::PublishSubscribe, &name, &steps)?;`

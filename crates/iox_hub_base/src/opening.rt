@@ -1,4 +1,4 @@
-//! A service is created or opened in a hub as a builder asks, with attributes beside those that it asks for or without.
+//! How a service is created or opened in a hub as a builder asks, with or without attributes beside those that the builder has.
 ghost use Rattle.std.specs.Prelude.{◌≡◌, IfOk, Option, false, true, option_copied};
 ghost use Rattle.std.specs.Option.{option_map_or, unwrap_or};
 ghost use Rattle.std.specs.Result.{result_map_both};
@@ -24,7 +24,7 @@ use iox_negotiate_table::{StepList, Stepped};
 use iox_queues_base::Words;
 use std::alloc::Global;
 
-/// Creates the service, with these attributes; where there are none, with those that are asked for.
+/// Creates the service with these attributes, or, if none are given, with those that the builder asks for.
 pub(crate) fn create<
     P: Negotiated,
     T: Words + ZeroCopySend,
@@ -74,7 +74,7 @@ fn created<P: Negotiated>(
     }
 }
 
-/// Opens the service, if it has these attributes, too.
+/// Opens the service if it also has these attributes.
 pub(crate) fn open<
     P: Negotiated,
     T: Words + ZeroCopySend,
@@ -122,7 +122,7 @@ fn opened<P: Negotiated>(
     }
 }
 
-/// Opens the service, if it has these attributes, too, or creates it with the required pairs.
+/// Opens the service if it also has these attributes, or creates it with the required pairs.
 pub(crate) fn open_or_create<
     P: Negotiated,
     T: Words + ZeroCopySend,

@@ -1,4 +1,4 @@
-//! A table that isn't touched.
+//! A table that runs out of memory before the first access.
 ghost use Rattle.std.specs.Prelude.{◌≡◌, Option};
 ghost use Rattle.std.specs.Option.{unwrap_or};
 ghost use Rattle.iox_delivery_factories.specs.DescribeSettings.Agreement.{AreWithinLimits, HasNoRoomForHistory};
@@ -70,8 +70,8 @@ impl Storage for Untouched {
     }
 }
 
-/// The error of a call that creates, where no memory is found before the first access: settings that can't be are told all the same. It
-/// takes no memory.
+/// The error of a call that creates, if memory runs out before the first access; settings that are impossible are still reported. It takes
+/// no memory.
 // It has a frame of its own, so that the caller's doesn't grow, below which the deepest calls are made.
 #[inline(never)]
 pub(crate) fn lacking_create<P: Negotiated>(

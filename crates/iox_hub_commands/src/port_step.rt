@@ -23,7 +23,7 @@ impl<
     B: PublisherHandlers,
     D: SubscriberHandler,
 > NumberedHub<T, U, B, D> {
-    /// Carries out one command of a port: the same as `step` for it among all commands, which are larger and cost more to hand on.
+    /// Carries out one command of a port: the same as `step` of all commands, which are larger values and cost more to pass on.
     /// Example: `let reply = hub.step_port(alloc, PortCommand::Receive { subscriber: 1 })?;`
     pub fn step_port(
         &mut self,

@@ -62,6 +62,72 @@ impl DegradationFn for InTurn<DegradationAction> {
     }
 }
 
+// What it is told at each call, in turn: the service, the sender, the receiver, how often it was tried again and for how long. It answers
+// what stands beside that; and fails what is asked where it is told otherwise, or once more.
+#[derive(Drop)]
+struct Told<A: 'static> {
+    rows: &'static [([u64; 5], A)],
+    otherwise: A,
+    calls: Cell<usize>,
+}
+
+impl<A: Copy> Told<A> {
+    fn next(&self, told: [u64; 5]) -> A {
+        let call = self.calls.get();
+        self.calls.set(call.wrapping_add(1));
+        match self.rows.get(call) {
+            Some(row) if row.0 == told => row.1,
+            _ => self.otherwise,
+        }
+    }
+}
+
+impl BackpressureFn for Told<BackpressureAction> {
+    ghost allows = { λ _ _ _. ⊤ };
+
+    fn call(&self, info: &BackpressureInfo) -> BackpressureAction {
+        self.next([
+            info.service_id,
+            info.sender_port_id,
+            info.receiver_port_id,
+            info.retries,
+            info.elapsed_time,
+        ])
+    }
+}
+
+impl DegradationFn for Told<DegradationAction> {
+    ghost allows = { λ _ _ _ _. ⊤ };
+
+    fn call(&self, cause: DegradationCause, info: &DegradationInfo) -> DegradationAction {
+        self.next([
+            info.service_id,
+            info.sender_port_id,
+            info.receiver_port_id,
+            0,
+            0,
+        ])
+    }
+}
+
+// What is told of full mailboxes, at place 7: port 4 of service 2 sends two messages to ports 1 and 2.
+const TOLD_FULL: [([u64; 5], BackpressureAction); 6] = [
+    ([2, 4, 1, 0, 0], BackpressureAction::Retry),
+    ([2, 4, 1, 1, 5], BackpressureAction::Retry),
+    ([2, 4, 1, 2, 70], BackpressureAction::DiscardData),
+    ([2, 4, 2, 0, 0], BackpressureAction::Retry),
+    ([2, 4, 1, 0, 0], BackpressureAction::DiscardData),
+    ([2, 4, 2, 0, 0], BackpressureAction::DiscardData),
+];
+
+// What is told of a connection that failed, at place 8: of port 5 of service 2 to port 2.
+const TOLD_FAILURES: [([u64; 5], DegradationAction); 4] = [
+    ([2, 5, 2, 0, 0], DegradationAction::Ignore),
+    ([2, 5, 2, 0, 0], DegradationAction::DegradeAndFail),
+    ([2, 5, 2, 0, 0], DegradationAction::Ignore),
+    ([2, 5, 2, 0, 0], DegradationAction::DegradeAndFail),
+];
+
 // What those for full mailboxes do, at places 1 to 4.
 const AT_FULL: [(BackpressureAction, BackpressureAction); 4] = [
     (BackpressureAction::Retry, BackpressureAction::DiscardData),
@@ -107,6 +173,25 @@ fn hand_in_failures(alloc: Global, given: &mut Given, more: usize) -> Result<(),
         let object = Box::new(alloc, InTurn { actions, is_second })?;
         given.hand_in(GivenHandler::Degradation(DegradationHandler::boxed(object)))?;
     }
+    Ok(())
+}
+
+// Hands in the objects that are told of each call.
+fn hand_in_told(alloc: Global, given: &mut Given) -> Result<(), AllocError> {
+    let full = Told {
+        rows: &TOLD_FULL,
+        otherwise: BackpressureAction::DiscardDataAndFail,
+        calls: Cell::new(0),
+    };
+    let object = Box::new(alloc, full)?;
+    given.hand_in(GivenHandler::Backpressure(BackpressureHandler::boxed(object)))?;
+    let failures = Told {
+        rows: &TOLD_FAILURES,
+        otherwise: DegradationAction::DegradeAndFail,
+        calls: Cell::new(0),
+    };
+    let object = Box::new(alloc, failures)?;
+    given.hand_in(GivenHandler::Degradation(DegradationHandler::boxed(object)))?;
     Ok(())
 }
 
@@ -270,6 +355,7 @@ fn take(
     match course {
         Course::Lines(rows) => {
             hand_in_failures(alloc, given, 0)?;
+            hand_in_told(alloc, given)?;
             go_on(rt, alloc, hub, given, scratch, rows)
         }
         Course::Runs(len, with_handlers) => {
@@ -389,10 +475,84 @@ const FAILURE: &[Row] = &[
     ),
 ];
 
+// Who is asked is told which service it is, which ports, and of a full mailbox how often it was tried again and for how long: once at each
+// call, and each time of the mailbox that is full.
+const ASKED_FULL: &[Row] = &[
+    ("node", None, None, "ok n1"),
+    ("create n1 ps A", None, None, "ok f1"),
+    ("close f1", None, None, "ok"),
+    (
+        "create n1 ps A overflow=0 buffer=1 publishers=3 borrowed=1",
+        None,
+        None,
+        "ok f2",
+    ),
+    ("subscriber f2", None, None, "ok s1"),
+    ("subscriber f2", None, None, "ok s2"),
+    ("publisher f2", None, None, "ok p1"),
+    ("publisher f2 handler=fail", Some(7), None, "ok p2"),
+    ("update s1", None, None, "ok"),
+    ("update s2", None, None, "ok"),
+    ("put p2 1", None, None, "ok 2"),
+    ("put p2 2", None, None, "blocked"),
+    ("retry p2 5", None, None, "blocked"),
+    ("retry p2 70", None, None, "blocked"),
+    ("receive s2", None, None, "ok m1 1"),
+    ("retry p2 9", None, None, "ok 1"),
+    ("put p2 3", None, None, "ok 0"),
+    ("put p2 4", None, None, "err SendError::UnableToDeliver"),
+];
+
+// The same of a connection that failed: at each call that tries it.
+const ASKED_FAILURE: &[Row] = &[
+    ("node", None, None, "ok n1"),
+    ("create n1 ps A", None, None, "ok f1"),
+    ("close f1", None, None, "ok"),
+    (
+        "create n1 ps A publishers=1 borrowed=1",
+        None,
+        None,
+        "ok f2",
+    ),
+    ("subscriber f2", None, None, "ok s1"),
+    ("leave s1", None, None, "ok"),
+    ("subscriber f2 degrade=fail", None, Some(8), "ok s2"),
+    ("publisher f2", None, None, "ok p1"),
+    ("put p1 7", None, None, "ok 1"),
+    ("receive s2", None, None, "ok m1 7"),
+    ("leave p1", None, None, "ok"),
+    ("update s2", None, None, "ok"),
+    ("publisher f2", None, None, "ok p2"),
+    ("put p2 8", None, None, "ok 1"),
+    ("receive s2", None, None, "ok m2 8"),
+    ("leave p2", None, None, "ok"),
+    ("update s2", None, None, "ok"),
+    ("publisher f2", None, None, "ok p3"),
+    ("receive s2", None, None, "none"),
+    (
+        "has s2",
+        None,
+        None,
+        "err ConnectionFailure::FailedToEstablishConnection(ExpiredConnectionBufferFull)",
+    ),
+    ("update s2", None, None, "ok"),
+    (
+        "receive s2",
+        None,
+        None,
+        "err ReceiveError::ConnectionFailure(FailedToEstablishConnection(ExpiredConnectionBufferFull))",
+    ),
+    ("release m1", None, None, "ok"),
+    ("put p3 9", None, None, "ok 1"),
+    ("receive s2", None, None, "ok m3 9"),
+];
+
 #[test]
 fn handlers_that_are_named_are_asked(rt: HostRuntime) -> Result<(), AllocError> {
     go(&rt, rt.alloc(), Course::Lines(FULL))?;
-    go(&rt, rt.alloc(), Course::Lines(FAILURE))
+    go(&rt, rt.alloc(), Course::Lines(FAILURE))?;
+    go(&rt, rt.alloc(), Course::Lines(ASKED_FULL))?;
+    go(&rt, rt.alloc(), Course::Lines(ASKED_FAILURE))
 }
 
 // A publisher comes.

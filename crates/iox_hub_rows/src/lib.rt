@@ -7,6 +7,8 @@
 //! - `services`: services of a hub.
 //! - `conversations`: messages of single values go from node to node, up to the last number.
 //! - `slices`: messages of slices go through a domain.
+//! - `asked`: who decides for a port is asked about a connection for which no memory is found.
+//! - `clones`: what ports tell of themselves whose builders were copied.
 //! - `custom`: ports of a payload that only the description says.
 //! - `ports`: what must be so before a call of a port.
 //! - `handled`: handlers that commands name by their places.
@@ -16,6 +18,10 @@
 //! - `values`: the text form, and the objects that a caller hands in.
 #![tactic(auto)]
 
+#[cfg(test)]
+mod asked;
+#[cfg(test)]
+mod clones;
 #[cfg(test)]
 mod conversations;
 #[cfg(test)]

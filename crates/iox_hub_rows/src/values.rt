@@ -4,9 +4,9 @@ ghost use Rattle.iox_domain_values.specs.declared.backpressure.BackpressureActio
 
 use iox_domain_values::{
     BackpressureAction, BackpressureFn, BackpressureHandler, BackpressureInfo,
-    BackpressureStrategy, DegradationAction, DegradationCause, DegradationFn, DegradationHandler,
-    DegradationInfo, Degrades, PreallocatedSamplesFn, PreallocatedSamplesOverride,
-    number_of_places,
+    BackpressureStrategy, BackpressureToReceiverAction, DegradationAction, DegradationCause,
+    DegradationFn, DegradationHandler, DegradationInfo, Degrades, PreallocatedSamplesFn,
+    PreallocatedSamplesOverride, number_of_places,
 };
 use serde_json::Error;
 use std::alloc::{AllocError, Global};
@@ -179,6 +179,36 @@ fn hold(rt: &impl Abort, answers: &[Result<bool, AllocError>]) -> Result<(), All
         assert!(rt; (*answer)?, "{place}");
     }
     Ok(())
+}
+
+// What an action at a full mailbox is told to a connection as, where it is told as anything.
+const TOLD_AS: [(BackpressureAction, BackpressureToReceiverAction); 4] = [
+    (
+        BackpressureAction::Retry,
+        BackpressureToReceiverAction::Retry,
+    ),
+    (
+        BackpressureAction::DiscardData,
+        BackpressureToReceiverAction::DiscardPointerOffset,
+    ),
+    (
+        BackpressureAction::DiscardDataAndFail,
+        BackpressureToReceiverAction::DiscardPointerOffsetAndFail,
+    ),
+    (
+        BackpressureAction::FollowBackpressureyStrategy,
+        BackpressureToReceiverAction::FollowBackpressureyStrategy,
+    ),
+];
+
+#[test]
+fn each_action_is_told_to_a_connection(rt: HostRuntime) {
+    for row in &TOLD_AS {
+        assert!(rt;
+            BackpressureToReceiverAction::from(row.0) == row.1,
+            "{row:?}"
+        );
+    }
 }
 
 #[test]

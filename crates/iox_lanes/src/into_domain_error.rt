@@ -9,7 +9,7 @@ pub enum IntoDomainError {
     /// A publisher or a subscriber is inside a call.
     #[error("IntoDomainError::PartyInCall")]
     PartyInCall,
-    /// None is, and a loan is out, or a sample.
+    /// No publisher or subscriber is inside a call, but a loan or a sample is out.
     #[error("IntoDomainError::SamplesOut")]
     SamplesOut,
 }

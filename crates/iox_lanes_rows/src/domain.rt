@@ -16,19 +16,25 @@ use iox_domain_values::{
 use std::alloc::{AllocError, Global};
 
 /// A domain of numbers of two words, with no user header.
-pub(crate) type Numbers = Domain<u128, ()>;
+pub(crate) type Numbers = Domain<Value, UserHeader>;
 
 /// What it lends to the calls of its ports.
-pub(crate) type State = DomainState<u128, ()>;
+pub(crate) type State = DomainState<Value, UserHeader>;
 
-type Ports = ServicePorts<u128, ()>;
+type Ports = ServicePorts<Value, UserHeader>;
 
-// Above each number of one word.
-const ABOVE: u128 = 1 << 64;
+/// A value has three words.
+pub(crate) type Value = [u64; 3];
 
-/// A number in both words of a value.
-pub(crate) fn in_both_words(number: u64) -> u128 {
-    u128::from(number).saturating_mul(ABOVE + 1)
+/// A user header has two.
+pub(crate) type UserHeader = u128;
+
+/// The user header of each message.
+pub(crate) const HEADER: UserHeader = (5 << 64) + 9;
+
+/// A number in the words of a value, each of which says it otherwise.
+pub(crate) fn in_all_words(number: u64) -> Value {
+    [number, !number, number ^ (1 << 40)]
 }
 
 /// What is agreed.
@@ -176,7 +182,7 @@ impl BackpressureFn for Quiet {
 // What is agreed, as it is described.
 fn described(service: &Service) -> Option<Description> {
     let name = ServiceName::new(b"A").ok()?;
-    let types = MessageTypeDetails::from::<Header, (), u128>(service.variant);
+    let types = MessageTypeDetails::from::<Header, UserHeader, Value>(service.variant);
     let mut config = StaticConfig::new(types);
     config.enable_safe_overflow = service.overflow;
     config.subscriber_max_buffer_size = service.buffer;
@@ -254,7 +260,7 @@ fn publish(alloc: Global, state: &mut State, plan: &Plan) -> bool {
         degradation: DegradationHandler::Fixed(DegradationAction::DegradeAndFail),
     };
     let slots = PreallocatedSamplesOverride::WorstCase;
-    match state.create_publisher(alloc, plan.config, (), &slots, by) {
+    match state.create_publisher(alloc, plan.config, HEADER, &slots, by) {
         Ok(number) => publisher_ties_all(&state.ports, number),
         Err(_) => false,
     }
@@ -312,9 +318,7 @@ fn send(
     let Some(Ok(slot)) = state.loan(alloc, number, 1, 1) else {
         return None;
     };
-    state
-        .ports
-        .write_payload(number, slot, in_both_words(value));
+    state.ports.write_payload(number, slot, in_all_words(value));
     state.send(alloc, number, slot)
 }
 
@@ -345,7 +349,7 @@ fn gets_nothing(alloc: Global, state: &mut State, number: u64) -> bool {
 
 // Whether a sample has this value.
 fn has_value(ports: &Ports, sample: Taken, value: u64) -> bool {
-    ports.payload(sample) == Some(&[in_both_words(value)])
+    ports.payload(sample) == Some(&[in_all_words(value)])
 }
 
 // Whether its message has this number.

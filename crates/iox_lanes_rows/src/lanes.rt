@@ -1,6 +1,6 @@
 //! What the ports of lanes send and receive, by whole calls. Messages have numbers, and ports go by their places.
 use crate::changes::NumberLanes;
-use crate::domain::in_both_words;
+use crate::domain::{HEADER, UserHeader, Value, in_all_words};
 use crate::stepping::{MOST_STEPS, step, whole};
 use iox_lanes::{
     Answer, Call, Delivery, Lanes, LoanAnswer, Move, Party, Receipt, SendAnswer, Stepped,
@@ -73,19 +73,22 @@ pub(crate) const FULL: SendAnswer = SendAnswer::UnableToDeliver(Delivery {
 });
 
 /// The user header of what is sent: the send sets the number.
-pub(crate) const USER_HEADER: WithSequence<()> = WithSequence {
+pub(crate) const USER_HEADER: WithSequence<UserHeader> = WithSequence {
     sequence: 0,
-    user_header: (),
+    user_header: HEADER,
 };
 
 /// Whether these are the values of this message.
 pub(crate) fn are_values(
-    values: Option<(WithSequence<()>, u128)>,
+    values: Option<(WithSequence<UserHeader>, Value)>,
     sequence: u64,
     value: u64,
 ) -> bool {
     match values {
-        Some((header, came)) => header.sequence == sequence && came == in_both_words(value),
+        Some((header, came)) => {
+            (header.sequence, header.user_header) == (sequence, HEADER)
+                && came == in_all_words(value)
+        }
         None => false,
     }
 }
@@ -120,7 +123,7 @@ fn sends(
     let Some(loan) = lent(lanes, party, pace.loan) else {
         return Ok(false);
     };
-    let write = Call::write(alloc, loan, &in_both_words(value), &USER_HEADER)?;
+    let write = Call::write(alloc, loan, &in_all_words(value), &USER_HEADER)?;
     Ok(send_loan(lanes, party, loan, write, pace.send) == Some(Answer::Sent(answer)))
 }
 

@@ -29,26 +29,28 @@ fn lending(count: u64) -> Plan {
     plan
 }
 
-// Whether as many messages stand in the history, wait for the subscriber and are in the lanes, of which one is received there. As many may
-// be borrowed and lent.
+// Whether as many messages stand in the history, wait for the subscriber and are in the lanes, of which one is received there, beside a
+// publisher without any. As many may be borrowed and lent.
 fn has_messages(rt: &impl Wait, alloc: Global, count: u64) -> Result<bool, AllocError> {
     let steps = [
         Step::Comes(Arrival::Publisher(lending(count))),
         Step::Comes(Arrival::Fill(1, count)),
+        Step::Comes(Arrival::Publisher(PLAIN)),
         Step::Comes(Arrival::Subscriber(None)),
         Step::Comes(Arrival::Meeting),
         Step::Opens(None),
         Step::Lanes(InLanes::Gets(0, 1, 0)),
         Step::Returns(None),
     ];
-    Ok(go(rt, alloc, &service(1, (count, count), count), &steps)? == steps.len())
+    Ok(go(rt, alloc, &service(2, (count, count), count), &steps)? == steps.len())
 }
 
-// A loan and a send to so many subscribers, at each of which one message may wait and one be borrowed, with a word of number.
+// A loan and a send to so many subscribers, at each of which one message may wait and one be borrowed, with a word of number and two of a
+// user header.
 fn pace_of(count: u64) -> Pace {
     Pace {
         loan: count.saturating_mul(16).saturating_add(2),
-        send: count.saturating_mul(20).saturating_add(8),
+        send: count.saturating_mul(20).saturating_add(10),
     }
 }
 

@@ -1,6 +1,6 @@
 //! What the ports of a domain send and receive in threads. Messages have numbers, and ports go by their places.
 use crate::changes::NumberThreads;
-use crate::domain::in_both_words;
+use crate::domain::in_all_words;
 use crate::ending::{another, pass, pass_last};
 use crate::lanes::{USER_HEADER, are_values};
 use iox_lanes::{LanePublisher, LaneSubscriber, LoanAnswer, Receipt, SendAnswer};
@@ -31,7 +31,7 @@ fn sent(port: &mut LanePublisher, value: u64) -> Option<SendAnswer> {
     let LoanAnswer::Slot(loan) = port.loan_uninit()? else {
         return None;
     };
-    if port.write_values(loan, &in_both_words(value), &USER_HEADER) {
+    if port.write_values(loan, &in_all_words(value), &USER_HEADER) {
         port.send(loan)
     } else {
         None

@@ -1,4 +1,4 @@
--- What a reply says of a line that is no command.
+-- What a reply says of a line that isn't a command.
 use Rattle.std.specs.Prelude.{ℕ, List, codes}
 use Rattle.iox_line.specs.declared.error.LineError.{LineError}
 use Rattle.iox_line.specs.declared.error.LineError.TheVariants as fault

@@ -77,7 +77,7 @@ fn is(word: &[u8], text: &[u8]) -> bool
     true
 }
 
-/// What a first word asks for, but for those that name a service; `None` if nothing that there is.
+/// The verb that a first word spells, except those that name a service; `None` if it isn't one.
 pub fn first_verb(word: &[u8]) -> Option<Verb>
     ensures { result ≡ verb_of word.now }
 {
@@ -135,7 +135,7 @@ fn seldom_verb(word: &[u8]) -> Option<Verb>
     }
 }
 
-/// What a first word that names a service asks for; `None` if nothing that there is.
+/// The verb that a first word spells, of those that name a service; `None` if it isn't one.
 pub fn service_verb(word: &[u8]) -> Option<ServiceVerb>
     ensures { result ≡ service_verb_of word.now }
 {

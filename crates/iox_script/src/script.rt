@@ -80,21 +80,22 @@ fn print_fault(fault: LineError, out: &mut Vec<u8>) -> Result<(), AllocError>
     out.extend_from_slice(fault.text().as_bytes())
 }
 
-/// Answers each line of the input by one line of output, on a new hub, until a read gives no bytes.
+/// Answers each line of the input by one line of output, on a new hub, until a read returns no bytes.
 ///
-/// A line that spells a command is answered by the reply to it, another line by `err faulty line`, and a line of more
-/// than 1,024 bytes by `err line too long`. A last line without a newline counts if it isn't empty. The lines of one
-/// read are answered before the next read, and their replies are written together.
+/// A line that spells a command is answered by its reply, a line of more than 1,024 bytes by `err line too long`, and any other line by
+/// `err faulty line`. A last line without a newline counts if it isn't empty. The lines of one read are answered before the next read, and
+/// their replies are written together.
 ///
-/// After an error, what is written is a beginning of the replies, in order, to the lines that were read whole. After `ReadFault`
-/// those are all of them; after `WriteFault` all to what was read before the last read, and a beginning of the others; after
-/// `OutOfMemory` those to all lines before the one for which no memory was found.
+/// After an error, what is written is a beginning of the replies, in order, to the lines that were read whole: after `ReadFault` all of
+/// them; after `WriteFault` those to all that was read before the last read, and a beginning of the others; after `OutOfMemory` those to
+/// all lines before the one at which memory ran out.
 ///
-/// What is written, or begun after an error, is what a new machine (`docs/MACHINE.md`) may answer to the lines. The premises are that
-/// the reader and the writer tell their bytes, and that no two services of the names that the lines ask for share a hash.
+/// What is written, whole or as a beginning after an error, is what a new machine (`docs/MACHINE.md`) may answer to the lines. The premises
+/// are that the reader and the writer report truthfully how many bytes they moved, and that no two services of the names that the lines ask
+/// for share a hash.
 ///
-/// A read or write that a signal interrupts is made again. Each such read counts as a read call, and a write that is interrupted
-/// 2^20 times one after the other has failed.
+/// A read or write that a signal interrupts is repeated. Each such read counts as a read call, and a write that is interrupted 2^20 times
+/// in sequence has failed.
 pub fn serve<R: Read, W: Write>(
     alloc: Global,
     config: HubConfig,

@@ -1,14 +1,13 @@
 //! Cases of lanes: a first line says which lanes they are about, and each further one is answered by these.
 mod calling;
 mod making;
-mod said;
+mod parties;
 mod viewing;
-mod words;
 
+use crate::words::word;
 use iox_lanes_machine::LaneMachine;
 use std::alloc::Global;
 use std::io;
-use words::word;
 
 // Prints a line of lanes with its answer.
 fn serve_line(

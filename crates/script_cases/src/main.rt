@@ -13,14 +13,18 @@
 //! answers that follow it, whatever lies there: `create ps Absent Taken Made Published`. It is told what the call came to and
 //! in how many accesses, after `close` also what a close did; and `amiss` what answers were of no access, or lacking.
 //!
-//! A block whose second line begins with `lanes` has lines about lanes of those sizes in place of a script.
+//! A block whose second line begins with `lanes` has lines about lanes of those sizes in place of a script; one whose second line
+//! begins with `steps`, lines about a machine whose parties go a step at a time.
 //!
 //! Standard output is typed by hand from the formats, and standard input is its lines without their replies.
 #![tactic(auto)]
 
 mod faults;
 mod lanes;
+mod said;
+mod steps;
 mod storages;
+mod words;
 
 use faults::left_by_faults;
 use iox_script::{HubConfig, Input, Output, serve};
@@ -28,6 +32,7 @@ use lanes::answer_lanes;
 use std::alloc::{AllocError, Global};
 use std::io;
 use std::str::Lines;
+use steps::answer_steps;
 use storages::answered;
 
 /// How many connections of publishers that left a subscriber keeps, where the title doesn't say.
@@ -54,6 +59,8 @@ fn answer_lines(rt: &HostRuntime, title: &str, lines: &str) -> io::Result<()> {
         answer_builders(rt, lines)
     } else if lines.starts_with("lanes ") {
         answer_lanes(rt, rt.alloc(), lines)
+    } else if lines.starts_with("steps ") {
+        answer_steps(rt, rt.alloc(), lines)
     } else {
         answer(rt, config(title), lines)
     }
@@ -105,7 +112,7 @@ fn tell_faults(rt: &HostRuntime, config: HubConfig, script: &str, replies: &str)
 }
 
 // How often lines are said, and the lines.
-fn counted(line: &str) -> (usize, &str) {
+pub(crate) fn counted(line: &str) -> (usize, &str) {
     let Some((number, once)) = line.split_once(" times ") else {
         return (1, line);
     };

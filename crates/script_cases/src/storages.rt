@@ -1,12 +1,14 @@
 //! What builders come to over a storage that gives the answers of a line.
 mod answering;
 mod near_lines;
+mod other_lines;
 
 use answering::Answering;
 use iox_describe::ServiceName;
 use iox_negotiate::{Builder, Negotiated, PortFactory, ServiceBuilder};
 use iox_negotiate_base::CloseError;
 use near_lines::amiss_lines;
+use other_lines::other_line;
 use std::alloc::{AllocError, Global};
 use std::fmt::Debug;
 
@@ -81,12 +83,22 @@ fn called(
     let asked = Builder::new(5, name);
     match pattern {
         "ps" => built(alloc, verb, asked.publish_subscribe::<u64>(), storage),
+        "ps4" => built(alloc, verb, asked.publish_subscribe::<u32>(), storage),
+        "ps16" => built(
+            alloc,
+            verb,
+            asked.publish_subscribe::<u64>().payload_alignment(16),
+            storage,
+        ),
         "ev" => built(alloc, verb, asked.event(), storage),
+        "rq4" => built(alloc, verb, asked.request_response::<u32, u64>(), storage),
+        "rs4" => built(alloc, verb, asked.request_response::<u64, u32>(), storage),
         _ => built(alloc, verb, asked.request_response::<u64, u64>(), storage),
     }
 }
 
-// The line that a service of a pattern, `ps`, `ev` or `rr`, is published with.
+// The line that a service of a pattern, `ps`, `ev` or `rr`, is published with. Messages of `ps4` have four bytes, and those of `ps16` an
+// alignment of 16; requests of `rq4` and responses of `rs4` have four bytes.
 fn published_line(alloc: Global, pattern: &str, name: &str) -> Result<Vec<u8>, AllocError> {
     let mut storage = Answering::new(alloc, "Absent Taken Made Published", &[], &[]);
     let _ = called(alloc, ("create", pattern, name), &mut storage)?;
@@ -117,7 +129,7 @@ fn answered_by(
     answers: &str,
 ) -> Result<String, AllocError> {
     let line = published_line(alloc, pattern, NAME)?;
-    let other = published_line(alloc, pattern, "B")?;
+    let other = other_line(alloc, pattern, answers, line.as_slice())?;
     let mut storage = Answering::new(alloc, answers, line.as_slice(), other.as_slice());
     outcome(alloc, verb, pattern, &mut storage)
 }

@@ -1,4 +1,4 @@
-//! What calls of a recorded hub do to the hub, and how things get their numbers.
+//! What calls of a recorded hub do to the hub, and how values get their numbers.
 ghost use Rattle.std.specs.Prelude.{◌≡◌, ◌&&◌, List, is_ok};
 ghost use Rattle.std.specs.Result.{result_ok};
 ghost use Rattle.iox_command.specs.declared.command.Command.TheVariants as command;

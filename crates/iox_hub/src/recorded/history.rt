@@ -1,10 +1,10 @@
-//! What was asked of a hub, and what it answered, which only proofs read.
+//! What a hub was asked, and what it answered; only proofs read it.
 ghost use Rattle.std.specs.Prelude.{◌≡◌};
 ghost use Rattle.iox_hub.specs.Recorded.{Calls};
 
 use std::marker::{Model, PhantomData};
 
-/// What was asked of a hub, and what it answered. It takes no memory, and nothing is done with it at run time.
+/// What a hub was asked, and what it answered. It takes no memory, and nothing is done with it at run time.
 ///
 /// This port's own.
 #[derive(Drop)]

@@ -1,4 +1,4 @@
-//! Loans of a recorded hub: they are lent, written, given up and sent.
+//! Loans of a recorded hub: how they are made, written, dropped and sent.
 ghost use Rattle.std.specs.Prelude.{◌≡◌, List, false, Some, IfSome, IfOk, IfErr, MatchResult, length, if◌then◌else◌};
 ghost use Rattle.std.specs.Option.{option_map};
 ghost use Rattle.iox_command.specs.declared.command.Command.TheVariants as command;
@@ -37,8 +37,8 @@ impl<
     B: PublisherHandlers,
     D: SubscriberHandler,
 > RecordedHub<T, U, B, D> {
-    /// A publisher lends so many values to be written: the command `LoanUninit`. None, and the command is skipped, where the publisher
-    /// doesn't stand, or a send of it waits. Other loans keep their numbers.
+    /// Loans so many unwritten values of a publisher: the command `LoanUninit`. None, and the command is skipped, if the publisher isn't
+    /// open, or a send of it is blocked. Other loans keep their numbers.
     ///
     /// Refused as the machine refuses it.
     /// Example: `let Some(Ok(loan)) = hub.loan_slice_uninit(alloc, &publisher, 4) else { return None; };`
@@ -68,8 +68,8 @@ impl<
         calls::with_number(answer, number)
     }
 
-    /// A publisher lends so many values that are written, each a default: the command `Loan`. None, and the command is skipped, where the
-    /// publisher doesn't stand, or a send of it waits. Other loans keep their numbers.
+    /// Loans so many values of a publisher, each written with a default value: the command `Loan`. None, and the command is skipped, if the
+    /// publisher isn't open, or a send of it is blocked. Other loans keep their numbers.
     ///
     /// Refused as the machine refuses it.
     /// Example: `let Some(Ok(sample)) = hub.loan_slice(alloc, &publisher, 4) else { return None; };`
@@ -99,8 +99,8 @@ impl<
         calls::with_number(answer, number)
     }
 
-    /// All values of a loan are written: the command `Fill`. There are as many as were lent. The answer is the loan, and whether it is
-    /// written: where it isn't, the command is skipped.
+    /// Writes all values of a loan: the command `Fill`. There must be as many as were loaned. Returns the loan, and whether it is written;
+    /// if it isn't, the command is skipped.
     /// Example: `let (sample, is_written) = hub.write_from_slice(loan, &[7, 8]);`
     pub fn write_from_slice(
         &mut self,
@@ -122,7 +122,7 @@ impl<
         (Named { it: sample, number }, filled)
     }
 
-    /// A loan is given up: the command `Drop`. It is told as done, and its number is spent.
+    /// Drops a loan: the command `Drop`. The command is recorded as done, and its number names nothing any longer.
     /// Example: `hub.drop_loan(loan);`
     pub fn drop_loan<S: LoanState<T, U, Slice> + Copy>(&mut self, loan: Named<Loan<T, U, Slice, S>>)
         requires { value_at self.old.calls.made.loans loan.number.value ≡ Some (record { port = loan.it.port; slot = loan.it.slot }) }
@@ -137,8 +137,8 @@ impl<
         self.history = History::told(&self.history, &number, &(), &());
     }
 
-    /// A loan is sent: the command `Send`. Its number is spent, also where the send waits or is refused. It is handed back, and the command
-    /// is skipped, where some value of it isn't written, or a send of its publisher waits.
+    /// Sends a loan: the command `Send`. Its number names nothing any longer, even if the send is blocked or refused. The loan is handed
+    /// back, and the command is skipped, if some value isn't written, or a send of its publisher is blocked.
     ///
     /// Refused as the machine refuses it.
     /// Example: `let sent = hub.send(alloc, sample).ok()?;`

@@ -1,4 +1,4 @@
-//! Ports, factories, loans and samples with the numbers by which the machine has them.
+//! Ports, factories, loans and samples with their numbers in the machine.
 ghost use Rattle.std.specs.Prelude.{ℕ, ◌≡◌};
 
 use std::marker::Model;
@@ -27,13 +27,13 @@ impl Number {
     }
 }
 
-/// A port, a factory, a loan or a sample of a recorded hub, and its number there, which only proofs read.
+/// A port, a factory, a loan or a sample of a recorded hub, with its number there, which only proofs read.
 ///
 /// This port's own.
 #[derive(Drop)]
 pub struct Named<S> {
-    /// What it is.
+    /// The value itself.
     pub it: S,
-    /// By which number commands name it.
+    /// The number by which commands name it.
     pub number: Number,
 }

@@ -1,4 +1,4 @@
-//! What the calls that create and open services have in common: their first look, and all that follows where it tells no refusal.
+//! What the calls that create and open services have in common: their first look, and what follows if it isn't a refusal.
 ghost use Rattle.std.specs.Prelude.{◌≡◌, ◌<◌, ◌+◌, ◌^◌, ℕ, true, Option, Result, Some, Err, length};
 ghost use Rattle.std.specs.List.{AllByRecursion};
 ghost use Rattle.std.specs.Result.{result_map_both};
@@ -39,11 +39,11 @@ use std::alloc::Global;
 /// A call that opens a service, by what it does.
 #[derive(Drop)]
 pub(crate) enum OpeningCall<'a> {
-    /// It creates the service with these attributes.
+    /// Creates the service with these attributes.
     Create(&'a AttributeSpecifier),
-    /// It opens the service if it has these attributes too.
+    /// Opens the service if it also has these attributes.
     Open(AttributeVerifier),
-    /// It opens the service if it has these attributes too, or creates it with the required pairs.
+    /// Opens the service if it also has these attributes, or creates it with the required pairs.
     OpenOrCreate(AttributeVerifier),
 }
 

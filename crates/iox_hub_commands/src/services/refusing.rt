@@ -1,5 +1,5 @@
-//! Which services aren't created, whatever stands already: it is told of what is asked for alone, with no memory. And which calls come to
-//! nothing at their first look.
+//! Which settings no service can be created with, whatever exists already: that follows from the request alone, without memory. And which
+//! calls are refused at their first look.
 ghost use Rattle.std.specs.Prelude.{◌≡◌, Option};
 ghost use Rattle.iox_command.specs.NegotiateBase.declared.failure.CreateFailure.{CreateFailure};
 ghost use Rattle.iox_hub_commands.specs.Asked.{types_of};
@@ -18,8 +18,7 @@ use iox_hub_base::{HashState, Hub};
 use iox_negotiate::{Negotiated, settings_refusal};
 use iox_negotiate_base::{CreateFailure, OpenFailure, OpenOrCreateFailure};
 
-/// Why no service is created with the settings that are asked for, of messages that carry slices of `T` with a user header of `U`, if that
-/// is so.
+/// Why no service can be created with the settings that are asked for, if so. Messages are slices of `T` with a user header of `U`.
 /// Example: `let failure = uncreated::<u64, u64>(&asked.options);`
 pub fn uncreated<T: ZeroCopySend, U: ZeroCopySend>(
     options: &ServiceOptions,
@@ -44,7 +43,7 @@ fn uncreated_of(options: &ServiceOptions, types: MessageTypeDetails) -> Option<C
     }
 }
 
-/// The refusal of the pattern that is asked for, where no service is created for this.
+/// The refusal of a creation that fails with this, by the pattern that is asked for.
 /// Example: `let refusal = create_refused(&asked.options, CreateFailure::InternalFailure);`
 pub fn create_refused(options: &ServiceOptions, failure: CreateFailure) -> Refusal
     ensures { result ≡ create_refused options.now failure }
@@ -60,7 +59,7 @@ pub fn create_refused(options: &ServiceOptions, failure: CreateFailure) -> Refus
     }
 }
 
-/// The refusal of the pattern that is asked for, where no service is opened, and none is created for this.
+/// The refusal of `open_or_create` if its creation fails with this, by the pattern that is asked for.
 /// Example: `let refusal = either_refused(&asked.options, CreateFailure::InternalFailure);`
 pub fn either_refused(options: &ServiceOptions, failure: CreateFailure) -> Refusal
     ensures { result ≡ either_refused options.now failure }

@@ -1,6 +1,6 @@
 //! Calls of the parties of lanes, by steps and whole.
-use crate::lanes::said::{NONE, Said, UNKNOWN};
-use crate::lanes::words::{number, word};
+use crate::said::{NONE, Said, UNKNOWN};
+use crate::words::{number, word};
 use iox_lanes_base::calls::Receipt;
 use iox_lanes_machine::LaneMachine;
 use iox_lanes_parties::publisher::LoanAnswer;

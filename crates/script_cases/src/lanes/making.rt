@@ -1,5 +1,5 @@
 //! Lanes as a line asks for them.
-use crate::lanes::words::setting;
+use crate::words::size;
 use iox_lanes_machine::{LaneMachine, LaneSizes};
 use iox_queues_steps::rings::RingKind;
 use std::alloc::{AllocError, Global};
@@ -11,18 +11,6 @@ fn kind(line: &str) -> RingKind {
     } else {
         RingKind::Overflowing
     }
-}
-
-// The size that a line gives under a name, or another where it gives none.
-fn size(line: &str, name: &str, otherwise: u64) -> u64 {
-    for word in line.split_whitespace() {
-        if let Some((named, size)) = setting(word) {
-            if named == name {
-                return size;
-            }
-        }
-    }
-    otherwise
 }
 
 // The sizes that a line names, and one of each other.

@@ -1,7 +1,8 @@
 //! What lanes find before their first step, and what can be seen of them.
 use crate::lanes::calling;
-use crate::lanes::said::{NONE, Said, UNKNOWN};
-use crate::lanes::words::{number, number_if, party, word};
+use crate::lanes::parties::party;
+use crate::said::{NONE, Said, UNKNOWN};
+use crate::words::{number, number_if, word};
 use iox_lanes_base::words::SlotWord;
 use iox_lanes_machine::{Found, LaneMachine};
 use iox_lanes_parties::Party;

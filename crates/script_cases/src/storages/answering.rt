@@ -10,9 +10,13 @@ use std::str::SplitWhitespace;
 /// The number of each service that is found or locked.
 const NUMBER: u64 = 1;
 
+/// Its number where `TakenLast` or `FoundLast` is answered.
+const LAST: u64 = u64::MAX;
+
 // What the words of a line answer to each access.
-const LOCKS: [(&str, LockAnswer); 6] = [
+const LOCKS: [(&str, LockAnswer); 7] = [
     ("Taken", LockAnswer::Taken(NUMBER)),
+    ("TakenLast", LockAnswer::Taken(LAST)),
     ("IsLocked", LockAnswer::IsLocked),
     ("Exists", LockAnswer::Exists),
     ("Denied", LockAnswer::Denied),
@@ -53,14 +57,15 @@ const REMOVALS: [(&str, RemoveAnswer); 2] = [
 ];
 
 /// Gives the answers of a line, one an access. An access that has no answer left, or not one of its own, has failed, and is
-/// counted as amiss.
+/// counted as amiss; so is one by another number than that of the service that was found or locked last.
 #[derive(Drop)]
 pub(crate) struct Answering<'a> {
     alloc: Global,
     answers: SplitWhitespace<'a>,
-    // What is found where `Found` is answered, and where `FoundOther` is: the description of another service.
+    // What is found where `Found` is answered, and where it is another word that begins so.
     line: &'a [u8],
     other: &'a [u8],
+    number: u64,
     published: Vec<u8>,
     accesses: u64,
     amiss: u64,
@@ -74,6 +79,7 @@ impl<'a> Answering<'a> {
             answers: answers.split_whitespace(),
             line,
             other,
+            number: 0,
             published: Vec::new(alloc),
             accesses: 0,
             amiss: 0,
@@ -120,11 +126,19 @@ impl<'a> Answering<'a> {
         fault
     }
 
-    // These bytes are found.
-    fn found(&mut self, bytes: &[u8]) -> LookAnswer {
+    // It is the number of the service that was found or locked last.
+    fn expect(&mut self, number: u64) {
+        if number != self.number {
+            self.count_amiss();
+        }
+    }
+
+    // These bytes are found under a number.
+    fn found(&mut self, number: u64, bytes: &[u8]) -> LookAnswer {
+        self.number = number;
         match bytes.to_vec(self.alloc) {
             Ok(bytes) => LookAnswer::Found {
-                number: NUMBER,
+                number,
                 bytes: StoredDescription::new(bytes),
             },
             Err(AllocError) => {
@@ -175,49 +189,61 @@ impl Storage for Answering<'_> {
 
     fn look(&mut self, _hash: &ServiceHash) -> LookAnswer {
         match self.next() {
-            "Found" => self.found(self.line),
-            "FoundOther" => self.found(self.other),
-            "FoundNothing" => self.found(&[]),
+            "Found" => self.found(NUMBER, self.line),
+            "FoundLast" => self.found(LAST, self.line),
+            "FoundNothing" => self.found(NUMBER, &[]),
+            answer if answer.starts_with("Found") => self.found(NUMBER, self.other),
             answer => self.not_found(answer),
         }
     }
 
     fn lock(&mut self, _hash: &ServiceHash, _node: u64) -> LockAnswer {
-        self.chosen(&LOCKS, LockAnswer::Fault)
+        let answer = self.chosen(&LOCKS, LockAnswer::Fault);
+        if let LockAnswer::Taken(number) = answer {
+            self.number = number;
+        }
+        answer
     }
 
     fn make_segment(
         &mut self,
         _hash: &ServiceHash,
-        _number: u64,
+        number: u64,
         _node: u64,
         _max_nodes: u64,
     ) -> MakeSegmentAnswer {
+        self.expect(number);
         self.chosen(&MADE_SEGMENTS, MakeSegmentAnswer::Fault)
     }
 
-    fn publish(&mut self, _hash: &ServiceHash, _number: u64, bytes: &[u8]) -> PublishAnswer {
+    fn publish(&mut self, _hash: &ServiceHash, number: u64, bytes: &[u8]) -> PublishAnswer {
+        self.expect(number);
         self.keep(bytes);
         self.chosen(&PUBLISHES, PublishAnswer::Fault)
     }
 
-    fn unlock(&mut self, _hash: &ServiceHash, _number: u64) {
+    fn unlock(&mut self, _hash: &ServiceHash, number: u64) {
+        self.expect(number);
         self.chosen(&[("Unlocked", ())], ());
     }
 
-    fn open_segment(&mut self, _hash: &ServiceHash, _number: u64, _node: u64) -> OpenSegmentAnswer {
+    fn open_segment(&mut self, _hash: &ServiceHash, number: u64, _node: u64) -> OpenSegmentAnswer {
+        self.expect(number);
         self.chosen(&OPENED_SEGMENTS, OpenSegmentAnswer::Fault)
     }
 
-    fn leave(&mut self, _hash: &ServiceHash, _number: u64, _node: u64) -> LeaveAnswer {
+    fn leave(&mut self, _hash: &ServiceHash, number: u64, _node: u64) -> LeaveAnswer {
+        self.expect(number);
         self.chosen(&LEAVES, LeaveAnswer::Stays)
     }
 
-    fn remove_description(&mut self, _hash: &ServiceHash, _number: u64) -> RemoveAnswer {
+    fn remove_description(&mut self, _hash: &ServiceHash, number: u64) -> RemoveAnswer {
+        self.expect(number);
         self.removed()
     }
 
-    fn remove_segment(&mut self, _hash: &ServiceHash, _number: u64) -> RemoveAnswer {
+    fn remove_segment(&mut self, _hash: &ServiceHash, number: u64) -> RemoveAnswer {
+        self.expect(number);
         self.removed()
     }
 }

@@ -1,5 +1,4 @@
 //! The words of a line.
-use iox_lanes_parties::Party;
 use std::str::SplitWhitespace;
 
 /// The next word, or an empty one.
@@ -17,21 +16,20 @@ pub(crate) fn number(words: &mut SplitWhitespace<'_>) -> u64 {
     number_if(words).unwrap_or(u64::MAX)
 }
 
-/// A name and its number, as `buffer=3` has them.
-pub(crate) fn setting(word: &str) -> Option<(&str, u64)> {
+// A name and its number, as `buffer=3` has them.
+fn setting(word: &str) -> Option<(&str, u64)> {
     let (name, value) = word.split_once('=')?;
     Some((name, value.parse::<u64>().ok()?))
 }
 
-// The place behind a letter.
-fn place(word: &str, letter: char) -> Option<usize> {
-    word.strip_prefix(letter)?.parse::<usize>().ok()
-}
-
-/// A port: `p0` is the first publisher, and `s1` the second subscriber.
-pub(crate) fn party(word: &str) -> Option<Party> {
-    match place(word, 'p') {
-        Some(place) => Some(Party::Publisher(place)),
-        None => Some(Party::Subscriber(place(word, 's')?)),
+/// The size that a line gives under a name, or another where it gives none.
+pub(crate) fn size(line: &str, name: &str, otherwise: u64) -> u64 {
+    for word in line.split_whitespace() {
+        if let Some((named, size)) = setting(word) {
+            if named == name {
+                return size;
+            }
+        }
     }
+    otherwise
 }
