@@ -168,7 +168,7 @@ impl<P: Negotiated> ServiceBuilder<P> {
         })
     }
 
-    /// Creates the service, with only those attributes that the requirement has. See `create_with_attributes`.
+    /// Creates the service, with only those attributes that the builder's requirement has. See `create_with_attributes`.
     /// Example: `let factory = builder.create(alloc, &mut table)?;`
     pub fn create<S: Storage>(
         self,
@@ -208,7 +208,7 @@ impl<P: Negotiated> ServiceBuilder<P> {
         self.created(alloc, attributes, storage)
     }
 
-    /// Opens the service if it meets the requirement of the builder. See `open_with_attributes`.
+    /// Opens the service if it meets the builder's requirement. See `open_with_attributes`.
     /// Example: `let factory = builder.open(alloc, &mut table)?;`
     pub fn open<S: Storage>(
         self,
@@ -222,7 +222,7 @@ impl<P: Negotiated> ServiceBuilder<P> {
         self.opened(alloc, storage)
     }
 
-    /// Opens the service if it meets the requirement of the builder and has these attributes, in at most ten accesses.
+    /// Opens the service if it meets the builder's requirement, whose attributes are replaced by these, in at most ten accesses.
     ///
     /// Refused as `iox_negotiate_base::open` refuses it, with the pattern's error of the same name.
     /// Example: `let factory = builder.open_with_attributes(alloc, attributes, &mut table)?;`
@@ -246,7 +246,7 @@ impl<P: Negotiated> ServiceBuilder<P> {
         builder.opened(alloc, storage)
     }
 
-    /// Opens the service if it meets the requirement of the builder, or creates it if it doesn't exist. See
+    /// Opens the service if it meets the builder's requirement, or creates it with the required pairs if it doesn't exist. See
     /// `open_or_create_with_attributes`.
     /// Example: `let factory = builder.open_or_create(alloc, &mut table)?;`
     pub fn open_or_create<S: Storage>(
@@ -264,8 +264,8 @@ impl<P: Negotiated> ServiceBuilder<P> {
         self.opened_or_created(alloc, storage)
     }
 
-    /// Opens the service if it meets the requirement of the builder and has these attributes, or creates it with the required pairs if it
-    /// doesn't exist, in at most fourteen accesses.
+    /// Opens the service if it meets the builder's requirement, whose attributes are replaced by these, or creates it with the required
+    /// pairs if it doesn't exist, in at most fourteen accesses.
     ///
     /// Refused as `iox_negotiate_base::open_or_create` refuses it, with the pattern's error of the same name.
     /// Example: `let factory = builder.open_or_create_with_attributes(alloc, attributes, &mut table)?;`

@@ -195,7 +195,8 @@ impl Pop {
         }
     }
 
-    /// Whether the next step moves the read position, which is `position`, so that a push whose put was delayed takes effect.
+    /// Whether the next step moves the read position, which is `position`, at which a delayed put of a push takes effect. On a refusing
+    /// ring no put is delayed, so this is false.
     pub fn moves(&self, position: u64) -> bool
         ensures { result ≡ pop_moves position self.now }
     {
