@@ -21,7 +21,9 @@ pub enum RingKind {
 /// The stage of a push.
 #[derive(Clone, Copy)]
 pub enum Push {
+    /// A push into an overflowing ring.
     Overflowing(OverflowingPush),
+    /// A push into a refusing ring.
     Refusing(RefusingPush),
 }
 
@@ -110,7 +112,9 @@ impl Push {
 /// The stage of a pop, or of a look, which only returns whether a number waits.
 #[derive(Clone, Copy)]
 pub enum Pop {
+    /// A pop from an overflowing ring, or a look at it.
     Overflowing(OverflowingPop),
+    /// A pop from a refusing ring, or a look at it.
     Refusing(RefusingPop),
 }
 
