@@ -103,6 +103,10 @@ fn next_block(most: usize) -> (&'static [u8], bool) {
         }
         end = behind;
     }
+    if end == first {
+        // A line that is longer than what is asked for is read in parts.
+        end = text.len().min(first + most);
+    }
     AT.store(end, Relaxed);
     (&text[first..end], false)
 }
