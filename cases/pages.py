@@ -18,7 +18,7 @@ SCRIPT = TOP / "docs" / "api.py"
 LOCK = threading.Lock()
 # How many words a page for users may have.
 MOST_WORDS = {"README.md": 900, "docs/TOOL.md": 1400, "docs/USING.md": 4000}
-# A call, what its contract names, and what is said of that: the row on docs/DEFINITIONS.md, and the file.
+# A call, a definition that its contract names, with its file, and the comment above that definition.
 SAID = [
     (
         "iox_hub_base",
