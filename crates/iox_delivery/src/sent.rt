@@ -60,7 +60,7 @@ impl<T: Copy, U: Copy> BlockedSend<T, U> {
         }
     }
 
-    /// Drops the send: it is given up as by `give_up`, if it is blocked, and the call answers how many connections took the message.
+    /// Drops the send: it is given up as by `give_up`, if it waits, and the call answers how many connections took the message.
     /// None, and nothing happens, if the send doesn't wait.
     ///
     /// Not in `iceoryx2`.
