@@ -131,6 +131,9 @@ def a_dash_writes_a_picture_or_page_alone_to_standard_output():
             with open(script.with_name("replies"), "wb") as out:
                 other = ran(f"--{name}", "replies", script, cwd=script.parent, stdout=out)
             expect((other.status, other.err.count(b"where the replies go")), (64, 1))
+            with open(script.with_name("messages"), "wb") as err:
+                other = ran(f"--{name}", "messages", script, cwd=script.parent, stderr=err)
+            expect((other.status, script.with_name("messages").read_bytes().count(b"where the messages go")), (64, 1))
             if os.path.exists("/dev/full"):
                 with open("/dev/full", "wb") as full:
                     faulty = ran(f"--{name}", "-", script, stdout=full)

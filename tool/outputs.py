@@ -64,6 +64,8 @@ def refuse_loss(name: str, out: str, options: Namespace):
         stop(MISUSED, f"{out} has the expected replies, so nothing is written there")
     if is_where_replies_go(out, found):
         stop(MISUSED, f"{out} is where the replies go: `--{name} -` writes to standard output")
+    if is_file_at(2, found):
+        stop(MISUSED, f"{out} is where the messages go, so nothing is written there")
     if is_ours(out, found):
         return
     if not options.names_script:
