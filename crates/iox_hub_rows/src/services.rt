@@ -27,7 +27,7 @@ const CONFIG: HubConfig = HubConfig {
     id: 7,
 };
 
-/// How a node comes to the service.
+/// How a node opens the service.
 #[derive(Clone, Copy)]
 pub(crate) enum How {
     Create,
@@ -76,7 +76,7 @@ fn close(rt: &impl Abort, hub: &mut Messages, service: Service) {
     assert!(rt; hub.close(service).is_ok());
 }
 
-// A node that comes to the service twice can close it twice.
+// A node that opens the service twice can close it twice.
 fn come_and_go(
     rt: &impl Abort,
     alloc: Global,

@@ -303,7 +303,7 @@ impl<
         calls::with_number(answer, number)
     }
 
-    /// Closes a factory of this hub: the command `Close`. The factory is spent, even if its description or segment couldn't be removed;
+    /// Closes a factory of this hub: the command `Close`. The factory is consumed, even if its description or segment couldn't be removed;
     /// while it is in use it is handed back.
     ///
     /// Refused as the machine refuses it.
