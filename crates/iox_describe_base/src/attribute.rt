@@ -33,7 +33,7 @@ pub struct Attribute {
 #[derive(Clone, Copy, Debug, PartialEq, Eq, Error)]
 pub enum AttributeError {
     /// It is outside the limits, or there are eight already.
-    #[error("{0}")]
+    #[error("AttributeError::LimitError(OutsideLimits)")]
     LimitError(LimitError),
     /// There was no memory.
     #[error("AttributeError::OutOfMemory")]

@@ -28,6 +28,7 @@ ghost use Rattle.iox_machine.specs.Run.{Answers};
 ghost use Rattle.iox_hub.specs.Recorded.{AreFollowed, asked_too};
 ghost use Rattle.iox_hub.specs.RecordedCalls.{IsAsAsked, IsReceived, KeepNumbers, answered_as, told_send};
 ghost use Rattle.iox_hub.specs.RecordedLaws.{WasSentBefore};
+ghost use Rattle.iox_hub.specs.RecordedNames.{buffer_named};
 
 use crate::recorded::history::History;
 use crate::recorded::named::{Named, Number};
@@ -430,7 +431,7 @@ impl<
         ensures side { (most : StaticConfig)
             → factory.now.it.service.membership.service.description.settings ≡ settings.PublishSubscribe most
             → IfSome result (λ answer. IfOk answer (λ subscriber.
-            subscriber.it.side ≡ record { buffer_size = unwrap_or options.now.buffer_size most.subscriber_max_buffer_size })) }
+            subscriber.it.side ≡ record { buffer_size = buffer_named options.now.buffer_size most.subscriber_max_buffer_size })) }
     {
         let domain = domain_of(&factory.it);
         let number = Number::given(&self.history);
