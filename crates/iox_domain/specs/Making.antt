@@ -1,10 +1,11 @@
 -- A publisher and a subscriber come.
-use Rattle.std.specs.Prelude.{ℕ, ◌≡◌, ◌+◌, ◌^◌, max, nat_lt, List, Option, None, Some, Result, Ok, Err, if◌then◌else◌}
+use Rattle.std.specs.Prelude.{ℕ, ◌≡◌, ◌+◌, ◌^◌, ◌||◌, max, nat_lt, is_none, is_err, Bool, List, Option, None, Some, Result, Ok, Err}
+use Rattle.std.specs.Prelude.{if◌then◌else◌}
 use Rattle.std.specs.declared.alloc.AllocError.{AllocError}
 use Rattle.iox_domain_ports.specs.Container.declared.container.Member.{Member}
 use Rattle.iox_domain_ports.specs.DomainValues.OverrideAnswers.{places}
 use Rattle.iox_domain_ports.specs.DomainValues.Sequences.{before_first}
-use Rattle.iox_domain_ports.specs.DomainValues.Sizes.{worst_case, within}
+use Rattle.iox_domain_ports.specs.DomainValues.Sizes.{worst_case, within, buffer_of}
 use Rattle.iox_domain_ports.specs.DomainValues.declared.connection_failure.ConnectionFailure.{ConnectionFailure}
 use Rattle.iox_domain_ports.specs.DomainValues.declared.create_error.PublisherCreateError.{PublisherCreateError}
 use Rattle.iox_domain_ports.specs.DomainValues.declared.create_error.PublisherCreateError.TheVariants as publishing
@@ -103,6 +104,10 @@ publisher_refusal None place = publishing.UnableToCreateDataSegment
 publisher_refusal (Some needed) None = publishing.ExceedsMaxSupportedPublishers
 publisher_refusal (Some needed) (Some place) = publishing.UnableToCreateDataSegment
 
+-- whether a publisher is refused whatever memory there is: it needs more slots than may be, or no place is free
+abbrev pub refuses_publisher : {T U : Type 0} → PublisherConfig → ServicePorts T U → Bool
+refuses_publisher config ports = is_none (slots_needed config ports) || is_none (publisher_place ports)
+
 -- A publisher is made where it needs so many slots, and a place is free; it gets as many as an answer comes to that is allowed.
 abbrev pub CreatesPublisher : {T U : Type 0} → (ℕ → ℕ → Type 0) → (DegradationInfo → DegradationAction → Type 0) → PublisherConfig → U
     → Option ℕ → Option ℕ → ServicePorts T U → Result ℕ PublisherCreateError → ServicePorts T U → Type 0
@@ -155,6 +160,10 @@ abbrev pub subscriber_refusal : Result ℕ SubscriberCreateError → Option ℕ 
 subscriber_refusal (Err refusal) place = refusal
 subscriber_refusal (Ok buffer_size) None = subscribing.ExceedsMaxSupportedSubscribers
 subscriber_refusal (Ok buffer_size) (Some place) = subscribing.OutOfMemory
+
+-- whether a subscriber is refused whatever memory there is: for the buffer that it names, or since no place is free
+abbrev pub refuses_subscriber : {T U : Type 0} → Option ℕ → ServicePorts T U → Bool
+refuses_subscriber buffer_size ports = is_err (buffer_of buffer_size ports.sizes) || is_none (subscriber_place ports)
 
 -- A subscriber is made where as many messages may wait for it as it names, and a place is free.
 abbrev pub CreatesSubscriber : {T U : Type 0} → (DegradationInfo → DegradationAction → Type 0) → PortOwner

@@ -1,15 +1,17 @@
 -- Room that is made when ports come: no loan of a publisher that is there lacks memory for its number, and no sample that comes
 -- to a subscriber.
-use Rattle.std.specs.Prelude.{ℕ, ◌≡◌, ◌+◌, ◌<◌, ◌≤◌, ◌⊎◌, [], length, Option, None, Some, IsSome}
+use Rattle.std.specs.Prelude.{ℕ, ◌≡◌, ◌+◌, ◌*◌, ◌<◌, ◌≤◌, ◌⊎◌, [], length, max, Bool, true, Option, None, Some, IsSome}
 use Rattle.iox_command.specs.declared.command.Command.{Command}
 use Rattle.iox_command.specs.declared.command.Command.TheVariants as command
 use Rattle.iox_domain.specs.Samples.{held_by_one, held_of_one}
+use Rattle.iox_delivery.specs.Domain.Making.{refuses_publisher, refuses_subscriber}
 use Rattle.iox_delivery.specs.Domain.declared.domain_id.DomainId.{DomainId}
+use Rattle.iox_delivery.specs.Domain.declared.ports.making.PublisherConfig.{PublisherConfig}
 use Rattle.iox_delivery.specs.Domain.declared.ports.service_ports.ServicePorts.{ServicePorts}
 use Rattle.iox_hub_commands.specs.Reading.{values_under}
 use Rattle.iox_hub_commands.specs.Messages.{SomeValues}
 use Rattle.iox_hub_base.specs.AsHome.{hub_ports}
-use Rattle.iox_hub_base.specs.Room.{loans_left_in, samples_left_in}
+use Rattle.iox_hub_base.specs.Room.{loans_left_in, samples_left_in, samples_at_most_in}
 use Rattle.iox_delivery.specs.Container.NumberTable.{NumberTable, value_at}
 use Rattle.iox_hub_commands.specs.Calls.{ready}
 use Rattle.iox_hub_commands.specs.Grown.{HaveGrown}
@@ -41,6 +43,25 @@ Pledges more pledged table = (length table.entries + more ≤ pledged) × (pledg
 abbrev pub IsPledged : {V W : Type 0} → NumberTable V → ℕ → ℕ → NumberTable W → Type 0
 IsPledged ports more pledged table = (length table.entries + more ≤ pledged) × ((ports.entries ≡ []) ⊎ (pledged < table.room))
 
+-- The room of a table grew to so much at most, or not at all.
+abbrev pub GrowsTo : {V : Type 0} → ℕ → NumberTable V → NumberTable V → Type 0
+GrowsTo most old new = new.room ≤ max old.room most
+
+-- The room of a table grew, if it did, to twice the numbers that are reserved once so many more are wanted, of what stands there and of as
+-- many as may come, and to one more for each factory, and one beside.
+abbrev pub GrowsFor : {V : Type 0} → ℕ → ℕ → ℕ → NumberTable V → NumberTable V → Type 0
+GrowsFor left more factories old new = GrowsTo (2 * (length old.entries + left + more) + factories + 1) old new
+
+-- whether a service that isn't here, or that refuses it, refuses a publisher whatever memory there is
+abbrev pub is_publisher_refused : {T U : Type 0} → PublisherConfig → Option (ServicePorts T U) → Bool
+is_publisher_refused config None = true
+is_publisher_refused config (Some ports) = refuses_publisher config ports
+
+-- whether one refuses a subscriber that names such a buffer
+abbrev pub is_subscriber_refused : {T U : Type 0} → Option ℕ → Option (ServicePorts T U) → Bool
+is_subscriber_refused buffer_size None = true
+is_subscriber_refused buffer_size (Some ports) = refuses_subscriber buffer_size ports
+
 -- how many samples a subscriber that comes to a service may hold at once, if that is here
 abbrev pub most_samples : {T U : Type 0} → Option (ServicePorts T U) → ℕ
 most_samples None = 0
@@ -59,6 +80,14 @@ module _ {T U B D : Type 0} where
   -- how many of a publisher that comes to it may be held at once
   abbrev pub most_samples_from : DomainId → NumberedHub T U B D → ℕ
   most_samples_from domain hub = most_samples_of (hub_ports domain hub.hub)
+
+  -- The room for the numbers of loans and of samples grew, if it did, to twice what is reserved by the ports that live once so many loans
+  -- and so many samples more are wanted, and to one more for each factory, and one beside.
+  abbrev pub RoomsGrow : ℕ → ℕ → NumberedHub T U B D → NumberedHub T U B D → Type 0
+  RoomsGrow loans samples old new =
+      GrowsFor (loans_left_in old.hub.services.domains) loans (length old.factories.made.entries) old.made.loans new.made.loans
+      × GrowsFor (samples_at_most_in old.hub.services.domains) samples (length old.factories.made.entries) old.made.samples
+      new.made.samples
 
   -- As many numbers are pledged as the loans that are out, and all that publishers may still make; and where publishers are there, there
   -- is room for these, and for one more.
