@@ -522,7 +522,7 @@ module _ {T U B D : Type 0} where
     lacks (command.GiveUp publisher) old new lacking step finds room = absurd step
     lacks (command.Receive subscriber) old new lacking ((received, grows, told), same) finds room
         = received_in_room subscriber old new lacking received grows told finds room.1
-    lacks (command.Read sample) old new lacking step finds room = tt
+    lacks (command.Read sample) old new lacking step finds room = step
     lacks (command.Sequence sample) old new lacking step finds room = absurd step
     lacks (command.Release sample) old new lacking step finds room = absurd step
     lacks (command.Update number) old new lacking step finds room = absurd step

@@ -121,9 +121,13 @@ module _ {T U B D : Type 0} where
   FindsPort (command.Receive subscriber) hub = IsSome (value_at hub.made.subscribers subscriber)
   FindsPort other hub = Unit {0}
 
+  -- A sample that has values is read, and nothing changes.
+  abbrev pub IsLeftUnread : ℕ → NumberedHub T U B D → NumberedHub T U B D → Type 0
+  IsLeftUnread sample old new = SomeValues (values_under hub_ports (value_at old.made.samples sample) old.hub) × (new ≡ old)
+
   -- What a command that isn't replied to lacked memory for, where the ports that are there have room: one that receives for the
-  -- values of the sample that came; one that reads for values. Each other command is replied to.
+  -- values of the sample that came; one that reads for those of the sample that it names. Each other command is replied to.
   abbrev pub LacksInRoom : Command T → NumberedHub T U B D → NumberedHub T U B D → Type 0
   LacksInRoom (command.Receive subscriber) old new = CameUnread old new
-  LacksInRoom (command.Read sample) old new = Unit {0}
+  LacksInRoom (command.Read sample) old new = IsLeftUnread sample old new
   LacksInRoom other old new = ⊥
