@@ -1,4 +1,4 @@
-//! What a send came to, and a send that waits.
+//! What a send answers, and a send that waits.
 ghost use Rattle.iox_domain.specs.Homes as homes;
 ghost use Rattle.std.specs.Prelude.{◌≡◌, true};
 ghost use Rattle.iox_delivery.specs.Holding.{publisher_blocked};
@@ -11,26 +11,27 @@ use iox_domain_ports::Sent as Sending;
 use iox_domain_values::SendError;
 use std::marker::PhantomData;
 
-/// What a send came to.
+/// What a send answers.
 ///
 /// Ported from what `iceoryx2::sample_mut::SampleMut::send` answers, which waits itself.
 pub enum Sent<T, U> {
-    /// So many connections took the message.
+    /// The send is finished, and so many connections took the message.
     Delivered(usize),
     /// The send waits at a full mailbox.
     Blocked(BlockedSend<T, U>),
 }
 
-/// A send that waits at a full mailbox: it is tried again, or given up. Till then its publisher lends, sends and follows nothing.
+/// A send that waits at a full mailbox, until it is tried again or given up. Until then its publisher can't loan, send or
+/// update.
 ///
-/// This port's own: `iceoryx2::port::publisher::Publisher::send` waits itself.
+/// Not in `iceoryx2`: `iceoryx2::port::publisher::Publisher::send` waits itself.
 pub struct BlockedSend<T, U> {
     port: PortId,
     of: PhantomData<(T, U)>,
 }
 
 impl<T: Copy, U: Copy> BlockedSend<T, U> {
-    /// Whether the send waits in this home: the condition of its calls.
+    /// Whether the send waits in this home, which its calls require.
     /// Example: `let waits = blocked.holds(home);`
     pub fn holds<H: Home<T, U>>(&self, home: &H) -> bool
         ensures { result ≡ publisher_blocked self.now.port.number (homes.ports_of H.domain_of self.now.port.domain home.now) }
@@ -38,10 +39,10 @@ impl<T: Copy, U: Copy> BlockedSend<T, U> {
         publishing::is_blocked(self.port, home)
     }
 
-    /// Tries the mailbox again at which the send waits, after so many nanoseconds since it was first found full, and goes on: it answers
-    /// as the send did. The mailbox's count of retries is one higher.
+    /// Tries the mailbox at which the send waits once more, `elapsed_ns` nanoseconds after it was first found full, and
+    /// continues; the call answers as the send did. The count of retries at the mailbox is one higher.
     ///
-    /// This port's own.
+    /// Not in `iceoryx2`.
     /// Example: `let sent = blocked.retry(home, 1_000)?;`
     pub fn retry<H: Home<T, U>>(
         self,
@@ -59,10 +60,10 @@ impl<T: Copy, U: Copy> BlockedSend<T, U> {
         }
     }
 
-    /// Lets it go: the send ends as by `give_up`, if it waits, and how many connections took the message is the answer. None, and
-    /// nothing happens, where it doesn't wait.
+    /// Drops the send: it is given up as by `give_up`, if it waits, and the call answers how many connections took the message.
+    /// None, and nothing happens, if the send doesn't wait.
     ///
-    /// This port's own.
+    /// Not in `iceoryx2`.
     /// Example: `let delivered = blocked.drop_with(home);`
     pub fn drop_with<H: Home<T, U>>(self, home: &mut H) -> Option<usize>
         ensures { EndsSend (homes.ports_of H.domain_of) (homes.with_ports H.changed) self.port home.old result home.new }
@@ -71,9 +72,9 @@ impl<T: Copy, U: Copy> BlockedSend<T, U> {
         calls::ports_mut(home, port.domain)?.give_up(port.number)
     }
 
-    /// Ends the send, and answers how many connections took the message.
+    /// Gives up the send, and answers how many connections took the message.
     ///
-    /// This port's own.
+    /// Not in `iceoryx2`.
     /// Example: `let delivered = blocked.give_up(home);`
     pub fn give_up<H: Home<T, U>>(self, home: &mut H) -> usize
         requires { publisher_blocked self.port.number (homes.ports_of H.domain_of self.port.domain home.old) ≡ true }
@@ -90,7 +91,7 @@ impl<T: Copy, U: Copy> BlockedSend<T, U> {
     }
 }
 
-// What a send of a publisher came to, as a value.
+// The answer of a send, with a waiting send as a value.
 pub(crate) fn sent_of<T, U>(
     port: PortId,
     sent: Result<Sending, SendError>,

@@ -1,7 +1,7 @@
-//! Ports come, once there is room for the numbers of the loans and samples that they may have.
+//! How ports are created, once there is capacity for the numbers of the loans and samples that they may have.
 ghost use Rattle.std.specs.Prelude.{◌≡◌, ◌+◌, ◌<◌, ◌^◌, true};
-ghost use Rattle.iox_hub_commands.specs.Naming.{most_loans, publisher_config, subscriber_config};
 ghost use Rattle.iox_hub_base.specs.AsHome.{hub_ports};
+ghost use Rattle.iox_hub_commands.specs.Naming.{most_loans, publisher_config, subscriber_config};
 ghost use Rattle.iox_hub_commands.specs.PortRoom.{KeepsRoom, RoomsGrow, is_publisher_refused, is_subscriber_refused};
 ghost use Rattle.iox_hub_commands.specs.PortRoom.{most_samples_at, most_samples_from};
 ghost use Rattle.iox_hub_commands.specs.Services.{PublisherArrives, SubscriberArrives};
@@ -15,10 +15,12 @@ use iox_domain_values::{Decides, Degrades, PortOwner};
 use std::alloc::Global;
 
 impl<T: Copy, U: Copy + Default, B: Decides + Degrades, D: Degrades> NumberedHub<T, U, B, D> {
-    /// A publisher of slices comes to a domain, with what is named, and gets the next number; `handlers` decide for it. Skipped
-    /// where the domain isn't here; else refused as `Made::make_publisher` refuses it, also where an allocation fails for the
-    /// room for its loans, or for the samples of it that may be held. One that is skipped, or refused whatever memory there is, looks for
-    /// none, and changes nothing. The room for numbers grows, if it does, to twice what is reserved by the ports that live, and by this one.
+    /// Creates a publisher of slices in a domain, with what the options name, and gives it the next number; `handlers` are its handlers.
+    /// Skipped if the domain isn't in the hub; otherwise refused as `Made::make_publisher` refuses it, also if an allocation fails for the
+    /// numbers of its loans, or of the samples of it that may be held.
+    ///
+    /// A publisher that is skipped, or refused however much memory there is, reserves nothing, and nothing changes. If the capacity for numbers
+    /// grows, it is at most twice what the ports that live and this one reserve, and one for each factory.
     /// Example: `let reply = hub.publisher_with(alloc, domain, owner, &options, handlers);`
     pub fn publisher_with(
         &mut self,
@@ -58,10 +60,12 @@ impl<T: Copy, U: Copy + Default, B: Decides + Degrades, D: Degrades> NumberedHub
 }
 
 impl<T: Copy, U: Copy, B: Decides + Degrades, D: Degrades> NumberedHub<T, U, B, D> {
-    /// A subscriber comes to a domain, with what is named, and gets the next number; `handler` decides for it. Skipped where the
-    /// domain isn't here; else refused as `Made::make_subscriber` refuses it, also where an allocation fails for the room for its
-    /// samples. One that is skipped, or refused whatever memory there is, looks for none, and changes nothing. The room for numbers grows,
-    /// if it does, to twice what is reserved by the ports that live, and by this one.
+    /// Creates a subscriber in a domain, with what the options name, and gives it the next number; `handler` is its handler. Skipped if the
+    /// domain isn't in the hub; otherwise refused as `Made::make_subscriber` refuses it, also if an allocation fails for the numbers of its
+    /// samples.
+    ///
+    /// A subscriber that is skipped, or refused however much memory there is, reserves nothing, and nothing changes. If the capacity for
+    /// numbers grows, it is at most twice what the ports that live and this one reserve, and one for each factory.
     /// Example: `let reply = hub.subscriber_with(alloc, domain, owner, &options, handler);`
     pub fn subscriber_with(
         &mut self,
@@ -97,7 +101,7 @@ impl<T: Copy, U: Copy, B: Decides + Degrades, D: Degrades> NumberedHub<T, U, B, 
 }
 
 impl<T: Copy, U: Copy, B: Decides + Degrades, D: Degrades> NumberedHub<T, U, B, D> {
-    // Whether a publisher is skipped, or refused whatever memory there is.
+    // Whether a publisher is skipped, or refused however much memory there is.
     fn refuses_publisher(
         &self,
         domain: DomainId,
