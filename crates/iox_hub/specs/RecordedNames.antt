@@ -49,7 +49,8 @@ publisher_side options = record {
   initial_max_slice_len = unwrap_or options.initial_max_slice_len publisher_defaults.initial_max_slice_len;
 }
 
--- How many messages of one publisher may wait for a subscriber with this buffer size: at least 1; without one, as many as the service allows.
+-- How many messages of one publisher may wait for a subscriber with this buffer size: at least 1. Without a size, as many as the service
+-- allows.
 abbrev pub buffer_named : Option ℕ → ℕ → ℕ
 buffer_named None most = most
 buffer_named (Some named) most = max named 1

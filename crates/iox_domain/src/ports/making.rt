@@ -92,8 +92,8 @@ impl<T: Copy, U: Copy> ServicePorts<T, U> {
         }
     }
 
-    /// Whether a publisher of this config is refused however much memory there is: the number of slots that it needs isn't allowed, or no place
-    /// is free.
+    /// Whether a publisher of this config is refused however much memory there is: the number of slots that it needs isn't allowed, or
+    /// no place is free.
     pub fn refuses_publisher(&self, config: &PublisherConfig) -> bool
         ensures { result ≡ refuses_publisher config.now self.now }
     {
@@ -234,7 +234,7 @@ impl<T: Copy, U: Copy> ServicePorts<T, U> {
         }
     }
 
-    /// Whether a subscriber with this buffer size is refused however much memory there is: for the buffer size, or because no place is free.
+    /// Whether a subscriber with this buffer size is refused however much memory there is: for the size, or because no place is free.
     pub fn refuses_subscriber(&self, buffer_size: Option<usize>) -> bool
         ensures { result ≡ refuses_subscriber buffer_size self.now }
     {
