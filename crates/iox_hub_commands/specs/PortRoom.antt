@@ -81,8 +81,8 @@ module _ {T U B D : Type 0} where
   abbrev pub most_samples_from : DomainId → NumberedHub T U B D → ℕ
   most_samples_from domain hub = most_samples_of (hub_ports domain hub.hub)
 
-  -- If the capacity for the numbers of loans or of samples grew, it is at most twice what the ports that live reserve with so many loans and
-  -- so many samples more, and one more for each factory, and one beside.
+  -- If the capacity for the numbers of loans or of samples grew, it is at most twice what the ports that live reserve with so many loans
+  -- and so many samples more, and one more for each factory, and one beside.
   abbrev pub RoomsGrow : ℕ → ℕ → NumberedHub T U B D → NumberedHub T U B D → Type 0
   RoomsGrow loans samples old new =
       GrowsFor (loans_left_in old.hub.services.domains) loans (length old.factories.made.entries) old.made.loans new.made.loans

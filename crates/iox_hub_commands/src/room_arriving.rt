@@ -19,8 +19,8 @@ impl<T: Copy, U: Copy + Default, B: Decides + Degrades, D: Degrades> NumberedHub
     /// Skipped if the domain isn't in the hub; otherwise refused as `Made::make_publisher` refuses it, also if an allocation fails for the
     /// numbers of its loans, or of the samples of it that may be held.
     ///
-    /// A publisher that is skipped, or refused however much memory there is, reserves nothing, and nothing changes. If the capacity for numbers
-    /// grows, it is at most twice what the ports that live and this one reserve, and one for each factory.
+    /// A publisher that is skipped, or refused however much memory there is, reserves nothing, and nothing changes. If the capacity for
+    /// numbers grows, it is at most twice what the ports that live and this one reserve, and one for each factory.
     /// Example: `let reply = hub.publisher_with(alloc, domain, owner, &options, handlers);`
     pub fn publisher_with(
         &mut self,

@@ -7,4 +7,5 @@ use Rattle.iox_hub_commands.proofs.numbered_hub.NumberedHub.most_held.Goals as g
 pub returns-clause-enough : goal.returns-clause-enough
 returns-clause-enough g c = λ room.
     let domains = c.args.self.now.hub.services.domains in
-    held_enough (samples_left_in domains) (samples_at_most_in domains) c.samples_at_most.result (few_samples domains) c.samples_at_most.ensures
+    held_enough (samples_left_in domains) (samples_at_most_in domains) c.samples_at_most.result (few_samples domains)
+    c.samples_at_most.ensures

@@ -48,7 +48,8 @@ returns-clause-samples g c = λ room.
 
 pub returns-in_err-pledge_loans-clause-grows : goal.returns-in_err-pledge_loans-clause-grows
 returns-in_err-pledge_loans-clause-grows g c =
-    (c.pledge_loans.ensures.grows, stays_within _ _ _ c.args.self.now.made.samples c.pledge_loans.new.self.made.samples c.pledge_loans.ensures.others)
+    let stays = stays_within _ _ _ c.args.self.now.made.samples c.pledge_loans.new.self.made.samples c.pledge_loans.ensures.others in
+    (c.pledge_loans.ensures.grows, stays)
 
 pub returns-clause-grows : goal.returns-clause-grows
 returns-clause-grows g c =
