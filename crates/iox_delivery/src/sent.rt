@@ -1,6 +1,7 @@
 //! What a send came to, and a send that waits.
 ghost use Rattle.iox_domain.specs.Homes as homes;
-ghost use Rattle.std.specs.Prelude.{◌≡◌, true};
+ghost use Rattle.std.specs.Prelude.{◌≡◌, true, IfErr};
+ghost use Rattle.std.specs.Result.{result_ok};
 ghost use Rattle.iox_delivery.specs.Holding.{publisher_blocked};
 ghost use Rattle.iox_delivery.specs.Publishing.{sent_of, RetriesSend, GivesUpSend, EndsSend};
 
@@ -59,16 +60,33 @@ impl<T: Copy, U: Copy> BlockedSend<T, U> {
         }
     }
 
-    /// Lets it go: the send ends as by `give_up`, if it waits, and how many connections took the message is the answer. None, and
-    /// nothing happens, where it doesn't wait.
+    /// Lets it go: the send ends as by `give_up`, if it waits, and how many connections took the message is the answer. Else nothing
+    /// happens, and it is given back: its own home can end it.
     ///
     /// This port's own.
-    /// Example: `let delivered = blocked.drop_with(home);`
-    pub fn drop_with<H: Home<T, U>>(self, home: &mut H) -> Option<usize>
-        ensures { EndsSend (homes.ports_of H.domain_of) (homes.with_ports H.changed) self.port home.old result home.new }
+    /// Example: `let delivered = blocked.drop_with(home).ok();`
+    pub fn drop_with<H: Home<T, U>>(self, home: &mut H) -> Result<usize, Self>
+        ensures ends { EndsSend (homes.ports_of H.domain_of) (homes.with_ports H.changed) self.port home.old (result_ok result) home.new }
+        ensures left { IfErr result (λ back. back ≡ self) }
+    {
+        match publishing::end_send(self.port, home) {
+            Some(delivered) => {
+                let _ = self.into_port();
+                Ok(delivered)
+            }
+            None => Err(self),
+        }
+    }
+
+    /// The port whose send it is. That isn't ended.
+    ///
+    /// This port's own.
+    /// Example: `let port = blocked.into_port();`
+    pub fn into_port(self) -> PortId
+        ensures { result ≡ self.port }
     {
         let BlockedSend { port, of: _ } = self;
-        calls::ports_mut(home, port.domain)?.give_up(port.number)
+        port
     }
 
     /// Ends the send, and answers how many connections took the message.
